@@ -1,0 +1,3 @@
+// Bundles of run logs: commands, chunks, and the check of a whole bundle.
+pub mod command;
+pub mod refusal;
