@@ -1,3 +1,8 @@
 -- Document 01's definitions for commands, chunks and the check of a bundle.
 pub mod Answer
+pub mod Lists
 pub mod Commands
+pub mod Locks
+pub mod Chunks
+pub mod Scan
+pub mod Check

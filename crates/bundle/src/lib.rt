@@ -1,3 +1,4 @@
 // Bundles of run logs: commands, chunks, and the check of a whole bundle.
+pub mod chunk;
 pub mod command;
 pub mod refusal;

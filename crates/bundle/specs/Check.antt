@@ -1,0 +1,123 @@
+-- Check a bundle, and find a member's chunk.
+use Prim.Native.Nat.{ℕ, zero, suc, _+_}
+use mathlib.Core.Bool.{Bool, true, false, cond, not, _&&_, _||_}
+use mathlib.Core.List.{List, [], _∷_, _++_, map}
+use mathlib.Core.Option.{Option, none, some}
+use lib.ListN.{length}
+use lib.Dec.{eqb, ltb, leb}
+use Rattle.bundle.specs.Answer.{Answer, gives, refuses, whenGiven}
+use Rattle.bundle.specs.Lists.{upTo, any, all, first, concatMap, fromOption, among}
+use Rattle.bundle.specs.Chunks.{Placed, Chunk, fresh, afterCommand, afterCommands, chunksOf, commandsOf, partOf, isOf, chunkOf}
+use Rattle.bundle.specs.Scan.{scanOf}
+use Rattle.bundle.specs.declared.chunk.ChunkState.{ChunkState}
+use Rattle.bundle.specs.declared.command.Command.{Command}
+use Rattle.bundle.specs.declared.command.Command.the-variants as Com
+
+-- a REGION: its offset, the team that it forks and that team's size, and the member that forks it, in the state before it
+pub record Fork : Type 0 where
+  pub place : ℕ
+  pub team : ℕ
+  pub size : ℕ
+  pub byTeam : ℕ
+  pub byMember : ℕ
+  pub state : ChunkState
+
+unfoldable pub forkHere : ℕ → ℕ → ChunkState → ℕ → Command → List Fork → List Fork
+forkHere t m k at (Com.Member u i) rest = rest
+forkHere t m k at Com.End rest = rest
+forkHere t m k at (Com.Region u z) rest =
+    record { place = at; team = u; size = z; byTeam = t; byMember = m; state = k } ∷ rest
+forkHere t m k at Com.Barrier rest = rest
+forkHere t m k at (Com.Acquire l) rest = rest
+forkHere t m k at (Com.Release l) rest = rest
+forkHere t m k at (Com.Access a) rest = rest
+
+unfoldable pub forksFrom : ℕ → ℕ → ChunkState → List Placed → List Fork
+forksFrom t m k [] = []
+forksFrom t m k (p ∷ ps) = forkHere t m k (p .at) (p .command) (forksFrom t m (afterCommand k (p .command)) ps)
+
+unfoldable pub forksIn : Chunk → List Fork
+forksIn c = forksFrom (c .team) (c .member) fresh (c .body)
+
+-- the bundle's REGIONs in the order of the bytes
+unfoldable pub forksOf : List Chunk → List Fork
+forksOf cs = concatMap forksIn cs
+
+-- the REGION that forks a team
+unfoldable pub forkOf : List Fork → ℕ → Option Fork
+forkOf fs t = first (λ (f : Fork). eqb (f .team) t) fs
+
+-- "The root is team 0, size 1, never forked"; a team that is never forked has no members
+unfoldable pub sizeOf : List Fork → ℕ → ℕ
+sizeOf fs t = cond (eqb t 0) 1 (fromOption 0 (λ (f : Fork). f .size) (forkOf fs t))
+
+-- the number of REGIONs climbed from a team to the root; the team number falls at each
+unfoldable pub depthFrom : ℕ → List Fork → ℕ → ℕ
+depthFrom zero fs t = 0
+depthFrom (suc fuel) fs t = fromOption 0 (λ (f : Fork). suc (depthFrom fuel fs (f .byTeam))) (forkOf fs t)
+
+unfoldable pub depthOf : List Fork → ℕ → ℕ
+depthOf fs t = depthFrom (suc t) fs t
+
+unfoldable pub barriersOf : Chunk → ℕ
+barriersOf c = afterCommands fresh (commandsOf c) .barriers
+
+-- the places of what fails a test
+unfoldable pub placeIf : Bool → ℕ → List ℕ
+placeIf t p = cond t (p ∷ []) []
+
+-- 8: a team forked before, at the later REGION
+unfoldable pub forkedBefore : List ℕ → List Fork → List ℕ
+forkedBefore teams [] = []
+forkedBefore teams (f ∷ fs) = placeIf (among (f .team) teams) (f .place) ++ forkedBefore (f .team ∷ teams) fs
+
+-- 9: a chunk of a team other than 0 that is never forked, a member number not below the size, or a second chunk of one member
+unfoldable pub strayChunks : List Fork → List Chunk → List Chunk → List ℕ
+strayChunks fs before [] = []
+strayChunks fs before (c ∷ cs) =
+    placeIf (leb (sizeOf fs (c .team)) (c .member) || any (isOf (c .team) (c .member)) before) (c .place)
+    ++ strayChunks fs (c ∷ before) cs
+
+-- 10: a forked team lacking a chunk, at its REGION, or no root chunk, at 0
+unfoldable pub lacksChunk : List Chunk → ℕ → ℕ → Bool
+lacksChunk cs t size = not (all (λ m. any (isOf t m) cs) (upTo size))
+
+unfoldable pub missingChunks : List Chunk → List Fork → List ℕ
+missingChunks cs fs =
+    placeIf (lacksChunk cs 0 1) 0 ++ concatMap (λ (f : Fork). placeIf (lacksChunk cs (f .team) (f .size)) (f .place)) fs
+
+-- 11: a team too deep: "Teams nest at most 4 deep below the root"
+unfoldable pub tooDeep : List Fork → List ℕ
+tooDeep fs = concatMap (λ (f : Fork). placeIf (ltb 4 (depthOf fs (f .team))) (f .place)) fs
+
+-- 12: a barrier count unlike member 0's
+unfoldable pub unlikeBarriers : List Chunk → List ℕ
+unlikeBarriers cs =
+    concatMap
+    (λ (c : Chunk).
+      placeIf (not (eqb (barriersOf c) (fromOption 0 barriersOf (chunkOf cs (c .team) 0)))) (c .place))
+    cs
+
+-- the places of a number are in the order of the bytes, so the first is the lowest
+unfoldable pub refusedAt : ℕ → List ℕ → Answer (Unit {0}) → Answer (Unit {0})
+refusedAt n [] next = next
+refusedAt n (p ∷ ps) next = refuses n p
+
+-- 8 to 12: "the lowest number, then lowest offset"
+unfoldable pub shapeOf : List Chunk → Answer (Unit {0})
+shapeOf cs =
+    refusedAt 8 (forkedBefore [] (forksOf cs))
+    (refusedAt 9 (strayChunks (forksOf cs) [] cs)
+    (refusedAt 10 (missingChunks cs (forksOf cs))
+    (refusedAt 11 (tooDeep (forksOf cs))
+    (refusedAt 12 (unlikeBarriers cs)
+    (gives tt)))))
+
+-- "Check a bundle"
+unfoldable pub checkOf : List ℕ → Answer (Unit {0})
+checkOf s = cond (ltb 65536 (length s)) (refuses 1 0) (whenGiven (scanOf s) (λ k. shapeOf (chunksOf s)))
+
+-- "Find a member's chunk": as check, then 14 none such, at 0
+unfoldable pub findOf : List ℕ → ℕ → ℕ → Answer (List ℕ)
+findOf s t m =
+    whenGiven (checkOf s) (λ u. fromOption (refuses 14 0) (λ c. gives (partOf s c)) (chunkOf (chunksOf s) t m))

@@ -1,0 +1,106 @@
+-- Offset-span labels: the label of a segment, found by climbing, and the comparison of two labels.
+use Prim.Native.Nat.{ℕ, zero, suc, _+_, _*_, _%_}
+use mathlib.Core.Bool.{Bool, true, false, cond, not, _&&_, _||_}
+use mathlib.Core.List.{List, [], _∷_, _++_, map}
+use mathlib.Core.Option.{Option, none, some}
+use lib.ListN.{length, take, getElem?}
+use lib.Dec.{eqb, ltb, leb}
+use Rattle.bundle.specs.Answer.{Answer, gives, refuses, whenGiven, numberOf}
+use Rattle.bundle.specs.Lists.{all, fromOption}
+use Rattle.bundle.specs.Chunks.{Chunk, fresh, afterCommand, segmentNumber, chunksOf, commandsOf, chunkOf}
+use Rattle.bundle.specs.Check.{Fork, forksOf, forkOf, sizeOf, checkOf}
+use Rattle.bundle.specs.declared.chunk.ChunkState.{ChunkState}
+use Rattle.bundle.specs.declared.command.Command.{Command}
+use Rattle.order.specs.declared.label.Triple.{Triple}
+use Rattle.order.specs.declared.label.Label.{Label}
+use Rattle.order.specs.declared.label.Order.{Order}
+use Rattle.order.specs.declared.label.Order.the-variants as Ord
+use Rattle.order.specs.declared.label.Comparison.{Comparison}
+use Rattle.order.specs.declared.label.Comparison.the-variants as Com
+
+-- the states in which the segments of a chunk are opened, in their order: a command that raises the segment number opens one
+unfoldable pub openedFrom : ChunkState → List Command → List ChunkState
+openedFrom k [] = []
+openedFrom k (c ∷ cs) =
+    cond (eqb (segmentNumber (afterCommand k c)) (segmentNumber k))
+    (openedFrom (afterCommand k c) cs)
+    (afterCommand k c ∷ openedFrom (afterCommand k c) cs)
+
+unfoldable pub segmentStates : Chunk → List ChunkState
+segmentStates c = fresh ∷ openedFrom fresh (commandsOf c)
+
+-- "The last triple of a segment has offset = member + span times regions joined before it in its chunk, span = team size, interval =
+-- barriers passed"
+unfoldable pub lastTriple : List Fork → ℕ → ℕ → ChunkState → Triple
+lastTriple fs t m k =
+    record { offset = m + sizeOf fs t * k .regions; span = sizeOf fs t; interval = k .barriers }
+
+-- "Before it stands the label of the segment that forked the team"; the team number falls at each climb
+unfoldable pub forkLabel : ℕ → List Fork → ℕ → List Triple
+forkLabel zero fs t = []
+forkLabel (suc fuel) fs t =
+    fromOption []
+    (λ (f : Fork). forkLabel fuel fs (f .byTeam) ++ (lastTriple fs (f .byTeam) (f .byMember) (f .state) ∷ []))
+    (forkOf fs t)
+
+unfoldable pub segmentLabel : List Fork → ℕ → ℕ → ChunkState → List Triple
+segmentLabel fs t m k = forkLabel (suc t) fs t ++ (lastTriple fs t m k ∷ [])
+
+-- "Label of a segment (team, member, segment number)": as check, then 14, at 0
+unfoldable pub labelOf : List ℕ → ℕ → ℕ → ℕ → Answer (List Triple)
+labelOf s t m number =
+    whenGiven (checkOf s)
+    (λ u.
+      fromOption (refuses 14 0)
+      (λ c.
+        fromOption (refuses 14 0)
+        (λ k. gives (segmentLabel (forksOf (chunksOf s)) t m k))
+        (getElem? (segmentStates c) number))
+      (chunkOf (chunksOf s) t m))
+
+-- the counted triples of a label as it is lent: "Triples past a label's count are not looked at"
+unfoldable pub counted : Label → List Triple
+counted l = take (l .count) (l .triples)
+
+-- 15: a label with 0 or over 5 triples, a span of 0 or over 64, or a first span not 1
+unfoldable pub spanOk : Triple → Bool
+spanOk t = leb 1 (t .span) && leb (t .span) 64
+
+unfoldable pub rootSpan : List Triple → Bool
+rootSpan [] = false
+rootSpan (t ∷ ts) = eqb (t .span) 1
+
+unfoldable pub labelOk : Label → Bool
+labelOk l = leb 1 (l .count) && leb (l .count) 5 && all spanOk (counted l) && rootSpan (counted l)
+
+unfoldable pub sameTriple : Triple → Triple → Bool
+sameTriple a b = eqb (a .offset) (b .offset) && eqb (a .span) (b .span) && eqb (a .interval) (b .interval)
+
+-- "take the first differing triples: unequal spans are refused; unequal intervals put the lower before; equal intervals with
+-- offsets equal modulo the span put the lower offset before; else the two are concurrent"
+unfoldable pub compareTriples : ℕ → Triple → Triple → Answer Order
+compareTriples number a b =
+    cond (not (eqb (a .span) (b .span))) (refuses 16 number)
+    (cond (ltb (a .interval) (b .interval)) (gives Ord.Before)
+    (cond (ltb (b .interval) (a .interval)) (gives Ord.After)
+    (cond (eqb (a .offset % a .span) (b .offset % a .span))
+    (cond (ltb (a .offset) (b .offset)) (gives Ord.Before) (gives Ord.After))
+    (gives Ord.Concurrent))))
+
+-- "Equal labels are the same. A proper prefix is before." The number is that of the next triple
+unfoldable pub compareFrom : ℕ → List Triple → List Triple → Answer Order
+compareFrom number [] [] = gives Ord.Same
+compareFrom number [] (b ∷ bs) = gives Ord.Before
+compareFrom number (a ∷ as′) [] = gives Ord.After
+compareFrom number (a ∷ as′) (b ∷ bs) =
+    cond (sameTriple a b) (compareFrom (suc number) as′ bs) (compareTriples number a b)
+
+-- "Compare labels": 15 at 1 or 2 for the label, the first tested first; then 16 at the triple's number from 0
+unfoldable pub compareOf : Label → Label → Answer Order
+compareOf a b =
+    cond (labelOk a) (cond (labelOk b) (compareFrom 0 (counted a) (counted b)) (refuses 15 2)) (refuses 15 1)
+
+-- what the code's answer says
+abbrev pub comparisonOf : Comparison → Answer Order
+comparisonOf (Com.Compared o) = gives o
+comparisonOf (Com.Refused cause place) = refuses (numberOf cause) place

@@ -1,0 +1,3 @@
+-- Document 01's definitions for labels, their comparison and shared bytes.
+pub mod Labels
+pub mod Ranges

@@ -1,0 +1,6 @@
+-- Document 01's definitions for the fork-join graph, races, the judgement and the next race, and demand 3.
+pub mod Graph
+pub mod Races
+pub mod Judge
+pub mod Demand
+pub mod Table

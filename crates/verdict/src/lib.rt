@@ -1,0 +1,2 @@
+// The races of a bundle: the judgement, and the next race.
+pub mod race;
