@@ -1,2 +1,5 @@
 -- Laws over the definitions.
 pub mod Computing
+pub mod Tests
+pub mod ListLaws
+pub mod Places

@@ -1,12 +1,13 @@
 -- Check a bundle, and find a member's chunk.
-use Prim.Native.Nat.{ℕ, zero, suc, _+_}
+use Prim.Native.Nat.{ℕ, zero, suc, _+_, _<_}
+use mathlib.Core.Path.{_≡_}
 use mathlib.Core.Bool.{Bool, true, false, cond, not, _&&_, _||_}
-use mathlib.Core.List.{List, [], _∷_, _++_, map}
+use mathlib.Core.List.{List, [], _∷_, _++_, map, List·Memᴰ, List·Permᴰ}
 use mathlib.Core.Option.{Option, none, some}
 use lib.ListN.{length}
 use lib.Dec.{eqb, ltb, leb}
 use Rattle.bundle.specs.Answer.{Answer, gives, refuses, whenGiven}
-use Rattle.bundle.specs.Lists.{upTo, any, all, first, concatMap, fromOption, among}
+use Rattle.bundle.specs.Lists.{upTo, any, all, first, concat, concatMap, fromOption, among}
 use Rattle.bundle.specs.Chunks.{Placed, Chunk, fresh, afterCommand, afterCommands, chunksOf, commandsOf, partOf, isOf, chunkOf}
 use Rattle.bundle.specs.Scan.{scanOf}
 use Rattle.bundle.specs.declared.chunk.ChunkState.{ChunkState}
@@ -121,3 +122,16 @@ checkOf s = cond (ltb 65536 (length s)) (refuses 1 0) (whenGiven (scanOf s) (λ 
 unfoldable pub findOf : List ℕ → ℕ → ℕ → Answer (List ℕ)
 findOf s t m =
     whenGiven (checkOf s) (λ u. fromOption (refuses 14 0) (λ c. gives (partOf s c)) (chunkOf (chunksOf s) t m))
+
+-- a bundle's bytes are numbers below 256
+abbrev pub Bytes : List ℕ → Type 0
+Bytes s = (x : ℕ) → List·Memᴰ x s → x < 256
+
+abbrev pub Accepted : List ℕ → Type 0
+Accepted s = checkOf s ≡ gives tt
+
+-- the chunks of the bundle b, MEMBER to END each, back to back in some order
+pub record Reordered (b c : List ℕ) : Type 0 where
+  pub order : List Chunk
+  pub same-chunks : List·Permᴰ (chunksOf b) order
+  pub back-to-back : c ≡ concat (map (partOf b) order)

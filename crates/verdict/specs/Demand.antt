@@ -1,14 +1,13 @@
 -- Demand 3, as one statement.
-use Prim.Native.Nat.{ℕ, _<_, _≤_}
+use Prim.Native.Nat.{ℕ, _≤_}
 use mathlib.Core.Path.{_≡_}
 use mathlib.Core.Logic.{_⊎_, _↔_}
 use mathlib.Core.Bool.{true}
-use mathlib.Core.List.{List, [], _∷_, map, List·Memᴰ, List·Permᴰ}
+use mathlib.Core.List.{List, [], _∷_, List·Memᴰ}
 use lib.ListN.{length}
-use Rattle.bundle.specs.Answer.{Answer, gives}
-use Rattle.bundle.specs.Lists.{concat}
-use Rattle.bundle.specs.Chunks.{Chunk, chunksOf, partOf}
-use Rattle.bundle.specs.Check.{checkOf}
+use Rattle.bundle.specs.Answer.{gives}
+use Rattle.bundle.specs.Chunks.{chunksOf}
+use Rattle.bundle.specs.Check.{Bytes, Accepted, Reordered}
 use Rattle.verdict.specs.Graph.{segmentsOf}
 use Rattle.verdict.specs.Races.{IsRace, accessesOf, raceBelow}
 use Rattle.verdict.specs.Judge.{judgeOf}
@@ -16,19 +15,6 @@ use Rattle.verdict.specs.declared.race.Race.{Race}
 use Rattle.verdict.specs.declared.race.Verdict.{Verdict}
 use Rattle.verdict.specs.declared.race.Verdict.the-variants as Ver
 use Rattle.verdict.specs.declared.race.Judgement.{Judgement}
-
--- a bundle's bytes are numbers below 256
-abbrev pub Bytes : List ℕ → Type 0
-Bytes s = (x : ℕ) → List·Memᴰ x s → x < 256
-
-abbrev pub Accepted : List ℕ → Type 0
-Accepted s = checkOf s ≡ gives tt
-
--- the same chunks, MEMBER to END each, back to back in some order
-pub record Reordered (b c : List ℕ) : Type 0 where
-  pub order : List Chunk
-  pub same-chunks : List·Permᴰ (chunksOf b) order
-  pub back-to-back : c ≡ concat (map (partOf b) order)
 
 -- each race stands before all that follow it
 pub data Ascending : List Race → Type 0 where
