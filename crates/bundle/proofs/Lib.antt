@@ -3,3 +3,4 @@ pub mod Computing
 pub mod Tests
 pub mod ListLaws
 pub mod Places
+pub mod Scanning

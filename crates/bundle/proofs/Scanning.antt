@@ -1,0 +1,226 @@
+-- The scan taken apart: a list of commands passes it exactly where each command passes the tests 4, 5 and 6 and the totals of segments and
+-- accesses stay within 7's limits.
+use Prim.Native.Nat.{ℕ, zero, suc, _+_, _≤_, _<_}
+use mathlib.Core.Path.{_≡_, refl, sym, _∙_, ap}
+use mathlib.Core.Logic.{_⊎_, inl, inr, ⊎-elim}
+use mathlib.Core.Bool.{Bool, true, false, cond, not, _&&_, _||_}
+use mathlib.Core.List.{List, [], _∷_, _++_, map, List·Permᴰ, List·Permᴰ·nil, List·Permᴰ·cons, List·Permᴰ·swap, List·Permᴰ·trans}
+use native.Mathlib.Omega.{arith}
+use native.Mathlib.Nat.{add-zero}
+use lib.Dec.{eqb, ltb}
+use borrow.Author.Tests.{eqb-true, ltb-false, le-ltb, eq-eqb}
+use Rattle.bundle.specs.Answer.{Answer, gives, refuses, whenGiven}
+use Rattle.bundle.specs.Commands.{inRange}
+use Rattle.bundle.specs.Chunks.{Placed, fresh, afterCommand}
+use Rattle.bundle.specs.Scan.{misplaced, aboveOwnTeam, misusesLock, opensSegment, addsAccess, tooMany, faultOf, start, onward, scanned, finish, walk}
+use Rattle.bundle.specs.declared.chunk.Scan.{Scan}
+use Rattle.bundle.specs.declared.command.Command.{Command}
+use Rattle.bundle.specs.declared.command.Command.the-variants as Com
+use Rattle.bundle.proofs.Tests.{false-is-true, both, and-left, and-right, decide, not-both, is-false, not-of-false}
+
+-- a sum over a list, and over a permutation of it
+unfoldable pub total : {A : Type 0} → (A → ℕ) → List A → ℕ
+total f [] = 0
+total f (x ∷ xs) = f x + total f xs
+
+pub total-append : {A : Type 0} (f : A → ℕ) (xs ys : List A) → total f (xs ++ ys) ≡ total f xs + total f ys
+unfolding total
+total-append f [] ys = omega arith
+total-append f (x ∷ xs) ys = let ih = total-append f xs ys in omega arith
+
+pub perm-total : {A : Type 0} (f : A → ℕ) {xs ys : List A} → List·Permᴰ xs ys → total f xs ≡ total f ys
+unfolding total
+perm-total f List·Permᴰ·nil = refl
+perm-total f (List·Permᴰ·cons e d) = let ih = perm-total f d in let h = ap f e in omega arith
+perm-total f (List·Permᴰ·swap e₁ e₂) = let h = ap f e₁ in let l = ap f e₂ in omega arith
+perm-total f (List·Permᴰ·trans d₁ d₂) = perm-total f d₁ ∙ perm-total f d₂
+
+-- the tests 4, 5 and 6, which look at no count
+unfoldable pub passes : Scan → Command → Bool
+passes k c = not (misplaced k c) && (inRange c && aboveOwnTeam (k .team) c) && not (misusesLock (k .state .locks) c)
+
+unfoldable pub uncounted : Scan → Scan
+uncounted k = record { inside = k .inside; team = k .team; state = k .state; segments = 0; accesses = 0 }
+
+-- each command passes, and no chunk is open at the end
+unfoldable pub orderly : Scan → List Command → Bool
+orderly k [] = not (k .inside)
+orderly k (c ∷ cs) = passes k c && orderly (uncounted (scanned k c)) cs
+
+passes-uncounted : (k : Scan) (c : Command) → passes (uncounted k) c ≡ passes k c
+unfolding passes uncounted misplaced
+passes-uncounted k c = refl
+
+scanned-uncounted : (k : Scan) (c : Command) → uncounted (scanned (uncounted k) c) ≡ uncounted (scanned k c)
+unfolding uncounted scanned onward
+scanned-uncounted k (Com.Member t m) = refl
+scanned-uncounted k Com.End = refl
+scanned-uncounted k (Com.Region t z) = refl
+scanned-uncounted k Com.Barrier = refl
+scanned-uncounted k (Com.Acquire l) = refl
+scanned-uncounted k (Com.Release l) = refl
+scanned-uncounted k (Com.Access a) = refl
+
+pub orderly-uncounted : (k : Scan) (cs : List Command) → orderly (uncounted k) cs ≡ orderly k cs
+unfolding orderly uncounted
+orderly-uncounted k [] = refl
+orderly-uncounted k (c ∷ cs) = rw (passes-uncounted k c, scanned-uncounted k c)
+
+-- the counts after a command
+pub record Counted (k : Scan) (c : Command) : Type 0 where
+  pub segments : scanned k c .segments ≡ k .segments + opensSegment c
+  pub accesses : scanned k c .accesses ≡ k .accesses + addsAccess c
+
+counted : (k : Scan) (c : Command) → Counted k c
+unfolding scanned onward opensSegment addsAccess
+counted k (Com.Member t m) = record { segments = refl; accesses = sym (add-zero (k .accesses)) }
+counted k Com.End = record { segments = sym (add-zero (k .segments)); accesses = sym (add-zero (k .accesses)) }
+counted k (Com.Region t z) = record { segments = refl; accesses = refl }
+counted k Com.Barrier = record { segments = refl; accesses = refl }
+counted k (Com.Acquire l) = record { segments = refl; accesses = refl }
+counted k (Com.Release l) = record { segments = refl; accesses = refl }
+counted k (Com.Access a) = record { segments = refl; accesses = refl }
+
+-- room for these commands within 7's limits
+pub record Room (k : Scan) (cs : List Command) : Type 0 where
+  pub segments : k .segments + total opensSegment cs ≤ 512
+  pub accesses : k .accesses + total addsAccess cs ≤ 1024
+
+room-tail : (k : Scan) (c : Command) (cs : List Command) → Room k (c ∷ cs) → Room (scanned k c) cs
+unfolding total
+room-tail k c cs r =
+    let n = counted k c in
+    record { segments = omega (arith, n .segments, r .segments); accesses = omega (arith, n .accesses, r .accesses) }
+
+room-cons : (k : Scan) (c : Command) (cs : List Command) → Room (scanned k c) cs → Room k (c ∷ cs)
+unfolding total
+room-cons k c cs r =
+    let n = counted k c in
+    record { segments = omega (arith, n .segments, r .segments); accesses = omega (arith, n .accesses, r .accesses) }
+
+none-too-many : (k : Scan) (c : Command) → k .segments + opensSegment c ≤ 512 → k .accesses + addsAccess c ≤ 1024 → tooMany k c ≡ false
+unfolding tooMany
+none-too-many k c g a = rw (le-ltb 512 (k .segments + opensSegment c) g, le-ltb 1024 (k .accesses + addsAccess c) a)
+
+or-false-left : (a b : Bool) → (a || b) ≡ false → a ≡ false
+or-false-left true b e = e
+or-false-left false b e = refl
+
+or-false-right : (a b : Bool) → (a || b) ≡ false → b ≡ false
+or-false-right true b e = not-both refl e
+or-false-right false b e = e
+
+room-one : (k : Scan) (c : Command) → tooMany k c ≡ false → Room (scanned k c) []
+unfolding tooMany total
+room-one k c e =
+    let s = ltb 512 (k .segments + opensSegment c) in
+    let a = ltb 1024 (k .accesses + addsAccess c) in
+    let n = counted k c in
+    record
+      { segments = omega (arith, n .segments, ltb-false 512 (k .segments + opensSegment c) (or-false-left s a e))
+      ; accesses = omega (arith, n .accesses, ltb-false 1024 (k .accesses + addsAccess c) (or-false-right s a e))
+      }
+
+-- a command with no fault
+fault-none :
+  (m r l t : Bool)
+  → _≡_ {A = ℕ} (cond m 4 (cond (not r) 5 (cond l 6 (cond t 7 0)))) 0
+  → ((not m && r && not l) ≡ true) × (t ≡ false)
+fault-none true r l t e = absurd (omega arith)
+fault-none false false l t e = absurd (omega arith)
+fault-none false true true t e = absurd (omega arith)
+fault-none false true false true e = absurd (omega arith)
+fault-none false true false false e = (refl, refl)
+
+fault-zero :
+  (m r l t : Bool)
+  → (not m && r && not l) ≡ true
+  → t ≡ false
+  → _≡_ {A = ℕ} (cond m 4 (cond (not r) 5 (cond l 6 (cond t 7 0)))) 0
+fault-zero true r l t e f = false-is-true e
+fault-zero false false l t e f = false-is-true e
+fault-zero false true true t e f = false-is-true e
+fault-zero false true false t e f = rw f
+
+pub no-fault : (k : Scan) (c : Command) → faultOf k c ≡ 0 → (passes k c ≡ true) × (tooMany k c ≡ false)
+unfolding faultOf passes
+no-fault k c e =
+    fault-none (misplaced k c) (inRange c && aboveOwnTeam (k .team) c) (misusesLock (k .state .locks) c) (tooMany k c) e
+
+pub faultless : (k : Scan) (c : Command) → passes k c ≡ true → tooMany k c ≡ false → faultOf k c ≡ 0
+unfolding faultOf passes
+faultless k c e f =
+    fault-zero (misplaced k c) (inRange c && aboveOwnTeam (k .team) c) (misusesLock (k .state .locks) c) (tooMany k c) e f
+
+-- what a scan that passes tells
+pub record Passed (ps : List Placed) (stop : Answer ℕ) (k : Scan) : Type 0 where
+  pub order : orderly k (map (λ (p : Placed). p .command) ps) ≡ true
+  pub room : Room k (map (λ (p : Placed). p .command) ps)
+  pub past : ℕ
+  pub ended : stop ≡ gives past
+
+finish-outside : (k k′ : Scan) (past : ℕ) → finish k past ≡ gives k′ → not (k .inside) ≡ true
+unfolding finish
+finish-outside k k′ past e = go (k .inside) e
+  where
+    go : (t : Bool) → cond t (refuses 4 past) (gives k) ≡ gives k′ → not t ≡ true
+    go true q = let z : _≡_ {A = ℕ} 0 1 = cc in absurd (omega arith)
+    go false q = refl
+
+pub walk-elim : (ps : List Placed) (stop : Answer ℕ) (k k′ : Scan) → Room k [] → walk ps stop k ≡ gives k′ → Passed ps stop k
+unfolding walk orderly
+walk-elim [] (gives past) k k′ r e = record { order = finish-outside k k′ past e; room = r; past = past; ended = refl }
+walk-elim [] (refuses n p) k k′ r e = let z : _≡_ {A = ℕ} 0 1 = cc in absurd (omega arith)
+walk-elim (p ∷ ps) stop k k′ r e = go (λ r′ q. walk-elim ps stop (scanned k (p .command)) k′ r′ q) (eqb (faultOf k (p .command)) 0) refl e
+  where
+    c : Command
+    c = p .command
+    cs : List Command
+    cs = map (λ (q : Placed). q .command) ps
+    further : passes k c ≡ true → Passed ps stop (scanned k c) → Passed (p ∷ ps) stop k
+    further h n =
+        record
+          { order = both h (orderly-uncounted (scanned k c) cs ∙ n .order)
+          ; room = room-cons k c cs (n .room)
+          ; past = n .past
+          ; ended = n .ended
+          }
+    go :
+      (Room (scanned k c) [] → walk ps stop (scanned k c) ≡ gives k′ → Passed ps stop (scanned k c))
+      → (t : Bool)
+      → eqb (faultOf k c) 0 ≡ t
+      → cond t (walk ps stop (scanned k c)) (refuses (faultOf k c) (p .at)) ≡ gives k′
+      → Passed (p ∷ ps) stop k
+    go ih true h q =
+        let n = no-fault k c (eqb-true (faultOf k c) 0 h) in
+        further (n .0) (ih (room-one k c (n .1)) q)
+    go ih false h q = let z : _≡_ {A = ℕ} 0 1 = cc in absurd (omega arith)
+
+pub walk-intro :
+  (ps : List Placed) (past : ℕ) (k : Scan)
+  → orderly k (map (λ (p : Placed). p .command) ps) ≡ true
+  → Room k (map (λ (p : Placed). p .command) ps)
+  → (k′ : Scan) × (walk ps (gives past) k ≡ gives k′)
+unfolding walk orderly finish
+walk-intro [] past k o r = (k, rw (is-false (k .inside) (λ h. not-both h (out (k .inside) o))))
+  where
+    out : (t : Bool) → not t ≡ true → t ≡ false
+    out true e = sym e
+    out false e = refl
+walk-intro (p ∷ ps) past k o r = go (walk-intro ps past (scanned k c) (sym (orderly-uncounted (scanned k c) cs) ∙ and-right (passes k c) _ o) (room-tail k c cs r))
+  where
+    c : Command
+    c = p .command
+    cs : List Command
+    cs = map (λ (q : Placed). q .command) ps
+    fewer : (x t n : ℕ) → x + (n + t) ≤ 512 → x + n ≤ 512
+    fewer x t n h = omega arith
+    fewer′ : (x t n : ℕ) → x + (n + t) ≤ 1024 → x + n ≤ 1024
+    fewer′ x t n h = omega arith
+    few : tooMany k c ≡ false
+    few =
+        none-too-many k c
+        (fewer (k .segments) (total opensSegment cs) (opensSegment c) (unfold total in r .segments))
+        (fewer′ (k .accesses) (total addsAccess cs) (addsAccess c) (unfold total in r .accesses))
+    go : (k′ : Scan) × (walk ps (gives past) (scanned k c) ≡ gives k′) → (k′ : Scan) × (walk (p ∷ ps) (gives past) k ≡ gives k′)
+    go w = (w .0, rw (faultless k c (and-left (passes k c) _ o) few) (w .1))
