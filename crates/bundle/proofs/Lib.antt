@@ -4,3 +4,4 @@ pub mod Tests
 pub mod ListLaws
 pub mod Places
 pub mod Scanning
+pub mod Gathering

@@ -66,6 +66,36 @@ unfolding orderly uncounted
 orderly-uncounted k [] = refl
 orderly-uncounted k (c ∷ cs) = rw (passes-uncounted k c, scanned-uncounted k c)
 
+-- what a command that passes, and a list that begins with it, tell
+pub record Tested (k : Scan) (c : Command) : Type 0 where
+  pub in-place : not (misplaced k c) ≡ true
+  pub in-range : inRange c ≡ true
+  pub above-own : aboveOwnTeam (k .team) c ≡ true
+  pub locks-ok : not (misusesLock (k .state .locks) c) ≡ true
+
+pub tested : (k : Scan) (c : Command) → passes k c ≡ true → Tested k c
+unfolding passes
+tested k c e =
+    let m = not (misplaced k c) in
+    let r = inRange c in
+    let o = aboveOwnTeam (k .team) c in
+    let l = not (misusesLock (k .state .locks) c) in
+    let f = and-left (m && (r && o)) l e in
+    record
+      { in-place = and-left m (r && o) f
+      ; in-range = and-left r o (and-right m (r && o) f)
+      ; above-own = and-right r o (and-right m (r && o) f)
+      ; locks-ok = and-right (m && (r && o)) l e
+      }
+
+pub orderly-head : (k : Scan) (c : Command) (cs : List Command) → orderly k (c ∷ cs) ≡ true → Tested k c
+unfolding orderly
+orderly-head k c cs o = tested k c (and-left (passes k c) (orderly (uncounted (scanned k c)) cs) o)
+
+pub orderly-tail : (k : Scan) (c : Command) (cs : List Command) → orderly k (c ∷ cs) ≡ true → orderly (uncounted (scanned k c)) cs ≡ true
+unfolding orderly
+orderly-tail k c cs o = and-right (passes k c) (orderly (uncounted (scanned k c)) cs) o
+
 -- the counts after a command
 pub record Counted (k : Scan) (c : Command) : Type 0 where
   pub segments : scanned k c .segments ≡ k .segments + opensSegment c
