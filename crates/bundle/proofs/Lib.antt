@@ -5,3 +5,4 @@ pub mod ListLaws
 pub mod Places
 pub mod Scanning
 pub mod Gathering
+pub mod ScanChunks

@@ -1,0 +1,58 @@
+-- The scan chunk by chunk: chunks one after another pass where each passes by itself.
+use mathlib.Core.Path.{_≡_, refl, sym, _∙_, ap}
+use mathlib.Core.Bool.{Bool, true, false, not, _&&_, and-assoc, and-true}
+use mathlib.Core.List.{List, [], _∷_, _++_, map, map-append, List·Memᴰ, List·Memᴰ·head, List·Memᴰ·tail}
+use Rattle.bundle.specs.Lists.{all, concatMap}
+use Rattle.bundle.specs.Chunks.{Placed, Chunk, commandsOf}
+use Rattle.bundle.specs.Scan.{start, scanned}
+use Rattle.bundle.specs.declared.chunk.Scan.{Scan}
+use Rattle.bundle.specs.declared.command.Command.{Command}
+use Rattle.bundle.specs.declared.command.Command.the-variants as Com
+use Rattle.bundle.proofs.Scanning.{passes, uncounted, orderly}
+use Rattle.bundle.proofs.Gathering.{Body, ends, goes, Formed, placedOf, logOf}
+
+-- after END the scan stands as at the start
+scan-end : (k : Scan) (rest : List Command) → orderly k (Com.End ∷ rest) ≡ (orderly k (Com.End ∷ []) && orderly start rest)
+unfolding orderly uncounted scanned start
+scan-end k rest = rw and-true
+
+scan-body :
+  (k : Scan) {ps : List Placed} (rest : List Command)
+  → Body ps
+  → orderly k (map (λ (p : Placed). p .command) ps ++ rest)
+    ≡ (orderly k (map (λ (p : Placed). p .command) ps) && orderly start rest)
+unfolding orderly
+scan-body k rest (ends e) = rw e (scan-end k rest)
+scan-body k rest (goes {p = p} {ps = ps} e b) =
+    ap (λ (t : Bool). passes k (p .command) && t) (scan-body (uncounted (scanned k (p .command))) rest b)
+    ∙ sym
+      (and-assoc
+        (passes k (p .command))
+        (orderly (uncounted (scanned k (p .command))) (map (λ (q : Placed). q .command) ps))
+        (orderly start rest))
+
+pub scan-chunk : (c : Chunk) (rest : List Command) → Formed c → orderly start (logOf c ++ rest) ≡ (orderly start (logOf c) && orderly start rest)
+unfolding orderly logOf commandsOf
+scan-chunk c rest f =
+    let m = Com.Member (c .team) (c .member) in
+    let k = uncounted (scanned start m) in
+    ap (λ (t : Bool). passes start m && t) (scan-body k rest (f .body-ok))
+    ∙ sym (and-assoc (passes start m) (orderly k (map (λ (p : Placed). p .command) (c .body))) (orderly start rest))
+
+pub scan-chunks :
+  (cs : List Chunk)
+  → ((c : Chunk) → List·Memᴰ c cs → Formed c)
+  → orderly start (concatMap logOf cs) ≡ all (λ (c : Chunk). orderly start (logOf c)) cs
+unfolding orderly start
+scan-chunks [] h = refl
+scan-chunks (c ∷ cs) h =
+    scan-chunk c (concatMap logOf cs) (h c (List·Memᴰ·head refl))
+    ∙ ap (λ (t : Bool). orderly start (logOf c) && t) (scan-chunks cs (λ d m. h d (List·Memᴰ·tail m)))
+
+-- the chunks' commands without their places
+pub commands-of-chunks : (cs : List Chunk) → map (λ (p : Placed). p .command) (concatMap placedOf cs) ≡ concatMap logOf cs
+unfolding placedOf logOf commandsOf
+commands-of-chunks [] = refl
+commands-of-chunks (c ∷ cs) =
+    map-append (λ (p : Placed). p .command) (placedOf c) (concatMap placedOf cs)
+    ∙ ap (λ (l : List Command). logOf c ++ l) (commands-of-chunks cs)
