@@ -116,7 +116,7 @@ first-known (Com.Acquire l) = acquire
 first-known (Com.Release l) = release
 first-known (Com.Access a) = access (a .kind)
 
-access-width : (k : AccessKind) → 12 ≡ widthOf (byteOf k)
+pub access-width : (k : AccessKind) → 12 ≡ widthOf (byteOf k)
 unfolding widthOf byteOf
 access-width Kind.Read = refl
 access-width Kind.Write = refl

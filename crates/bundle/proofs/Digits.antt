@@ -8,7 +8,7 @@ use native.Mathlib.Numerals.{add-one}
 use native.Mathlib.Omega.{arith}
 use lib.Dec.{lit<}
 use lib.ListN.{length, getD, take, drop, List·getD-append}
-use lib.Seq.{getD-append-add, drop-cons}
+use lib.Seq.{getD-append-add, drop-cons, take-add, drop-drop}
 use Rattle.bundle.specs.Commands.{lowFirst, numberAt}
 
 -- every element is a byte
@@ -53,3 +53,13 @@ digits-written (suc k) s at b h =
     rw (drop-cons s at 0 (omega arith))
     (ap₂ {C = List ℕ} (λ (x : ℕ) (l : List ℕ). x ∷ l) (omega arith)
     (ap (lowFirst k) (omega arith) ∙ digits-written k s (at + 1) b (omega arith) ∙ rw add-one))
+
+-- a number with bytes before and after it
+pub digits-between : (k x : ℕ) (p rest : List ℕ) → x < 256 ^ k → numberAt k (p ++ (lowFirst k x ++ rest)) (length p + 0) ≡ x
+digits-between k x p rest h = number-behind k p (lowFirst k x ++ rest) 0 ∙ digits-read k x rest h
+
+-- the bytes from a position, and those of the number that follows them
+pub digits-joined : (k m : ℕ) (s : List ℕ) (from at : ℕ) → Bytes s → from + k ≡ at → at + m ≤ length s
+    → take k (drop from s) ++ lowFirst m (numberAt m s at) ≡ take (k + m) (drop from s)
+digits-joined k m s from at b e h =
+    rw (digits-written m s at b h, take-add k m, drop-drop, e)

@@ -1,2 +1,4 @@
 pub mod Digits
 pub mod Decoding
+pub mod Ranges
+pub mod RoundTrip
