@@ -1,13 +1,16 @@
 -- What it means that a range of bytes is in range, part by part.
 -- Assumes nothing.
-use mathlib.Core.Path.{_≡_, refl}
+use mathlib.Core.Path.{_≡_, refl, sym}
 use mathlib.Core.Bool.{Bool, true, false, _&&_, _||_}
 use Prim.Native.Nat.{ℕ, _+_, _*_, _-_, _≤_, _<_}
+use native.Mathlib.Nat.{mul-le-mul}
 use native.Mathlib.Omega.{arith}
-use borrow.Author.Tests.{leb-true, ltb-true, eqb-true}
+use borrow.Author.Tests.{lt-ltb, leb-true, ltb-true, eqb-true}
 use lib.Dec.{eqb, ltb, leb}
-use Rattle.bundle.specs.Commands.{sizeOk, strideOk, lastByte, rangeOk}
+use Rattle.bundle.specs.Commands.{sizeOk, strideOk, lastByte, rangeOk, inRange}
 use Rattle.bundle.specs.declared.command.Range.{Range}
+use Rattle.bundle.specs.declared.command.Access.{Access}
+use Rattle.bundle.specs.declared.command.Command.the-variants as Com
 use Rattle.bundle.proofs.Decoding.{and-left, and-right}
 
 pub record RangeParts (r : Range) : Type 0 where
@@ -41,12 +44,12 @@ range-parts r e =
     }
 
 -- a size is 1, 2, 4 or 8
-pub size-fits : (z : ℕ) → sizeOk z ≡ true → z ≤ 8
+pub size-within : (z : ℕ) → sizeOk z ≡ true → (1 ≤ z) × (z ≤ 8)
 unfolding sizeOk
-size-fits z e = go (eqb z 1) (eqb z 2) (eqb z 4) (eqb z 8) (eqb-true z 1) (eqb-true z 2) (eqb-true z 4) (eqb-true z 8) e
+size-within z e = go (eqb z 1) (eqb z 2) (eqb z 4) (eqb z 8) (eqb-true z 1) (eqb-true z 2) (eqb-true z 4) (eqb-true z 8) e
   where
     go : (a b c d : Bool) → (a ≡ true → z ≡ 1) → (b ≡ true → z ≡ 2) → (c ≡ true → z ≡ 4) → (d ≡ true → z ≡ 8)
-        → a || b || c || d ≡ true → z ≤ 8
+        → a || b || c || d ≡ true → (1 ≤ z) × (z ≤ 8)
     go true b c d f g h k e = omega (arith, f refl)
     go false true c d f g h k e = omega (arith, g refl)
     go false false true d f g h k e = omega (arith, h refl)
@@ -55,3 +58,31 @@ size-fits z e = go (eqb z 1) (eqb z 2) (eqb z 4) (eqb z 8) (eqb-true z 1) (eqb-t
 pub base-fits : (r : Range) → lastByte r ≤ 4294967295 → r .base ≤ 4294967295
 unfolding lastByte
 base-fits r h = omega arith
+
+-- at the numbers of the code
+pub steps-fit : (n t : ℕ) → n < 65536 → t < 65536 → (n - 1) * t < 4294967296
+steps-fit n t hn ht =
+    let hn′ : n - 1 ≤ 65535 = omega arith in
+    let ht′ : t ≤ 65535 = omega arith in
+    let h : (n - 1) * t ≤ 65535 * 65535 = mul-le-mul hn′ ht′ in
+    omega arith
+
+pub fit-both : (d : Bool) (t n : ℕ) → t < 65536 → n < 65536 → d ≡ (d && ltb t 65536 && ltb n 65536)
+fit-both true t n ht hn = sym (simp (lt-ltb t 65536 ht, lt-ltb n 65536 hn))
+fit-both false t n ht hn = refl
+
+pub member-in-range : (t m : ℕ) → t < 65536 → ltb m 64 ≡ inRange (Com.Member t m)
+unfolding inRange
+member-in-range t m h = sym (rw (lt-ltb t 65536 h))
+
+pub region-in-range : (t z : ℕ) → t < 65536 → (leb 1 t && leb 1 z && leb z 64) ≡ inRange (Com.Region t z)
+unfolding inRange
+region-in-range t z h = sym (rw (lt-ltb t 65536 h) (go (leb 1 t)))
+  where
+    go : (b : Bool) → (b && true && leb 1 z && leb z 64) ≡ (b && leb 1 z && leb z 64)
+    go true = refl
+    go false = refl
+
+pub access-in-range : (a : Access) → a .site < 65536 → rangeOk (a .range) ≡ inRange (Com.Access a)
+unfolding inRange
+access-in-range a h = sym (rw (lt-ltb (a .site) 65536 h))

@@ -58,7 +58,7 @@ use Rattle.bundle.proofs.Decoding.{
   read-before,
   read-behind,
 }
-use Rattle.bundle.proofs.Ranges.{range-parts, size-fits, base-fits}
+use Rattle.bundle.proofs.Ranges.{range-parts, size-within, base-fits}
 
 -- the four kinds of access in one
 command-access : (s : List ℕ) (at : ℕ) (k : AccessKind)
@@ -111,7 +111,7 @@ bytes-say (Com.Access a) e =
     let p = range-parts r (and-right (ltb (a .site) 65536) (rangeOk r) e) in
     let hs : a .site < 65536 = ltb-true (a .site) 65536 (and-left (ltb (a .site) 65536) (rangeOk r) e) in
     let hb : r .base ≤ 4294967295 = base-fits r (p .last) in
-    let hz : r .size ≤ 8 = size-fits (r .size) (p .sized) in
+    let hz : r .size ≤ 8 = size-within (r .size) (p .sized) .1 in
     sym (command-access (bytesOf (Com.Access a)) 0 (a .kind)
     ∙ (λ i. Com.Access
     (record {
