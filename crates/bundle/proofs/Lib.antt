@@ -2,6 +2,10 @@
 pub mod Computing
 pub mod Tests
 pub mod ListLaws
+pub mod Digits
+pub mod Decoding
+pub mod RoundTrip
+pub mod Ranges
 pub mod Places
 pub mod Scanning
 pub mod Gathering

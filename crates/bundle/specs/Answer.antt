@@ -2,7 +2,24 @@
 use Prim.Native.Nat.{ℕ}
 use Rattle.bundle.specs.declared.refusal.Cause.{Cause}
 use Rattle.bundle.specs.declared.refusal.Cause.the-variants.{
-  BundleTooLong, UnknownCommand, OperandsCutOff, Misplaced, OutOfRange, LockMisused, TooManyEntries, ForkedBefore, StrayChunk, MissingChunk, TooDeep, BarrierCount, WorkAreaTooSmall, NoneSuch, BadLabel, UnequalSpans, DoesNotFit, PastEnd
+  BundleTooLong,
+  UnknownCommand,
+  OperandsCutOff,
+  Misplaced,
+  OutOfRange,
+  LockMisused,
+  TooManyEntries,
+  ForkedBefore,
+  StrayChunk,
+  MissingChunk,
+  TooDeep,
+  BarrierCount,
+  WorkAreaTooSmall,
+  NoneSuch,
+  BadLabel,
+  UnequalSpans,
+  DoesNotFit,
+  PastEnd,
 }
 
 -- an operation's answer: a value, or a refusal by its number and place

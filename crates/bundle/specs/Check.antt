@@ -2,9 +2,9 @@
 use Prim.Native.Nat.{ℕ, zero, suc, _+_, _<_}
 use mathlib.Core.Path.{_≡_}
 use mathlib.Core.Bool.{Bool, true, false, cond, not, _&&_, _||_}
-use mathlib.Core.List.{List, [], _∷_, _++_, map, List·Memᴰ, List·Permᴰ}
+use mathlib.Core.List.{List, [], _∷_, _++_, map, List·Permᴰ}
 use mathlib.Core.Option.{Option, none, some}
-use lib.ListN.{length}
+use lib.ListN.{length, getD}
 use lib.Dec.{eqb, ltb, leb}
 use Rattle.bundle.specs.Answer.{Answer, gives, refuses, whenGiven}
 use Rattle.bundle.specs.Lists.{upTo, any, all, first, concat, concatMap, fromOption, among}
@@ -125,7 +125,7 @@ findOf s t m =
 
 -- a bundle's bytes are numbers below 256
 abbrev pub Bytes : List ℕ → Type 0
-Bytes s = (x : ℕ) → List·Memᴰ x s → x < 256
+Bytes s = (i : ℕ) → i < length s → getD s i 0 < 256
 
 abbrev pub Accepted : List ℕ → Type 0
 Accepted s = checkOf s ≡ gives tt

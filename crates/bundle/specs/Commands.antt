@@ -49,17 +49,17 @@ widthOf b =
 -- site (2), base (4), stride (2), count (2), size (1)
 unfoldable pub accessAt : List ℕ → ℕ → ℕ → Access
 accessAt s at b =
-    record
-      { kind = kindOf b
-      ; site = numberAt 2 s (at + 1)
-      ; range =
-          record
-            { base = numberAt 4 s (at + 3)
-            ; stride = numberAt 2 s (at + 7)
-            ; count = numberAt 2 s (at + 9)
-            ; size = numberAt 1 s (at + 11)
-            }
-      }
+    record {
+      kind = kindOf b;
+      site = numberAt 2 s (at + 1);
+      range =
+          record {
+            base = numberAt 4 s (at + 3);
+            stride = numberAt 2 s (at + 7);
+            count = numberAt 2 s (at + 9);
+            size = numberAt 1 s (at + 11);
+          };
+    }
 
 -- the command with the first byte b at a position, with operands of any value
 unfoldable pub commandAt : List ℕ → ℕ → ℕ → Command

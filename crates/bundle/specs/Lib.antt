@@ -2,6 +2,7 @@
 pub mod Answer
 pub mod Lists
 pub mod Commands
+pub mod Inner
 pub mod Locks
 pub mod Chunks
 pub mod Scan

@@ -4,24 +4,24 @@ ghost use Rattle.bundle.specs.Answer.{numberOf};
 
 // Each cause with document 01's number.
 pub enum Cause {
-    BundleTooLong,     // 1
-    UnknownCommand,    // 2
-    OperandsCutOff,    // 3
-    Misplaced,         // 4
-    OutOfRange,        // 5
-    LockMisused,       // 6
-    TooManyEntries,    // 7
-    ForkedBefore,      // 8
-    StrayChunk,        // 9
-    MissingChunk,      // 10
-    TooDeep,           // 11
-    BarrierCount,      // 12
-    WorkAreaTooSmall,  // 13
-    NoneSuch,          // 14
-    BadLabel,          // 15
-    UnequalSpans,      // 16
-    DoesNotFit,        // 17
-    PastEnd,           // 18
+    BundleTooLong, // 1
+    UnknownCommand, // 2
+    OperandsCutOff, // 3
+    Misplaced, // 4
+    OutOfRange, // 5
+    LockMisused, // 6
+    TooManyEntries, // 7
+    ForkedBefore, // 8
+    StrayChunk, // 9
+    MissingChunk, // 10
+    TooDeep, // 11
+    BarrierCount, // 12
+    WorkAreaTooSmall, // 13
+    NoneSuch, // 14
+    BadLabel, // 15
+    UnequalSpans, // 16
+    DoesNotFit, // 17
+    PastEnd, // 18
 }
 
 // Document 01's number of a cause.
