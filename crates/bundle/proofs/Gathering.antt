@@ -29,7 +29,7 @@ pub data Body : List Placed → Type 0 where
   ends : {p : Placed} → p .command ≡ Com.End → Body (p ∷ [])
   goes : {p : Placed} {ps : List Placed} → plain (p .command) ≡ true → Body ps → Body (p ∷ ps)
 
-gather-plain :
+pub gather-plain :
   (p : Placed) (c : Command) (g : Gathered)
   → plain c ≡ true
   → gatherOne p c g ≡ record { body = p ∷ g .body; past = g .past; chunks = g .chunks }

@@ -10,3 +10,5 @@ pub mod Places
 pub mod Scanning
 pub mod Gathering
 pub mod ScanChunks
+pub mod Printing
+pub mod Settling
