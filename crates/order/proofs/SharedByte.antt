@@ -24,7 +24,7 @@ touched-elim r byte m =
       within = j .0;
       element-below = upTo-elim (r .count) (k .present);
       within-below = upTo-elim (r .size) (j .1);
-      at = sym (j .2)
+      at = sym (j .2);
     }
 
 pub touched-intro : (r : Range) (byte : ℕ) → Touches r byte → List·Memᴰ byte (touched r)
@@ -33,9 +33,9 @@ touched-intro r byte t =
     Memᴰ·cast
     (t .at)
     (concatMap-intro
-      (λ k. map (λ j. r .base + k * r .stride + j) (upTo (r .size)))
-      (upTo-intro (r .count) (t .element-below))
-      (Memᴰ·map (λ j. r .base + t .element * r .stride + j) (upTo-intro (r .size) (t .within-below))))
+    (λ k. map (λ j. r .base + k * r .stride + j) (upTo (r .size)))
+    (upTo-intro (r .count) (t .element-below))
+    (Memᴰ·map (λ j. r .base + t .element * r .stride + j) (upTo-intro (r .size) (t .within-below))))
 
 -- what it is to be the least number of a list
 abbrev LeastIs : List ℕ → Option ℕ → Type 0
@@ -46,12 +46,13 @@ least-with : (n : ℕ) (ns : List ℕ) (o : Option ℕ) → LeastIs ns o → Lea
 unfolding leastWith
 least-with n ns none h =
     (List·Memᴰ·head refl, λ i m. ⊎-elim (λ e. omega arith) (λ l. absurd (h i l)) (List·Memᴰ·cases-cons m))
-least-with n ns (some w) h =
-    (⊎-elim
+least-with n ns (some w) h = (
+  ⊎-elim
       (λ t. List·Memᴰ·head (omega (arith, leb-true n w t)))
       (λ t. List·Memᴰ·tail (Memᴰ·cast (omega (arith, leb-false n w t)) (h .0)))
       (decide (leb n w)),
-      λ i m. ⊎-elim (λ e. omega arith) (λ l. omega (arith, h .1 i l)) (List·Memᴰ·cases-cons m))
+  λ i m. ⊎-elim (λ e. omega arith) (λ l. omega (arith, h .1 i l)) (List·Memᴰ·cases-cons m),
+)
 
 least-is : (ns : List ℕ) → LeastIs ns (least ns)
 unfolding least
@@ -78,7 +79,7 @@ module _ (a b : Range) where
       record {
         one = touched-elim a w (m .0);
         other = touched-elim b w (among-elim (touched b) (m .1));
-        lowest = λ byte below s t. omega (arith, l .1 byte (in-both byte s t))
+        lowest = λ byte below s t. omega (arith, l .1 byte (in-both byte s t));
       }
 
   -- the definition meets it, and so does no other answer

@@ -1,21 +1,17 @@
 -- Reaching in the graph: the tests say what the relations say, and Warshall's closure has exactly the paths.
 use Prim.Native.Nat.{ℕ, suc}
 use mathlib.Core.Path.{_≡_, refl, sym, _∙_, ap, subst}
-use mathlib.Core.Logic.{_⊎_, inl, inr, ⊎-elim}
-use mathlib.Core.Bool.{Bool, true, false, not, _&&_, _||_}
-use mathlib.Core.List.{
-  List, [], _∷_, _++_, map, List·Memᴰ, List·Memᴰ·not-nil, List·Memᴰ·cases-cons, List·Memᴰ·append-cases, Memᴰ·cast, Memᴰ·append-left, Memᴰ·append-right, Memᴰ·map, Memᴰ·of-map
-}
-use native.Mathlib.Omega.{arith}
+use mathlib.Core.Logic.{_↔_, _⊎_, inl, inr, ⊎-elim}
+use mathlib.Core.Bool.{Bool, true, false, not, _&&_, _||_, or-true}
+use mathlib.Core.List.{List, [], _∷_, map, List·Memᴰ, List·Memᴰ·not-nil, List·Memᴰ·cases-cons, List·Memᴰ·append-cases, Memᴰ·cast, Memᴰ·append-left, Memᴰ·append-right, Memᴰ·map, Memᴰ·of-map}
 use lib.Dec.{eqb}
 use borrow.Author.Tests.{eqb-true, eq-eqb}
-use Rattle.bundle.specs.Lists.{any, filter, concatMap}
+use Rattle.bundle.specs.Lists.{filter, concatMap}
 use Rattle.bundle.proofs.Tests.{false-is-true, both, and-left, and-right, or-cases, or-one, or-other, decide, not-of-false, same-test}
 use Rattle.bundle.proofs.ListLaws.{any-elim, any-intro, filter-elim, filter-intro, concatMap-elim, concatMap-intro}
-use Rattle.verdict.specs.Graph.{
-  Node, sameNode, Border, ofChunk, ofBarrier, ofRegion, Segment, Joined, next, fork, join, barrier, Edge, Path, here, step, sameBorder, isBarrier, joins, Pair, samePair, linked, edgesOf, through, closed, closureOf, reaches
-}
+use Rattle.verdict.specs.Graph.{Node, sameNode, Border, ofChunk, ofBarrier, ofRegion, Segment, Joined, next, fork, join, barrier, Edge, Path, here, step, sameBorder, isBarrier, joins, Pair, samePair, linked, edgesOf, through, closed, closureOf, reaches}
 
+-- tests and records in parts
 all-three : (a b c : Bool) → (a && b && c) ≡ true → (a ≡ true) × (b ≡ true) × (c ≡ true)
 all-three a b c e =
     let l = and-left (a && b) c e in
@@ -34,7 +30,7 @@ sameNode-true a b e =
 pub eq-sameNode : (a b : Node) → a ≡ b → sameNode a b ≡ true
 unfolding sameNode
 eq-sameNode a b e =
-    rw e (both (both (eq-eqb (b .team) (b .team) refl) (eq-eqb (b .member) (b .member) refl)) (eq-eqb (b .number) (b .number) refl))
+    rw e (both (both (eq-eqb (b .team) _ refl) (eq-eqb (b .member) _ refl)) (eq-eqb (b .number) _ refl))
 
 -- equal borders
 pub sameBorder-true : (a b : Border) → sameBorder a b ≡ true → a ≡ b
@@ -58,14 +54,14 @@ sameBorder-self (ofRegion t) = eq-eqb t t refl
 pub eq-sameBorder : (a b : Border) → a ≡ b → sameBorder a b ≡ true
 eq-sameBorder a b e = rw e (sameBorder-self b)
 
--- a border that passes the test is that of a barrier
+-- a border that passes has a number
 barrier-number : (o : Border) → isBarrier o ≡ true → (n : ℕ) × (o ≡ ofBarrier n)
 unfolding isBarrier
 barrier-number ofChunk e = false-is-true e
 barrier-number (ofBarrier n) e = (n, refl)
 barrier-number (ofRegion t) e = false-is-true e
 
--- the four cases of the test
+-- the test for an edge, its four cases by name
 module _ (a b : Segment) where
   abbrev isNext : Bool
   isNext =
@@ -85,11 +81,11 @@ module _ (a b : Segment) where
   isNext-true : isNext ≡ true → Joined a b
   isNext-true e =
       let t =
-        all-three
-        (eqb (a .node .team) (b .node .team))
-        (eqb (a .node .member) (b .node .member))
-        (eqb (b .node .number) (suc (a .node .number)))
-        e
+      all-three
+      (eqb (a .node .team) (b .node .team))
+      (eqb (a .node .member) (b .node .member))
+      (eqb (b .node .number) (suc (a .node .number)))
+      e
       in
       next (eqb-true _ _ (t .0)) (eqb-true _ _ (t .1)) (eqb-true _ _ (t .2))
 
@@ -116,36 +112,19 @@ module _ (a b : Segment) where
   joins-true e =
       ⊎-elim
       (λ l.
-        ⊎-elim
-        (λ k. ⊎-elim isNext-true isFork-true (or-cases isNext isFork k))
-        isJoin-true
-        (or-cases (isNext || isFork) isJoin l))
+      ⊎-elim
+      (λ k. ⊎-elim isNext-true isFork-true (or-cases isNext isFork k))
+      isJoin-true
+      (or-cases (isNext || isFork) isJoin l))
       atBarrier-true
       (or-cases (isNext || isFork || isJoin) atBarrier e)
 
   pub joined-joins : Joined a b → joins a b ≡ true
   unfolding joins isBarrier
-  joined-joins (next t m n) =
-      or-one atBarrier
-      (or-one isJoin
-        (or-one isFork
-          (both
-            (both (eq-eqb (a .node .team) (b .node .team) t) (eq-eqb (a .node .member) (b .node .member) m))
-            (eq-eqb (b .node .number) (suc (a .node .number)) n))))
-  joined-joins (fork e n) =
-      or-one atBarrier
-      (or-one isJoin
-        (or-other isNext
-          (both (eq-sameBorder (a .ended) (ofRegion (b .node .team)) e) (eq-eqb (b .node .number) 0 n))))
-  joined-joins (join e o) =
-      or-one atBarrier
-      (or-other (isNext || isFork)
-        (both (eq-sameBorder (a .ended) ofChunk e) (eq-sameBorder (b .opened) (ofRegion (a .node .team)) o)))
-  joined-joins (barrier n t e o) =
-      or-other (isNext || isFork || isJoin)
-      (both
-        (both (eq-eqb (a .node .team) (b .node .team) t) (ap isBarrier e))
-        (eq-sameBorder (a .ended) (b .opened) (e ∙ sym o)))
+  joined-joins (next t m n) = simp (eq-eqb _ _ t, eq-eqb _ _ m, eq-eqb _ _ n)
+  joined-joins (fork e n) = simp (eq-sameBorder _ _ e, eq-eqb _ _ n, or-true)
+  joined-joins (join e o) = simp (eq-sameBorder _ _ e, eq-sameBorder _ _ o, or-true)
+  joined-joins (barrier n t e o) = simp (eq-eqb _ _ t, ap isBarrier e, eq-sameBorder _ _ (e ∙ sym o), or-true)
 
 abbrev pub pairOf : Node → Node → Pair
 pairOf a b = record { from = a; to = b }
@@ -168,12 +147,12 @@ pub linked-intro : {ps : List Pair} (a b : Node) → List·Memᴰ (pairOf a b) p
 unfolding linked samePair
 linked-intro a b m = any-intro (samePair (pairOf a b)) m (both (eq-sameNode a a refl) (eq-sameNode b b refl))
 
--- the edges as pairs
+-- a pair of the list of edges is an edge
 module _ (ss : List Segment) where
   abbrev edgesFrom : Segment → List Pair
   edgesFrom a = map (λ (b : Segment). pairOf (a .node) (b .node)) (filter (joins a) ss)
 
-  pub edge-elim : (p : Pair) → List·Memᴰ p (edgesOf ss) → Edge ss (p .from) (p .to)
+  edge-elim : (p : Pair) → List·Memᴰ p (edgesOf ss) → Edge ss (p .from) (p .to)
   unfolding edgesOf
   edge-elim p m =
       let a = concatMap-elim edgesFrom ss m in
@@ -186,20 +165,23 @@ module _ (ss : List Segment) where
         to-in = f .0;
         from-node = ap (λ (q : Pair). q .from) (b .2);
         to-node = ap (λ (q : Pair). q .to) (b .2);
-        joined = joins-true (a .source) (b .0) (f .1)
+        joined = joins-true (a .source) (b .0) (f .1);
       }
 
-  pub edge-intro : (p : Pair) → Edge ss (p .from) (p .to) → List·Memᴰ p (edgesOf ss)
+  edge-intro : (p : Pair) → Edge ss (p .from) (p .to) → List·Memᴰ p (edgesOf ss)
   unfolding edgesOf
   edge-intro p e =
       Memᴰ·cast
       (sym (pair-eq (e .from-node) (e .to-node)))
       (concatMap-intro
-        edgesFrom
-        (e .from-in)
-        (Memᴰ·map
-          (λ (b : Segment). pairOf (e .from .node) (b .node))
-          (filter-intro (joins (e .from)) (e .to-in) (joined-joins (e .from) (e .to) (e .joined)))))
+      edgesFrom
+      (e .from-in)
+      (Memᴰ·map
+      (λ (b : Segment). pairOf (e .from .node) (b .node))
+      (filter-intro (joins (e .from)) (e .to-in) (joined-joins (e .from) (e .to) (e .joined)))))
+
+  pub edge-linked : (p : Pair) → List·Memᴰ p (edgesOf ss) ↔ Edge ss (p .from) (p .to)
+  edge-linked p = (edge-elim p, edge-intro p)
 
 -- paths
 module _ {ss : List Segment} where
@@ -258,16 +240,15 @@ module _ (ps : List Pair) (k : Node) where
       let p = concatMap-elim onward (filter toK ps) m in
       let l = filter-elim toK ps (p .present) in
       let q = Memᴰ·of-map (λ (q : Pair). pairOf (p .source .from) (q .to)) (filter fromK ps) (p .gives) in
-      let r = filter-elim fromK ps (q .1) in
-      (
+      let r = filter-elim fromK ps (q .1) in (
         Memᴰ·cast (pair-eq (sym (ap (λ (p : Pair). p .from) (q .2))) (sym (sameNode-true _ _ (l .1)))) (l .0),
-        Memᴰ·cast (pair-eq (sym (sameNode-true _ _ (r .1))) (sym (ap (λ (p : Pair). p .to) (q .2)))) (r .0)
+        Memᴰ·cast (pair-eq (sym (sameNode-true _ _ (r .1))) (sym (ap (λ (p : Pair). p .to) (q .2)))) (r .0),
       )
 
   through-cases :
-    (a b : Node)
-    → List·Memᴰ (pairOf a b) (through ps k)
-    → List·Memᴰ (pairOf a b) ps ⊎ List·Memᴰ (pairOf a k) ps × List·Memᴰ (pairOf k b) ps
+      (a b : Node)
+      → List·Memᴰ (pairOf a b) (through ps k)
+      → List·Memᴰ (pairOf a b) ps ⊎ List·Memᴰ (pairOf a k) ps × List·Memᴰ (pairOf k b) ps
   unfolding through
   through-cases a b m =
       ⊎-elim
@@ -281,11 +262,11 @@ module _ (ps : List Pair) (k : Node) where
 
 -- what the closure links has a path, if the pairs have
 closed-path :
-  (ss : List Segment) (ps : List Pair) (ks : List Node)
-  → ((a b : Node) → List·Memᴰ (pairOf a b) ps → Path ss a b)
-  → (a b : Node)
-  → List·Memᴰ (pairOf a b) (closed ps ks)
-  → Path ss a b
+    (ss : List Segment) (ps : List Pair) (ks : List Node)
+    → ((a b : Node) → List·Memᴰ (pairOf a b) ps → Path ss a b)
+    → (a b : Node)
+    → List·Memᴰ (pairOf a b) (closed ps ks)
+    → Path ss a b
 unfolding closed
 closed-path ss ps [] h = h
 closed-path ss ps (k ∷ ks) h =
@@ -331,8 +312,8 @@ module _ (ss : List Segment) where
       go (inr v) =
           inr
           (more v
-            (Memᴰ·cast (sym (e .from-node)) (Memᴰ·map (λ (s : Segment). s .node) (e .from-in)))
-            (edge-intro ss (pairOf b c) e))
+          (Memᴰ·cast (sym (e .from-node)) (Memᴰ·map (λ (s : Segment). s .node) (e .from-in)))
+          (edge-intro ss (pairOf b c) e))
 
   module _ (a b : Node) where
     -- the test says whether there is a path
@@ -342,9 +323,9 @@ module _ (ss : List Segment) where
         ⊎-elim
         (λ t. path-eq (sameNode-true a b t))
         (λ t.
-          closed-path ss (edgesOf ss) (nodesOf ss)
-          (λ c d m. edge-path (edge-elim ss (pairOf c d) m))
-          a b (linked-elim (closureOf ss) a b t))
+        closed-path ss (edgesOf ss) (nodesOf ss)
+        (λ c d m. edge-path (edge-elim ss (pairOf c d) m))
+        a b (linked-elim (closureOf ss) a b t))
         (or-cases (sameNode a b) (linked (closureOf ss) a b) e)
 
     pub path-reaches : Path ss a b → reaches (closureOf ss) a b ≡ true
