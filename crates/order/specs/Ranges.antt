@@ -23,6 +23,12 @@ pub record Touches (r : Range) (byte : ℕ) : Type 0 where
   pub within-below : within < r .size
   pub at : byte ≡ r .base + element * r .stride + within
 
+-- w is the lowest byte that both ranges touch
+pub record LeastShared (a b : Range) (w : ℕ) : Type 0 where
+  pub one : Touches a w
+  pub other : Touches b w
+  pub lowest : (byte : ℕ) → byte < w → Touches a byte → Touches b byte → ⊥
+
 -- the least number of a list
 unfoldable pub leastWith : ℕ → Option ℕ → Option ℕ
 leastWith n none = some n

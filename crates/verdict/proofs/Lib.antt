@@ -1,3 +1,5 @@
 -- Laws over the definitions.
 pub mod Computing
 pub mod Examples
+pub mod Lexical
+pub mod Sorting
