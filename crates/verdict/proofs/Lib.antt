@@ -3,3 +3,6 @@ pub mod Computing
 pub mod Examples
 pub mod Lexical
 pub mod Sorting
+pub mod ListMore
+pub mod Given
+pub mod RaceList
