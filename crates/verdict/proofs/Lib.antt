@@ -6,3 +6,6 @@ pub mod Sorting
 pub mod ListMore
 pub mod Given
 pub mod RaceList
+pub mod SameRaces
+pub mod Demand3
+pub mod NextRace
