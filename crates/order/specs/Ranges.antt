@@ -23,7 +23,7 @@ pub record Touches (r : Range) (byte : ℕ) : Type 0 where
   pub within-below : within < r .size
   pub at : byte ≡ r .base + element * r .stride + within
 
--- w is the lowest byte that both ranges touch
+-- "the lowest byte that both touch", as a relation
 pub record LeastShared (a b : Range) (w : ℕ) : Type 0 where
   pub one : Touches a w
   pub other : Touches b w

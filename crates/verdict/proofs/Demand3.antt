@@ -1,6 +1,6 @@
 -- Demand 3.
 use Prim.Native.Nat.{ℕ, _≤_}
-use mathlib.Core.Path.{_≡_, refl, sym, _∙_, ap}
+use mathlib.Core.Path.{_≡_, refl, _∙_}
 use mathlib.Core.Logic.{_⊎_, inl, inr, ⊎-elim}
 use mathlib.Core.Bool.{true}
 use mathlib.Core.List.{List, [], _∷_, map, List·Memᴰ, List·Memᴰ·head, List·Memᴰ·not-nil, List·Memᴰ·cases-cons}
@@ -9,16 +9,14 @@ use lib.ListN.{length}
 use borrow.Author.Tests.{le-ltb}
 use Rattle.bundle.specs.Answer.{gives}
 use Rattle.bundle.specs.Chunks.{Chunk, chunksOf}
-use Rattle.bundle.specs.Check.{Bytes, Accepted, Reordered}
+use Rattle.bundle.specs.Check.{Accepted}
 use Rattle.bundle.proofs.ListLaws.{Distinct}
 use Rattle.bundle.proofs.Places.{memberKey}
-use Rattle.verdict.specs.Races.{IsRace, raceBelow, racesOf}
+use Rattle.verdict.specs.Races.{raceBelow, racesOf}
 use Rattle.verdict.specs.Judge.{verdictOf, judgementOf, overWork, judgedOf, judgeOf}
-use Rattle.verdict.specs.Demand.{Ascending, Exact, Judged, Demand3}
+use Rattle.verdict.specs.Demand.{Ascending, Exact, Demand3}
 use Rattle.verdict.specs.declared.race.Race.{Race}
-use Rattle.verdict.specs.declared.race.Verdict.{Verdict}
 use Rattle.verdict.specs.declared.race.Verdict.the-variants as Ver
-use Rattle.verdict.specs.declared.race.Judgement.{Judgement}
 use Rattle.verdict.proofs.Given.{ExactTests, ChunkOrder}
 use Rattle.verdict.proofs.RaceList.{races-elim, races-intro, races-ascending}
 use Rattle.verdict.proofs.SameRaces.{same-judgement}

@@ -5,6 +5,7 @@ pub mod Lexical
 pub mod Sorting
 pub mod ListMore
 pub mod Given
+pub mod AccessNames
 pub mod RaceList
 pub mod SameRaces
 pub mod Demand3

@@ -1,6 +1,6 @@
 -- More laws of lists.
-use mathlib.Core.Path.{_≡_, refl, sym, _∙_, ap}
-use mathlib.Core.List.{List, [], _∷_, _++_, map, map-append, List·Memᴰ, Memᴰ·cast, Memᴰ·map, Memᴰ·of-map}
+use mathlib.Core.Path.{_≡_, refl, sym, _∙_}
+use mathlib.Core.List.{List, [], _∷_, map, map-append, List·Memᴰ, Memᴰ·cast, Memᴰ·map, Memᴰ·of-map}
 use Rattle.bundle.specs.Lists.{concatMap}
 use Rattle.bundle.proofs.ListLaws.{Distinct, distinct-nil, distinct-cons, distinct-append, concatMap-elim}
 

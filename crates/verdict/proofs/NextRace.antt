@@ -1,17 +1,15 @@
 -- The next race: the least of the bundle's races above the key, or none.
 use Prim.Native.Nat.{ℕ}
-use mathlib.Core.Path.{_≡_, refl, sym, _∙_, ap}
-use mathlib.Core.Logic.{_⊎_, inl, inr, ⊎-elim}
+use mathlib.Core.Path.{_≡_, refl}
+use mathlib.Core.Logic.{_⊎_, inl, inr}
 use mathlib.Core.Bool.{Bool, true, false, cond}
-use mathlib.Core.List.{List, [], _∷_, map, List·Memᴰ, List·Memᴰ·not-nil, List·Memᴰ·cases-cons}
+use mathlib.Core.List.{List, List·Memᴰ, List·Memᴰ·not-nil, List·Memᴰ·cases-cons}
 use mathlib.Core.Option.{Option, none, some}
-use Rattle.bundle.specs.Lists.{first}
 use Rattle.bundle.specs.Answer.{gives}
 use Rattle.bundle.specs.Chunks.{Chunk, chunksOf}
 use Rattle.bundle.specs.Check.{Accepted}
 use Rattle.bundle.proofs.Tests.{not-both}
-use Rattle.bundle.proofs.ListLaws.{first-some, first-none, Distinct}
-use Rattle.bundle.proofs.Places.{memberKey}
+use Rattle.bundle.proofs.ListLaws.{first-some, first-none}
 use Rattle.verdict.specs.Races.{IsRace, lexLess, raceKey, raceBelow, racesOf}
 use Rattle.verdict.specs.Judge.{raceAbove, nextAbove}
 use Rattle.verdict.specs.Demand.{Ascending}

@@ -1,93 +1,26 @@
 -- The list of a bundle's races: each race once, in order, and nothing else.
-use Prim.Native.Nat.{ℕ, _+_, _<_, _≤_}
+use Prim.Native.Nat.{ℕ, _<_}
 use mathlib.Core.Path.{_≡_, refl, sym, _∙_, ap}
-use mathlib.Core.Logic.{_⊎_, inl, inr, ⊎-elim}
+use mathlib.Core.Logic.{⊎-elim}
 use mathlib.Core.Bool.{Bool, true, false, cond, not, _&&_, _||_}
-use mathlib.Core.List.{List, [], _∷_, map, List·Memᴰ, List·Memᴰ·head, List·Memᴰ·tail, List·Memᴰ·not-nil, List·Memᴰ·cases-cons, List·Memᴰ·eq-of-singleton, Memᴰ·of-map}
+use mathlib.Core.List.{List, [], _∷_, map, List·Memᴰ, List·Memᴰ·head, List·Memᴰ·not-nil, List·Memᴰ·eq-of-singleton}
 use mathlib.Core.Option.{Option, none, some}
-use native.Mathlib.Omega.{arith}
-use Rattle.bundle.specs.Lists.{upTo, any, concatMap, fromOption}
+use Rattle.bundle.specs.Lists.{upTo, concatMap, fromOption}
 use Rattle.bundle.specs.Locks.{holds, commonLock}
-use Rattle.bundle.specs.Chunks.{Chunk, fresh, afterCommand, commandsOf}
-use Rattle.bundle.specs.declared.chunk.ChunkState.{ChunkState}
-use Rattle.bundle.specs.declared.command.Command.{Command}
-use Rattle.bundle.specs.declared.command.Command.the-variants as Com
+use Rattle.bundle.specs.Chunks.{Chunk}
 use Rattle.bundle.proofs.Tests.{both, and-left, and-right, or-cases, or-one, or-other, is-false, not-both, not-of-false, false-of-not}
 use Rattle.bundle.proofs.ListLaws.{any-elim, any-intro, upTo-elim, upTo-intro, concatMap-elim, concatMap-intro, Distinct, distinct-nil, distinct-cons}
 use Rattle.bundle.proofs.Places.{memberKey}
-use Rattle.order.specs.Ranges.{LeastShared, sharedByte}
-use Rattle.verdict.specs.Graph.{Node, Segment, Pair, Path, segmentsOf, closureOf, reaches}
-use Rattle.verdict.specs.Races.{NamedAccess, IsRace, accessesFrom, accessesIn, accessesOf, nameKey, nameBelow, raceKey, writes, atomic, clashes, raceAt, raceOf, racesAmong, racesOf}
+use Rattle.order.specs.Ranges.{sharedByte}
+use Rattle.verdict.specs.Graph.{Pair, segmentsOf, closureOf, reaches}
+use Rattle.verdict.specs.Races.{NamedAccess, IsRace, accessesOf, nameKey, nameBelow, raceKey, writes, atomic, clashes, raceAt, raceOf, racesAmong, racesOf}
 use Rattle.verdict.specs.Demand.{Ascending}
 use Rattle.verdict.specs.declared.race.Race.{Race}
 use Rattle.verdict.proofs.ListMore.{distinct-concatMap}
 use Rattle.verdict.proofs.Given.{ExactTests}
+use Rattle.verdict.proofs.AccessNames.{accessKey, accesses-distinct}
 use Rattle.verdict.proofs.Lexical.{raceKey-tells}
 use Rattle.verdict.proofs.Sorting.{order-intro, order-elim, order-ascending}
-
--- the accesses of a chunk are numbered on
-pub data Run (t m : ℕ) : ℕ → List NamedAccess → Type 0 where
-  run-none : {n : ℕ} → Run t m n []
-  run-more :
-    {n : ℕ} {x : NamedAccess} {xs : List NamedAccess}
-    → nameKey (x .name) ≡ t ∷ m ∷ n ∷ []
-    → Run t m (n + 1) xs
-    → Run t m n (x ∷ xs)
-
-pub access-run : (t m n : ℕ) (k : ChunkState) (cs : List Command) → Run t m n (accessesFrom t m n k cs)
-unfolding accessesFrom nameKey
-access-run t m n k [] = run-none
-access-run t m n k (Com.Member u i ∷ cs) = access-run t m n k cs
-access-run t m n k (Com.End ∷ cs) = access-run t m n k cs
-access-run t m n k (Com.Region u z ∷ cs) = access-run t m n (afterCommand k (Com.Region u z)) cs
-access-run t m n k (Com.Barrier ∷ cs) = access-run t m n (afterCommand k Com.Barrier) cs
-access-run t m n k (Com.Acquire l ∷ cs) = access-run t m n (afterCommand k (Com.Acquire l)) cs
-access-run t m n k (Com.Release l ∷ cs) = access-run t m n (afterCommand k (Com.Release l)) cs
-access-run t m n k (Com.Access a ∷ cs) = run-more refl (access-run t m (n + 1) k cs)
-
--- an access by its name
-abbrev pub accessKey : NamedAccess → List ℕ
-accessKey x = nameKey (x .name)
-
--- the name of an access of a run
-pub record Numbered (t m n : ℕ) (x : NamedAccess) : Type 0 where
-  pub number : ℕ
-  pub from : n ≤ number
-  pub key : accessKey x ≡ t ∷ m ∷ number ∷ []
-
-pub run-names : {t m n : ℕ} {x : NamedAccess} {xs : List NamedAccess} → Run t m n xs → List·Memᴰ x xs → Numbered t m n x
-run-names run-none l = absurd (List·Memᴰ·not-nil l)
-run-names {t} {m} {n} {x} (run-more {x = y} e d) l =
-    ⊎-elim
-    (λ (q : x ≡ y). record { number = n; from = omega arith; key = ap accessKey q ∙ e })
-    (λ l′. let r = run-names d l′ in record { number = r .number; from = omega arith; key = r .key })
-    (List·Memᴰ·cases-cons l)
-
-pub run-distinct : {t m n : ℕ} {xs : List NamedAccess} → Run t m n xs → Distinct (map accessKey xs)
-run-distinct run-none = distinct-nil
-run-distinct {t} {m} {n} (run-more {x = x} {xs = xs} e d) =
-    distinct-cons (λ l. let y = Memᴰ·of-map accessKey xs l in never (y .0) (y .2) (run-names d (y .1))) (run-distinct d)
-  where
-    never : (y : NamedAccess) → accessKey y ≡ accessKey x → Numbered t m (n + 1) y → ⊥
-    never y q r = let z : n ≡ r .number = cc in omega arith
-
--- no two accesses have one name, if no two chunks are of one member
-pub accesses-distinct : (cs : List Chunk) → Distinct (map memberKey cs) → Distinct (map accessKey (accessesOf cs))
-unfolding accessesOf accessesIn memberKey
-accesses-distinct cs d = distinct-concatMap memberKey accessesIn accessKey (λ c. run-distinct (runs c)) tells cs d
-  where
-    runs : (c : Chunk) → Run (c .team) (c .member) 0 (accessesIn c)
-    runs c = access-run (c .team) (c .member) 0 fresh (commandsOf c)
-    tells :
-      (c d : Chunk) (u v : NamedAccess)
-      → List·Memᴰ u (accessesIn c)
-      → List·Memᴰ v (accessesIn d)
-      → accessKey u ≡ accessKey v
-      → memberKey c ≡ memberKey d
-    tells c d u v l k e = go (run-names (runs c) l) (run-names (runs d) k)
-      where
-        go : Numbered (c .team) (c .member) 0 u → Numbered (d .team) (d .member) 0 v → memberKey c ≡ memberKey d
-        go p q = cc
 
 -- where a race of two accesses comes from
 pub record Found (closure : List Pair) (x y : NamedAccess) (r : Race) : Type 0 where
@@ -162,8 +95,8 @@ races-ascending cs d =
     (races-distinct (closureOf (segmentsOf cs)) (accessesOf cs) (accesses-distinct cs d))
 
 -- a test that fails is one that cannot hold
-pub refuted : (t : Bool) → not t ≡ true → t ≡ true → ⊥
-refuted t h p = not-both p (false-of-not t h)
+pub refuted : {t : Bool} → t ≡ true → not t ≡ true → ⊥
+refuted {t} p h = not-both p (false-of-not t h)
 
 pub fails : (t : Bool) → (t ≡ true → ⊥) → not t ≡ true
 fails t h = not-of-false (is-false t h)
@@ -219,7 +152,7 @@ module _ (closure : List Pair) (x y : NamedAccess) where
   clash-intro c = simp (c .lower, c .writing, c .not-atomic, c .no-lock, c .no-path, c .no-path-back)
 
 module _ (tests : ExactTests) (cs : List Chunk) where
-  -- what two accesses found is a race
+  -- two accesses found make a race, and a race is made so
   pub found-race :
     {x y : NamedAccess} {r : Race}
     → List·Memᴰ x (accessesOf cs)
@@ -227,7 +160,10 @@ module _ (tests : ExactTests) (cs : List Chunk) where
     → Found (closureOf (segmentsOf cs)) x y r
     → IsRace cs r
   unfolding raceAt
-  found-race {x} {y} {r} m l f =
+  found-race {x} {y} m l f =
+      let ss = segmentsOf cs in
+      let c = clash-elim (closureOf ss) x y (f .clash) in
+      let s = tests .shared-some (x .access .range) (y .access .range) (f .witness) (f .shared) in
       rw (f .is)
       (record
         { one = x
@@ -236,11 +172,10 @@ module _ (tests : ExactTests) (cs : List Chunk) where
         ; other-in = l
         ; lower = c .lower
         ; writing = or-cases (writes (x .access .kind)) (writes (y .access .kind)) (c .writing)
-        ; not-atomic = λ p q. refuted (atomic (x .access .kind) && atomic (y .access .kind)) (c .not-atomic) (both p q)
-        ; no-lock =
-            λ lock h p q. refuted (commonLock (x .locks) (y .locks)) (c .no-lock) (common-lock-intro (x .locks) (y .locks) lock h p q)
-        ; no-path = λ p. refuted (reaches g (x .node) (y .node)) (c .no-path) (tests .reach-complete ss (x .node) (y .node) p)
-        ; no-path-back = λ p. refuted (reaches g (y .node) (x .node)) (c .no-path-back) (tests .reach-complete ss (y .node) (x .node) p)
+        ; not-atomic = λ p q. refuted (both p q) (c .not-atomic)
+        ; no-lock = λ lock h p q. refuted (common-lock-intro (x .locks) (y .locks) lock h p q) (c .no-lock)
+        ; no-path = λ p. refuted (tests .reach-complete ss (x .node) (y .node) p) (c .no-path)
+        ; no-path-back = λ p. refuted (tests .reach-complete ss (y .node) (x .node) p) (c .no-path-back)
         ; one-touches = s .one
         ; other-touches = s .other
         ; lowest = s .lowest
@@ -249,41 +184,27 @@ module _ (tests : ExactTests) (cs : List Chunk) where
         ; second-name = refl
         ; second-site = refl
         })
-    where
-      ss : List Segment
-      ss = segmentsOf cs
-      g : List Pair
-      g = closureOf ss
-      c : Clash g x y
-      c = clash-elim g x y (f .clash)
-      s : LeastShared (x .access .range) (y .access .range) (f .witness)
-      s = tests .shared-some (x .access .range) (y .access .range) (f .witness) (f .shared)
 
   pub race-found : {r : Race} (i : IsRace cs r) → Found (closureOf (segmentsOf cs)) (i .one) (i .other) r
   unfolding raceAt
   race-found {r} i =
+      let x = i .one in
+      let y = i .other in
+      let ss = segmentsOf cs in
+      let a = atomic (x .access .kind) in
+      let b = atomic (y .access .kind) in
       record
         { clash =
-            clash-intro g x y
+            clash-intro (closureOf ss) x y
             (record
               { lower = i .lower
-              ; writing =
-                  ⊎-elim
-                  (λ h. or-one (writes (y .access .kind)) h)
-                  (λ h. or-other (writes (x .access .kind)) h)
-                  (i .writing)
-              ; not-atomic =
-                  fails (atomic (x .access .kind) && atomic (y .access .kind))
-                  (λ h.
-                    i .not-atomic
-                    (and-left (atomic (x .access .kind)) (atomic (y .access .kind)) h)
-                    (and-right (atomic (x .access .kind)) (atomic (y .access .kind)) h))
+              ; writing = ⊎-elim (or-one (writes (y .access .kind))) (or-other (writes (x .access .kind))) (i .writing)
+              ; not-atomic = fails (a && b) (λ h. i .not-atomic (and-left a b h) (and-right a b h))
               ; no-lock =
                   fails (commonLock (x .locks) (y .locks))
                   (λ h. let l = common-lock-elim (x .locks) (y .locks) h in i .no-lock (l .0) (l .1) (l .2) (l .3))
-              ; no-path = fails (reaches g (x .node) (y .node)) (λ h. i .no-path (tests .reach-sound ss (x .node) (y .node) h))
-              ; no-path-back =
-                  fails (reaches g (y .node) (x .node)) (λ h. i .no-path-back (tests .reach-sound ss (y .node) (x .node) h))
+              ; no-path = fails _ (λ h. i .no-path (tests .reach-sound ss (x .node) (y .node) h))
+              ; no-path-back = fails _ (λ h. i .no-path-back (tests .reach-sound ss (y .node) (x .node) h))
               })
         ; witness = r .witness
         ; shared =
@@ -299,15 +220,6 @@ module _ (tests : ExactTests) (cs : List Chunk) where
                 ; «second_site» = i .second-site j
                 }
         }
-    where
-      x : NamedAccess
-      x = i .one
-      y : NamedAccess
-      y = i .other
-      ss : List Segment
-      ss = segmentsOf cs
-      g : List Pair
-      g = closureOf ss
 
   -- the list holds the races and nothing else
   pub races-elim : {r : Race} → List·Memᴰ r (racesOf cs) → IsRace cs r

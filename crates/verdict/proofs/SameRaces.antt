@@ -1,15 +1,12 @@
 -- Chunks in another order: the same segments, accesses, paths, races and judgement.
-use Prim.Native.Nat.{ℕ}
-use mathlib.Core.Path.{_≡_, refl, sym, _∙_, ap}
-use mathlib.Core.List.{List, [], _∷_, map, List·Memᴰ, List·Permᴰ, Permᴰ·symm}
+use mathlib.Core.Path.{_≡_, sym, _∙_, ap}
+use mathlib.Core.List.{List, map, List·Memᴰ, List·Permᴰ, Permᴰ·symm}
 use lib.ListN.{length, length-map}
-use Rattle.bundle.specs.Lists.{concatMap}
-use Rattle.bundle.specs.Chunks.{Chunk, fresh, commandsOf}
-use Rattle.bundle.specs.declared.command.Command.{Command}
+use Rattle.bundle.specs.Chunks.{Chunk, fresh}
 use Rattle.bundle.proofs.ListLaws.{perm-mem, perm-length, perm-concatMap, Distinct}
 use Rattle.bundle.proofs.Places.{unplaced, memberKey, commandsOf-unplaced}
-use Rattle.verdict.specs.Graph.{Node, Segment, Edge, Path, here, step, ofChunk, segmentsFrom, segmentsIn, segmentsOf}
-use Rattle.verdict.specs.Races.{NamedAccess, IsRace, accessesFrom, accessesIn, accessesOf, racesOf}
+use Rattle.verdict.specs.Graph.{Node, Segment, Path, here, step, ofChunk, segmentsFrom, segmentsIn, segmentsOf}
+use Rattle.verdict.specs.Races.{IsRace, accessesFrom, accessesIn, accessesOf, racesOf}
 use Rattle.verdict.specs.Judge.{judgementOf}
 use Rattle.verdict.specs.declared.race.Race.{Race}
 use Rattle.verdict.proofs.ListMore.{concatMap-map}

@@ -1,18 +1,17 @@
 -- Races put into their order: the same races, each before all that follow it.
-use Prim.Native.Nat.{ℕ}
-use mathlib.Core.Path.{_≡_, refl, sym, _∙_, ap}
-use mathlib.Core.Logic.{_⊎_, inl, inr, ⊎-elim}
+use mathlib.Core.Path.{_≡_, refl, sym}
+use mathlib.Core.Logic.{⊎-elim}
 use mathlib.Core.Bool.{Bool, true, false, cond}
 use mathlib.Core.List.{
-  List, [], _∷_, map, List·Memᴰ, List·Memᴰ·head, List·Memᴰ·tail, List·Memᴰ·not-nil, List·Memᴰ·cases-cons, Memᴰ·cast, Memᴰ·map, Memᴰ·of-map, List·Permᴰ, List·Permᴰ·nil, List·Permᴰ·cons, List·Permᴰ·swap, List·Permᴰ·trans, Permᴰ·refl, Permᴰ·symm
+  List, [], _∷_, map, List·Memᴰ, List·Memᴰ·head, List·Memᴰ·tail, List·Memᴰ·not-nil, List·Memᴰ·cases-cons, Memᴰ·cast, Memᴰ·map, List·Permᴰ, List·Permᴰ·nil, List·Permᴰ·cons, List·Permᴰ·swap, List·Permᴰ·trans, Permᴰ·refl, Permᴰ·symm
 }
 use lib.ListN.{length}
 use Rattle.bundle.proofs.Tests.{not-both}
-use Rattle.bundle.proofs.ListLaws.{perm-mem, perm-length, Distinct, distinct-nil, distinct-cons}
+use Rattle.bundle.proofs.ListLaws.{perm-mem, perm-length, Distinct, distinct-cons}
 use Rattle.verdict.specs.Races.{lexLess, raceKey, raceBelow, insertRace, inOrder}
 use Rattle.verdict.specs.Demand.{Ascending}
 use Rattle.verdict.specs.declared.race.Race.{Race}
-use Rattle.verdict.proofs.Lexical.{Compared, less, same, more, compare, less-irreflexive, less-trans, less-asymmetric}
+use Rattle.verdict.proofs.Lexical.{Compared, less, same, more, compare, less-trans, less-asymmetric}
 
 pub insert-perm : (r : Race) (qs : List Race) → List·Permᴰ (r ∷ qs) (insertRace r qs)
 unfolding insertRace
