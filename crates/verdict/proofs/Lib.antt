@@ -2,3 +2,12 @@
 pub mod Computing
 pub mod Examples
 pub mod Reachability
+pub mod Lexical
+pub mod Sorting
+pub mod ListMore
+pub mod Given
+pub mod AccessNames
+pub mod RaceList
+pub mod SameRaces
+pub mod Demand3
+pub mod NextRace

@@ -1,0 +1,241 @@
+-- The list of a bundle's races: each race once, in order, and nothing else.
+use Prim.Native.Nat.{ℕ, _<_}
+use mathlib.Core.Path.{_≡_, refl, sym, _∙_, ap}
+use mathlib.Core.Logic.{⊎-elim}
+use mathlib.Core.Bool.{Bool, true, false, cond, not, _&&_, _||_}
+use mathlib.Core.List.{List, [], _∷_, map, List·Memᴰ, List·Memᴰ·head, List·Memᴰ·not-nil, List·Memᴰ·eq-of-singleton}
+use mathlib.Core.Option.{Option, none, some}
+use Rattle.bundle.specs.Lists.{upTo, concatMap, fromOption}
+use Rattle.bundle.specs.Locks.{holds, commonLock}
+use Rattle.bundle.specs.Chunks.{Chunk}
+use Rattle.bundle.proofs.Tests.{both, and-left, and-right, or-cases, or-one, or-other, is-false, not-both, not-of-false, false-of-not}
+use Rattle.bundle.proofs.ListLaws.{any-elim, any-intro, upTo-elim, upTo-intro, concatMap-elim, concatMap-intro, Distinct, distinct-nil, distinct-cons}
+use Rattle.bundle.proofs.Places.{memberKey}
+use Rattle.order.specs.Ranges.{sharedByte}
+use Rattle.verdict.specs.Graph.{Pair, segmentsOf, closureOf, reaches}
+use Rattle.verdict.specs.Races.{NamedAccess, IsRace, accessesOf, nameKey, nameBelow, raceKey, writes, atomic, clashes, raceAt, raceOf, racesAmong, racesOf}
+use Rattle.verdict.specs.Demand.{Ascending}
+use Rattle.verdict.specs.declared.race.Race.{Race}
+use Rattle.verdict.proofs.ListMore.{distinct-concatMap}
+use Rattle.verdict.proofs.Given.{ExactTests}
+use Rattle.verdict.proofs.AccessNames.{accessKey, accesses-distinct}
+use Rattle.verdict.proofs.Lexical.{raceKey-tells}
+use Rattle.verdict.proofs.Sorting.{order-intro, order-elim, order-ascending}
+
+-- where a race of two accesses comes from
+pub record Found (closure : List Pair) (x y : NamedAccess) (r : Race) : Type 0 where
+  pub clash : clashes closure x y ≡ true
+  pub witness : ℕ
+  pub shared : sharedByte (x .access .range) (y .access .range) ≡ some witness
+  pub is : r ≡ raceAt x y witness
+
+module _ (closure : List Pair) (x y : NamedAccess) where
+  pub raceOf-elim : {r : Race} → List·Memᴰ r (raceOf closure x y) → Found closure x y r
+  unfolding raceOf
+  raceOf-elim {r} m = go (clashes closure x y) refl (sharedByte (x .access .range) (y .access .range)) refl m
+    where
+      go :
+        (t : Bool)
+        → clashes closure x y ≡ t
+        → (o : Option ℕ)
+        → sharedByte (x .access .range) (y .access .range) ≡ o
+        → List·Memᴰ r (cond t (fromOption [] (λ witness. raceAt x y witness ∷ []) o) [])
+        → Found closure x y r
+      go false p o q m′ = absurd (List·Memᴰ·not-nil m′)
+      go true p none q m′ = absurd (List·Memᴰ·not-nil m′)
+      go true p (some w) q m′ = record { clash = p; witness = w; shared = q; is = List·Memᴰ·eq-of-singleton m′ }
+
+  pub raceOf-intro : {r : Race} → Found closure x y r → List·Memᴰ r (raceOf closure x y)
+  unfolding raceOf
+  raceOf-intro f = rw (f .clash, f .shared) (List·Memᴰ·head (f .is))
+
+  pub raceOf-distinct : Distinct (map raceKey (raceOf closure x y))
+  unfolding raceOf
+  raceOf-distinct = go (clashes closure x y) (sharedByte (x .access .range) (y .access .range))
+    where
+      go :
+        (t : Bool) (o : Option ℕ)
+        → Distinct (map raceKey (cond t (fromOption [] (λ witness. raceAt x y witness ∷ []) o) []))
+      go false o = distinct-nil
+      go true none = distinct-nil
+      go true (some w) = distinct-cons List·Memᴰ·not-nil distinct-nil
+
+  pub names-of : {r : Race} → List·Memᴰ r (raceOf closure x y) → (r .first ≡ x .name) × (r .second ≡ y .name)
+  unfolding raceAt
+  names-of m = let e = raceOf-elim m .is in (ap (λ (r : Race). r .first) e, ap (λ (r : Race). r .second) e)
+
+-- no two races have one key, if no two accesses have one name
+pub races-distinct : (closure : List Pair) (xs : List NamedAccess) → Distinct (map accessKey xs) → Distinct (map raceKey (racesAmong closure xs))
+unfolding racesAmong
+races-distinct closure xs d = distinct-concatMap accessKey among raceKey inner firsts xs d
+  where
+    among : NamedAccess → List Race
+    among x = concatMap (raceOf closure x) xs
+    first : {r : Race} (x : NamedAccess) → List·Memᴰ r (among x) → r .first ≡ x .name
+    first x m = let y = concatMap-elim (raceOf closure x) xs m in names-of closure x (y .source) (y .gives) .0
+    second : {r : Race} (x y : NamedAccess) → List·Memᴰ r (raceOf closure x y) → r .second ≡ y .name
+    second x y m = names-of closure x y m .1
+    inner : (x : NamedAccess) → Distinct (map raceKey (among x))
+    inner x =
+        distinct-concatMap accessKey (raceOf closure x) raceKey (raceOf-distinct closure x)
+        (λ y z r q m l e. ap nameKey (sym (second x y m) ∙ raceKey-tells r q e .2 ∙ second x z l))
+        xs d
+    firsts :
+      (x y : NamedAccess) (r q : Race)
+      → List·Memᴰ r (among x)
+      → List·Memᴰ q (among y)
+      → raceKey r ≡ raceKey q
+      → accessKey x ≡ accessKey y
+    firsts x y r q m l e = ap nameKey (sym (first x m) ∙ raceKey-tells r q e .1 ∙ first y l)
+
+pub races-ascending : (cs : List Chunk) → Distinct (map memberKey cs) → Ascending (racesOf cs)
+unfolding racesOf
+races-ascending cs d =
+    order-ascending (racesAmong (closureOf (segmentsOf cs)) (accessesOf cs))
+    (races-distinct (closureOf (segmentsOf cs)) (accessesOf cs) (accesses-distinct cs d))
+
+-- a test that fails is one that cannot hold
+pub refuted : {t : Bool} → t ≡ true → not t ≡ true → ⊥
+refuted {t} p h = not-both p (false-of-not t h)
+
+pub fails : (t : Bool) → (t ≡ true → ⊥) → not t ≡ true
+fails t h = not-of-false (is-false t h)
+
+-- the test for a common lock is exact
+module _ (a b : ℕ) where
+  pub common-lock-intro : (lock : ℕ) → lock < 64 → holds lock a ≡ true → holds lock b ≡ true → commonLock a b ≡ true
+  unfolding commonLock
+  common-lock-intro lock h p q = any-intro (λ l. holds l a && holds l b) (upTo-intro 64 h) (both p q)
+
+  pub common-lock-elim :
+    commonLock a b ≡ true → (lock : ℕ) × (lock < 64) × (holds lock a ≡ true) × (holds lock b ≡ true)
+  unfolding commonLock
+  common-lock-elim e =
+      let f = any-elim (λ l. holds l a && holds l b) (upTo 64) e in
+      let l = f .element in
+      (l, upTo-elim 64 (f .present), and-left (holds l a) (holds l b) (f .passes), and-right (holds l a) (holds l b) (f .passes))
+
+-- the parts of the test for a race
+pub record Clash (closure : List Pair) (x y : NamedAccess) : Type 0 where
+  pub lower : nameBelow (x .name) (y .name) ≡ true
+  pub writing : (writes (x .access .kind) || writes (y .access .kind)) ≡ true
+  pub not-atomic : not (atomic (x .access .kind) && atomic (y .access .kind)) ≡ true
+  pub no-lock : not (commonLock (x .locks) (y .locks)) ≡ true
+  pub no-path : not (reaches closure (x .node) (y .node)) ≡ true
+  pub no-path-back : not (reaches closure (y .node) (x .node)) ≡ true
+
+module _ (closure : List Pair) (x y : NamedAccess) where
+  pub clash-elim : clashes closure x y ≡ true → Clash closure x y
+  unfolding clashes
+  clash-elim h6 =
+      let a : Bool = nameBelow (x .name) (y .name) in
+      let b : Bool = writes (x .access .kind) || writes (y .access .kind) in
+      let c : Bool = not (atomic (x .access .kind) && atomic (y .access .kind)) in
+      let d : Bool = not (commonLock (x .locks) (y .locks)) in
+      let e : Bool = not (reaches closure (x .node) (y .node)) in
+      let f : Bool = not (reaches closure (y .node) (x .node)) in
+      let h5 = and-left (a && b && c && d && e) f h6 in
+      let h4 = and-left (a && b && c && d) e h5 in
+      let h3 = and-left (a && b && c) d h4 in
+      let h2 = and-left (a && b) c h3 in
+      record
+        { lower = and-left a b h2
+        ; writing = and-right a b h2
+        ; not-atomic = and-right (a && b) c h3
+        ; no-lock = and-right (a && b && c) d h4
+        ; no-path = and-right (a && b && c && d) e h5
+        ; no-path-back = and-right (a && b && c && d && e) f h6
+        }
+
+  pub clash-intro : Clash closure x y → clashes closure x y ≡ true
+  unfolding clashes
+  clash-intro c = simp (c .lower, c .writing, c .not-atomic, c .no-lock, c .no-path, c .no-path-back)
+
+module _ (tests : ExactTests) (cs : List Chunk) where
+  -- two accesses found make a race, and a race is made so
+  pub found-race :
+    {x y : NamedAccess} {r : Race}
+    → List·Memᴰ x (accessesOf cs)
+    → List·Memᴰ y (accessesOf cs)
+    → Found (closureOf (segmentsOf cs)) x y r
+    → IsRace cs r
+  unfolding raceAt
+  found-race {x} {y} m l f =
+      let ss = segmentsOf cs in
+      let c = clash-elim (closureOf ss) x y (f .clash) in
+      let s = tests .shared-some (x .access .range) (y .access .range) (f .witness) (f .shared) in
+      rw (f .is)
+      (record
+        { one = x
+        ; other = y
+        ; one-in = m
+        ; other-in = l
+        ; lower = c .lower
+        ; writing = or-cases (writes (x .access .kind)) (writes (y .access .kind)) (c .writing)
+        ; not-atomic = λ p q. refuted (both p q) (c .not-atomic)
+        ; no-lock = λ lock h p q. refuted (common-lock-intro (x .locks) (y .locks) lock h p q) (c .no-lock)
+        ; no-path = λ p. refuted (tests .reach-complete ss (x .node) (y .node) p) (c .no-path)
+        ; no-path-back = λ p. refuted (tests .reach-complete ss (y .node) (x .node) p) (c .no-path-back)
+        ; one-touches = s .one
+        ; other-touches = s .other
+        ; lowest = s .lowest
+        ; first-name = refl
+        ; first-site = refl
+        ; second-name = refl
+        ; second-site = refl
+        })
+
+  pub race-found : {r : Race} (i : IsRace cs r) → Found (closureOf (segmentsOf cs)) (i .one) (i .other) r
+  unfolding raceAt
+  race-found {r} i =
+      let x = i .one in
+      let y = i .other in
+      let ss = segmentsOf cs in
+      let a = atomic (x .access .kind) in
+      let b = atomic (y .access .kind) in
+      record
+        { clash =
+            clash-intro (closureOf ss) x y
+            (record
+              { lower = i .lower
+              ; writing = ⊎-elim (or-one (writes (y .access .kind))) (or-other (writes (x .access .kind))) (i .writing)
+              ; not-atomic = fails (a && b) (λ h. i .not-atomic (and-left a b h) (and-right a b h))
+              ; no-lock =
+                  fails (commonLock (x .locks) (y .locks))
+                  (λ h. let l = common-lock-elim (x .locks) (y .locks) h in i .no-lock (l .0) (l .1) (l .2) (l .3))
+              ; no-path = fails _ (λ h. i .no-path (tests .reach-sound ss (x .node) (y .node) h))
+              ; no-path-back = fails _ (λ h. i .no-path-back (tests .reach-sound ss (y .node) (x .node) h))
+              })
+        ; witness = r .witness
+        ; shared =
+            tests .shared-is (x .access .range) (y .access .range) (r .witness)
+            (record { one = i .one-touches; other = i .other-touches; lowest = i .lowest })
+        ; is =
+            λ j.
+              record
+                { witness = r .witness
+                ; first = i .first-name j
+                ; «first_site» = i .first-site j
+                ; second = i .second-name j
+                ; «second_site» = i .second-site j
+                }
+        }
+
+  -- the list holds the races and nothing else
+  pub races-elim : {r : Race} → List·Memᴰ r (racesOf cs) → IsRace cs r
+  unfolding racesOf racesAmong
+  races-elim m =
+      let g = closureOf (segmentsOf cs) in
+      let xs = accessesOf cs in
+      let x = concatMap-elim (λ x. concatMap (raceOf g x) xs) xs (order-elim (racesAmong g xs) m) in
+      let y = concatMap-elim (raceOf g (x .source)) xs (x .gives) in
+      found-race (x .present) (y .present) (raceOf-elim g (x .source) (y .source) (y .gives))
+
+  pub races-intro : {r : Race} → IsRace cs r → List·Memᴰ r (racesOf cs)
+  unfolding racesOf racesAmong
+  races-intro i =
+      let g = closureOf (segmentsOf cs) in
+      let xs = accessesOf cs in
+      order-intro (racesAmong g xs)
+      (concatMap-intro (λ x. concatMap (raceOf g x) xs) (i .one-in)
+        (concatMap-intro (raceOf g (i .one)) (i .other-in) (raceOf-intro g (i .one) (i .other) (race-found i))))

@@ -1,0 +1,109 @@
+-- Chunks in another order: the same segments, accesses, paths, races and judgement.
+use mathlib.Core.Path.{_≡_, sym, _∙_, ap}
+use mathlib.Core.List.{List, map, List·Memᴰ, List·Permᴰ, Permᴰ·symm}
+use lib.ListN.{length, length-map}
+use Rattle.bundle.specs.Chunks.{Chunk, fresh}
+use Rattle.bundle.proofs.ListLaws.{perm-mem, perm-length, perm-concatMap, Distinct}
+use Rattle.bundle.proofs.Places.{unplaced, memberKey, commandsOf-unplaced}
+use Rattle.verdict.specs.Graph.{Node, Segment, Path, here, step, ofChunk, segmentsFrom, segmentsIn, segmentsOf}
+use Rattle.verdict.specs.Races.{IsRace, accessesFrom, accessesIn, accessesOf, racesOf}
+use Rattle.verdict.specs.Judge.{judgementOf}
+use Rattle.verdict.specs.declared.race.Race.{Race}
+use Rattle.verdict.proofs.ListMore.{concatMap-map}
+use Rattle.verdict.proofs.Given.{ExactTests}
+use Rattle.verdict.proofs.Sorting.{ascending-unique}
+use Rattle.verdict.proofs.RaceList.{races-elim, races-intro, races-ascending}
+
+-- segments and accesses do not see the offsets
+pub segmentsIn-unplaced : (c : Chunk) → segmentsIn (unplaced c) ≡ segmentsIn c
+unfolding segmentsIn unplaced
+segmentsIn-unplaced c = ap (segmentsFrom (c .team) (c .member) ofChunk fresh) (commandsOf-unplaced c)
+
+pub accessesIn-unplaced : (c : Chunk) → accessesIn (unplaced c) ≡ accessesIn c
+unfolding accessesIn unplaced
+accessesIn-unplaced c = ap (accessesFrom (c .team) (c .member) 0 fresh) (commandsOf-unplaced c)
+
+pub segments-unplaced : (cs : List Chunk) → segmentsOf (map unplaced cs) ≡ segmentsOf cs
+unfolding segmentsOf
+segments-unplaced cs = concatMap-map segmentsIn unplaced segmentsIn-unplaced cs
+
+pub accesses-unplaced : (cs : List Chunk) → accessesOf (map unplaced cs) ≡ accessesOf cs
+unfolding accessesOf
+accesses-unplaced cs = concatMap-map accessesIn unplaced accessesIn-unplaced cs
+
+-- a path needs only its segments
+pub path-among :
+  {ss us : List Segment} {a b : Node} → ((s : Segment) → List·Memᴰ s ss → List·Memᴰ s us) → Path ss a b → Path us a b
+path-among f here = here
+path-among f (step p e) =
+    step (path-among f p)
+    (record
+      { from = e .from
+      ; to = e .to
+      ; from-in = f (e .from) (e .from-in)
+      ; to-in = f (e .to) (e .to-in)
+      ; from-node = e .from-node
+      ; to-node = e .to-node
+      ; joined = e .joined
+      })
+
+abbrev pub SameChunks : List Chunk → List Chunk → Type 0
+SameChunks cs ds = List·Permᴰ (map unplaced cs) (map unplaced ds)
+
+pub segments-perm : (cs ds : List Chunk) → SameChunks cs ds → List·Permᴰ (segmentsOf cs) (segmentsOf ds)
+unfolding segmentsOf
+segments-perm cs ds d = rw (segments-unplaced cs, segments-unplaced ds) at (perm-concatMap segmentsIn d)
+
+pub accesses-perm : (cs ds : List Chunk) → SameChunks cs ds → List·Permᴰ (accessesOf cs) (accessesOf ds)
+unfolding accessesOf
+accesses-perm cs ds d = rw (accesses-unplaced cs, accesses-unplaced ds) at (perm-concatMap accessesIn d)
+
+-- what holds of the one holds of the other: for the way back give Permᴰ·symm
+pub same-path : (cs ds : List Chunk) → SameChunks cs ds → {a b : Node} → Path (segmentsOf cs) a b → Path (segmentsOf ds) a b
+same-path cs ds same p = path-among (λ s m. perm-mem (segments-perm cs ds same) m) p
+
+pub same-race : (cs ds : List Chunk) → SameChunks cs ds → {r : Race} → IsRace cs r → IsRace ds r
+same-race cs ds same i =
+    record
+      { one = i .one
+      ; other = i .other
+      ; one-in = perm-mem (accesses-perm cs ds same) (i .one-in)
+      ; other-in = perm-mem (accesses-perm cs ds same) (i .other-in)
+      ; lower = i .lower
+      ; writing = i .writing
+      ; not-atomic = i .not-atomic
+      ; no-lock = i .no-lock
+      ; no-path = λ p. i .no-path (same-path ds cs (Permᴰ·symm same) p)
+      ; no-path-back = λ p. i .no-path-back (same-path ds cs (Permᴰ·symm same) p)
+      ; one-touches = i .one-touches
+      ; other-touches = i .other-touches
+      ; lowest = i .lowest
+      ; first-name = i .first-name
+      ; first-site = i .first-site
+      ; second-name = i .second-name
+      ; second-site = i .second-site
+      }
+
+-- the counts
+pub same-chunk-count : (cs ds : List Chunk) → SameChunks cs ds → length cs ≡ length ds
+same-chunk-count cs ds same = sym (length-map cs unplaced) ∙ perm-length same ∙ length-map ds unplaced
+
+pub same-segment-count : (cs ds : List Chunk) → SameChunks cs ds → length (segmentsOf cs) ≡ length (segmentsOf ds)
+same-segment-count cs ds same = perm-length (segments-perm cs ds same)
+
+pub same-access-count : (cs ds : List Chunk) → SameChunks cs ds → length (accessesOf cs) ≡ length (accessesOf ds)
+same-access-count cs ds same = perm-length (accesses-perm cs ds same)
+
+module _
+  (tests : ExactTests) (cs ds : List Chunk) (same : SameChunks cs ds)
+  (members : Distinct (map memberKey cs)) (members′ : Distinct (map memberKey ds)) where
+  pub same-races : racesOf cs ≡ racesOf ds
+  same-races =
+      ascending-unique (races-ascending cs members) (races-ascending ds members′)
+      (λ r m. races-intro tests ds (same-race cs ds same (races-elim tests cs m)))
+      (λ r m. races-intro tests cs (same-race ds cs (Permᴰ·symm same) (races-elim tests ds m)))
+
+  pub same-judgement : judgementOf cs ≡ judgementOf ds
+  unfolding judgementOf
+  same-judgement =
+      rw (same-races, same-chunk-count cs ds same, same-segment-count cs ds same, same-access-count cs ds same)
