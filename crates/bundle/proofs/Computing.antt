@@ -1,10 +1,10 @@
 -- To unfold this is to unfold all definitions of the crate, so that examples compute.
-use Rattle.bundle.specs.Check.{forkHere, forksFrom, forksIn, forksOf, forkOf, sizeOf, depthFrom, depthOf, barriersOf, placeIf, forkedBefore, strayChunks, lacksChunk, missingChunks, tooDeep, unlikeBarriers, refusedAt, shapeOf, checkOf, findOf}
+use Rattle.bundle.specs.Check.{forkHere, forksFrom, forksIn, forksOf, forkOf, sizeOf, depthFrom, depthOf, barriersOf, failing, forkedBefore, stray, lacksChunk, unlikeFirst, refusedAt, shapeOf, checkOf, findOf}
 use Rattle.bundle.specs.Chunks.{fresh, afterBarrier, afterJoin, afterAcquire, afterRelease, afterCommand, afterCommands, segmentNumber, follow, frontFrom, frontOf, gatherOne, gather, chunksOf, commandsOf, partOf, isOf, chunkOf}
 use Rattle.bundle.specs.Commands.{lowFirst, numberAt, kindOf, byteOf, widthOf, accessAt, commandAt, bytesOf, sizeOk, strideOk, lastByte, rangeOk, inRange, decodeByte, decodeAt, ranged, readAt, written, putAt}
 use Rattle.bundle.specs.Locks.{holds, acquired, released, commonLock}
 use Rattle.bundle.specs.Scan.{isMember, misplaced, aboveOwnTeam, misusesLock, opensSegment, addsAccess, tooMany, faultOf, start, onward, scanned, finish, walk, scanOf}
 
 unfoldable pub bundle-computes : Unit {0}
-unfolding forkHere forksFrom forksIn forksOf forkOf sizeOf depthFrom depthOf barriersOf placeIf forkedBefore strayChunks lacksChunk missingChunks tooDeep unlikeBarriers refusedAt shapeOf checkOf findOf fresh afterBarrier afterJoin afterAcquire afterRelease afterCommand afterCommands segmentNumber follow frontFrom frontOf gatherOne gather chunksOf commandsOf partOf isOf chunkOf lowFirst numberAt kindOf byteOf widthOf accessAt commandAt bytesOf sizeOk strideOk lastByte rangeOk inRange decodeByte decodeAt ranged readAt written putAt holds acquired released commonLock isMember misplaced aboveOwnTeam misusesLock opensSegment addsAccess tooMany faultOf start onward scanned finish walk scanOf
+unfolding forkHere forksFrom forksIn forksOf forkOf sizeOf depthFrom depthOf barriersOf failing forkedBefore stray lacksChunk unlikeFirst refusedAt shapeOf checkOf findOf fresh afterBarrier afterJoin afterAcquire afterRelease afterCommand afterCommands segmentNumber follow frontFrom frontOf gatherOne gather chunksOf commandsOf partOf isOf chunkOf lowFirst numberAt kindOf byteOf widthOf accessAt commandAt bytesOf sizeOk strideOk lastByte rangeOk inRange decodeByte decodeAt ranged readAt written putAt holds acquired released commonLock isMember misplaced aboveOwnTeam misusesLock opensSegment addsAccess tooMany faultOf start onward scanned finish walk scanOf
 bundle-computes = tt

@@ -7,7 +7,7 @@ use mathlib.Core.Option.{Option, none, some}
 use lib.ListN.{length, getD}
 use lib.Dec.{eqb, ltb, leb}
 use Rattle.bundle.specs.Answer.{Answer, gives, refuses, whenGiven}
-use Rattle.bundle.specs.Lists.{upTo, any, all, first, concat, concatMap, fromOption, among}
+use Rattle.bundle.specs.Lists.{upTo, any, all, first, concat, concatMap, fromOption}
 use Rattle.bundle.specs.Chunks.{Placed, Chunk, fresh, afterCommand, afterCommands, chunksOf, commandsOf, partOf, isOf, chunkOf}
 use Rattle.bundle.specs.Scan.{scanOf}
 use Rattle.bundle.specs.declared.chunk.ChunkState.{ChunkState}
@@ -63,56 +63,46 @@ depthOf fs t = depthFrom (suc t) fs t
 unfoldable pub barriersOf : Chunk → ℕ
 barriersOf c = afterCommands fresh (commandsOf c) .barriers
 
--- the places of what fails a test
-unfoldable pub placeIf : Bool → ℕ → List ℕ
-placeIf t p = cond t (p ∷ []) []
+-- the places, in the order of the bytes, of the elements that fail a test; the test sees the elements before too
+unfoldable pub failing : {A : Type 0} → (A → ℕ) → (List A → A → Bool) → List A → List A → List ℕ
+failing place fails before [] = []
+failing place fails before (x ∷ xs) =
+    cond (fails before x) (place x ∷ failing place fails (x ∷ before) xs) (failing place fails (x ∷ before) xs)
 
 -- 8: a team forked before, at the later REGION
-unfoldable pub forkedBefore : List ℕ → List Fork → List ℕ
-forkedBefore teams [] = []
-forkedBefore teams (f ∷ fs) = placeIf (among (f .team) teams) (f .place) ++ forkedBefore (f .team ∷ teams) fs
+unfoldable pub forkedBefore : List Fork → Fork → Bool
+forkedBefore before f = any (λ (g : Fork). eqb (g .team) (f .team)) before
 
 -- 9: a chunk of a team other than 0 that is never forked, a member number not below the size, or a second chunk of one member
-unfoldable pub strayChunks : List Fork → List Chunk → List Chunk → List ℕ
-strayChunks fs before [] = []
-strayChunks fs before (c ∷ cs) =
-    placeIf (leb (sizeOf fs (c .team)) (c .member) || any (isOf (c .team) (c .member)) before) (c .place)
-    ++ strayChunks fs (c ∷ before) cs
+unfoldable pub stray : List Fork → List Chunk → Chunk → Bool
+stray fs before c = leb (sizeOf fs (c .team)) (c .member) || any (isOf (c .team) (c .member)) before
 
 -- 10: a forked team lacking a chunk, at its REGION, or no root chunk, at 0
 unfoldable pub lacksChunk : List Chunk → ℕ → ℕ → Bool
 lacksChunk cs t size = not (all (λ m. any (isOf t m) cs) (upTo size))
 
-unfoldable pub missingChunks : List Chunk → List Fork → List ℕ
-missingChunks cs fs =
-    placeIf (lacksChunk cs 0 1) 0 ++ concatMap (λ (f : Fork). placeIf (lacksChunk cs (f .team) (f .size)) (f .place)) fs
-
--- 11: a team too deep: "Teams nest at most 4 deep below the root"
-unfoldable pub tooDeep : List Fork → List ℕ
-tooDeep fs = concatMap (λ (f : Fork). placeIf (ltb 4 (depthOf fs (f .team))) (f .place)) fs
-
 -- 12: a barrier count unlike member 0's
-unfoldable pub unlikeBarriers : List Chunk → List ℕ
-unlikeBarriers cs =
-    concatMap
-    (λ (c : Chunk).
-      placeIf (not (eqb (barriersOf c) (fromOption 0 barriersOf (chunkOf cs (c .team) 0)))) (c .place))
-    cs
+unfoldable pub unlikeFirst : List Chunk → Chunk → Bool
+unlikeFirst cs c = not (eqb (barriersOf c) (fromOption 0 barriersOf (chunkOf cs (c .team) 0)))
 
--- the places of a number are in the order of the bytes, so the first is the lowest
+-- the first place is the lowest
 unfoldable pub refusedAt : ℕ → List ℕ → Answer (Unit {0}) → Answer (Unit {0})
 refusedAt n [] next = next
 refusedAt n (p ∷ ps) next = refuses n p
 
--- 8 to 12: "the lowest number, then lowest offset"
+-- 8 to 12: "the lowest number, then lowest offset"; 11 is a team too deep: "Teams nest at most 4 deep below the root"
 unfoldable pub shapeOf : List Chunk → Answer (Unit {0})
 shapeOf cs =
-    refusedAt 8 (forkedBefore [] (forksOf cs))
-    (refusedAt 9 (strayChunks (forksOf cs) [] cs)
-    (refusedAt 10 (missingChunks cs (forksOf cs))
-    (refusedAt 11 (tooDeep (forksOf cs))
-    (refusedAt 12 (unlikeBarriers cs)
-    (gives tt)))))
+    let fs = forksOf cs in
+    let atFork : Fork → ℕ = λ f. f .place in
+    let atChunk : Chunk → ℕ = λ c. c .place in
+    refusedAt 8 (failing atFork forkedBefore [] fs)
+    (refusedAt 9 (failing atChunk (stray fs) [] cs)
+    (refusedAt 10 (cond (lacksChunk cs 0 1) (0 ∷ []) [])
+    (refusedAt 10 (failing atFork (λ before f. lacksChunk cs (f .team) (f .size)) [] fs)
+    (refusedAt 11 (failing atFork (λ before f. ltb 4 (depthOf fs (f .team))) [] fs)
+    (refusedAt 12 (failing atChunk (λ before c. unlikeFirst cs c) [] cs)
+    (gives tt))))))
 
 -- "Check a bundle"
 unfoldable pub checkOf : List ℕ → Answer (Unit {0})
