@@ -30,9 +30,9 @@ pub data Body : List Placed → Type 0 where
   goes : {p : Placed} {ps : List Placed} → plain (p .command) ≡ true → Body ps → Body (p ∷ ps)
 
 pub gather-plain :
-  (p : Placed) (c : Command) (g : Gathered)
-  → plain c ≡ true
-  → gatherOne p c g ≡ record { body = p ∷ g .body; past = g .past; chunks = g .chunks }
+    (p : Placed) (c : Command) (g : Gathered)
+    → plain c ≡ true
+    → gatherOne p c g ≡ record { body = p ∷ g .body; past = g .past; chunks = g .chunks }
 unfolding plain gatherOne
 gather-plain p (Com.Member t m) g e = false-is-true e
 gather-plain p Com.End g e = false-is-true e
@@ -43,9 +43,9 @@ gather-plain p (Com.Release l) g e = refl
 gather-plain p (Com.Access a) g e = refl
 
 pub gather-body :
-  {ps : List Placed} (rest : List Placed)
-  → Body ps
-  → gather (ps ++ rest) ≡ record { body = ps; past = gather ps .past; chunks = gather rest .chunks }
+    {ps : List Placed} (rest : List Placed)
+    → Body ps
+    → gather (ps ++ rest) ≡ record { body = ps; past = gather ps .past; chunks = gather rest .chunks }
 unfolding gather gatherOne
 gather-body rest (ends e) = rw e
 gather-body rest (goes {p = p} {ps = ps} e b) =
@@ -97,57 +97,57 @@ unfolding gather gatherOne placedOf
 member-behind p t m ps e i =
     let here : p ≡ record { at = p .at; command = Com.Member t m } = ap (λ (c : Command). record { at = p .at; command = c }) e in
     rw e
-    (record
-      { parts = rw here (ap (λ (l : List Placed). record { at = p .at; command = Com.Member t m } ∷ l) (i .parts))
-      ; formed =
+    (record {
+      parts = rw here (ap (λ (l : List Placed). record { at = p .at; command = Com.Member t m } ∷ l) (i .parts));
+      formed =
           λ c l.
           ⊎-elim
           (λ q. rw q (record { body-ok = i .body-ok; past-ok = i .past-ok }))
           (i .formed c)
-          (List·Memᴰ·cases-cons l)
-      })
+          (List·Memᴰ·cases-cons l);
+    })
 
 end-behind : (p : Placed) (ps : List Placed) → p .command ≡ Com.End → Outside ps → Inside (p ∷ ps)
 unfolding gather gatherOne
 end-behind p ps e o =
     rw e
-    (record
-      { parts = ap (λ (l : List Placed). record { at = p .at; command = Com.End } ∷ l) (o .parts)
-      ; body-ok = ends refl
-      ; past-ok = refl
-      ; formed = o .formed
-      })
+    (record {
+      parts = ap (λ (l : List Placed). record { at = p .at; command = Com.End } ∷ l) (o .parts);
+      body-ok = ends refl;
+      past-ok = refl;
+      formed = o .formed;
+    })
 
 plain-behind : (p : Placed) (ps : List Placed) → plain (p .command) ≡ true → Inside ps → Inside (p ∷ ps)
 unfolding gather
 plain-behind p ps e i =
-    record
-      { parts = rw (here) (ap (λ (l : List Placed). p ∷ l) (i .parts))
-      ; body-ok = rw (here) (goes e (i .body-ok))
-      ; past-ok = rw (here, gather-plain p (p .command) (gather (gather ps .body)) e) (i .past-ok)
-      ; formed = λ c m. i .formed c (rw here at m)
-      }
+    record {
+      parts = rw (here) (ap (λ (l : List Placed). p ∷ l) (i .parts));
+      body-ok = rw (here) (goes e (i .body-ok));
+      past-ok = rw (here, gather-plain p (p .command) (gather (gather ps .body)) e) (i .past-ok);
+      formed = λ c m. i .formed c (rw here at m);
+    }
   where
     here : gatherOne p (p .command) (gather ps) ≡ record { body = p ∷ gather ps .body; past = gather ps .past; chunks = gather ps .chunks }
     here = gather-plain p (p .command) (gather ps) e
 
 plain-step :
-  (i : Bool) (p : Placed) (ps : List Placed) (c : Command)
-  → p .command ≡ c
-  → plain c ≡ true
-  → not (not i) ≡ true
-  → Behind i ps
-  → Behind i (p ∷ ps)
+    (i : Bool) (p : Placed) (ps : List Placed) (c : Command)
+    → p .command ≡ c
+    → plain c ≡ true
+    → not (not i) ≡ true
+    → Behind i ps
+    → Behind i (p ∷ ps)
 plain-step true p ps c e h q b = plain-behind p ps (ap plain e ∙ h) b
 plain-step false p ps c e h q b = false-is-true q
 
 -- by the command: where it stands, and where the next stands
 step-behind :
-  (k : Scan) (p : Placed) (ps : List Placed) (c : Command)
-  → p .command ≡ c
-  → not (misplaced k c) ≡ true
-  → Behind (uncounted (scanned k c) .inside) ps
-  → Behind (k .inside) (p ∷ ps)
+    (k : Scan) (p : Placed) (ps : List Placed) (c : Command)
+    → p .command ≡ c
+    → not (misplaced k c) ≡ true
+    → Behind (uncounted (scanned k c) .inside) ps
+    → Behind (k .inside) (p ∷ ps)
 unfolding misplaced isMember uncounted scanned onward plain
 step-behind k p ps (Com.Member t m) e h b = go (k .inside) h
   where

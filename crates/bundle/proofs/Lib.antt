@@ -12,3 +12,5 @@ pub mod Gathering
 pub mod ScanChunks
 pub mod Printing
 pub mod Settling
+pub mod Failing
+pub mod Shape

@@ -4,7 +4,31 @@ use mathlib.Core.Path.{_≡_, refl, sym, _∙_, ap}
 use mathlib.Core.Logic.{_⊎_, inl, inr, ⊎-elim}
 use mathlib.Core.Bool.{Bool, true, false, cond, _&&_, _||_}
 use mathlib.Core.List.{
-  List, [], _∷_, _++_, map, append-assoc, List·Memᴰ, List·Memᴰ·head, List·Memᴰ·tail, List·Memᴰ·not-nil, List·Memᴰ·cases-cons, Memᴰ·cast, Memᴰ·append-left, Memᴰ·append-right, List·Memᴰ·append-cases, List·Memᴰ·eq-of-singleton, List·Permᴰ, List·Permᴰ·nil, List·Permᴰ·cons, List·Permᴰ·swap, List·Permᴰ·trans, Permᴰ·refl, Permᴰ·append-left, Permᴰ·append-right, List·Permᴰ·append-comm
+  List,
+  [],
+  _∷_,
+  _++_,
+  map,
+  append-assoc,
+  List·Memᴰ,
+  List·Memᴰ·head,
+  List·Memᴰ·tail,
+  List·Memᴰ·not-nil,
+  List·Memᴰ·cases-cons,
+  Memᴰ·cast,
+  Memᴰ·append-left,
+  Memᴰ·append-right,
+  List·Memᴰ·append-cases,
+  List·Memᴰ·eq-of-singleton,
+  List·Permᴰ,
+  List·Permᴰ·nil,
+  List·Permᴰ·cons,
+  List·Permᴰ·swap,
+  List·Permᴰ·trans,
+  Permᴰ·refl,
+  Permᴰ·append-left,
+  Permᴰ·append-right,
+  List·Permᴰ·append-comm,
 }
 use mathlib.Core.Option.{Option, none, some}
 use native.Mathlib.Omega.{arith}
@@ -47,11 +71,11 @@ module _ {A : Type 0} where
   filter-elim p {x} (y ∷ ys) m = go (filter-elim p ys) (p y) refl m
     where
       go :
-        (List·Memᴰ x (filter p ys) → List·Memᴰ x ys × (p x ≡ true))
-        → (t : Bool)
-        → p y ≡ t
-        → List·Memᴰ x (cond t (y ∷ filter p ys) (filter p ys))
-        → List·Memᴰ x (y ∷ ys) × (p x ≡ true)
+          (List·Memᴰ x (filter p ys) → List·Memᴰ x ys × (p x ≡ true))
+          → (t : Bool)
+          → p y ≡ t
+          → List·Memᴰ x (cond t (y ∷ filter p ys) (filter p ys))
+          → List·Memᴰ x (y ∷ ys) × (p x ≡ true)
       go ih true e m′ =
           ⊎-elim
           (λ q. (List·Memᴰ·head q, ap p q ∙ e))
@@ -73,11 +97,11 @@ module _ {A : Type 0} where
   first-some p (y ∷ ys) {x} e = go (first-some p ys) (p y) refl e
     where
       go :
-        (first p ys ≡ some x → List·Memᴰ x ys × (p x ≡ true))
-        → (t : Bool)
-        → p y ≡ t
-        → cond t (some y) (first p ys) ≡ some x
-        → List·Memᴰ x (y ∷ ys) × (p x ≡ true)
+          (first p ys ≡ some x → List·Memᴰ x ys × (p x ≡ true))
+          → (t : Bool)
+          → p y ≡ t
+          → cond t (some y) (first p ys) ≡ some x
+          → List·Memᴰ x (y ∷ ys) × (p x ≡ true)
       go ih true h e′ = let q : y ≡ x = cc in (List·Memᴰ·head (sym q), ap p (sym q) ∙ h)
       go ih false h e′ = (List·Memᴰ·tail (ih e′ .0), ih e′ .1)
 
@@ -86,10 +110,10 @@ module _ {A : Type 0} where
   first-of p (y ∷ ys) e = go (first-of p ys) (p y) refl
     where
       go :
-        (any p ys ≡ true → (x : A) × (first p ys ≡ some x))
-        → (t : Bool)
-        → p y ≡ t
-        → (x : A) × (cond t (some y) (first p ys) ≡ some x)
+          (any p ys ≡ true → (x : A) × (first p ys ≡ some x))
+          → (t : Bool)
+          → p y ≡ t
+          → (x : A) × (cond t (some y) (first p ys) ≡ some x)
       go ih true h = (y, refl)
       go ih false h = ih (⊎-elim (λ l. not-both l h) (λ l. l) (or-cases (p y) (any p ys) e))
 
@@ -108,10 +132,10 @@ module _ {A : Type 0} where
       ⊎-elim
       (λ q. List·Memᴰ·tail (List·Memᴰ·head (q ∙ e₁)))
       (λ l.
-        ⊎-elim
-        (λ q. List·Memᴰ·head (q ∙ e₂))
-        (λ l′. List·Memᴰ·tail (List·Memᴰ·tail l′))
-        (List·Memᴰ·cases-cons l))
+      ⊎-elim
+      (λ q. List·Memᴰ·head (q ∙ e₂))
+      (λ l′. List·Memᴰ·tail (List·Memᴰ·tail l′))
+      (List·Memᴰ·cases-cons l))
       (List·Memᴰ·cases-cons m)
   perm-mem (List·Permᴰ·trans d₁ d₂) m = perm-mem d₂ (perm-mem d₁ m)
 
@@ -133,7 +157,7 @@ module _ {A : Type 0} where
   distinct-tail (distinct-cons h d) = d
 
   pub distinct-append :
-    {xs ys : List A} → Distinct xs → Distinct ys → ((x : A) → List·Memᴰ x xs → List·Memᴰ x ys → ⊥) → Distinct (xs ++ ys)
+      {xs ys : List A} → Distinct xs → Distinct ys → ((x : A) → List·Memᴰ x xs → List·Memᴰ x ys → ⊥) → Distinct (xs ++ ys)
   distinct-append distinct-nil e apart = e
   distinct-append (distinct-cons {x = x} {xs = xs} h d) e apart =
       distinct-cons
@@ -147,6 +171,7 @@ upTo-elim (suc n) {k} m = ⊎-elim (λ l. below l (upTo-elim n l)) last (List·M
   where
     below : List·Memᴰ k (upTo n) → k < n → k < suc n
     below l h = omega arith
+
     last : List·Memᴰ k (n ∷ []) → k < suc n
     last l = let q : k ≡ n = List·Memᴰ·eq-of-singleton l in omega arith
 
@@ -156,6 +181,7 @@ upTo-intro (suc n) {k} h = go (λ l. upTo-intro n l) (decide (eqb k n))
   where
     lower : (k ≡ n → ⊥) → k < n
     lower ne = omega arith
+
     go : (k < n → List·Memᴰ k (upTo n)) → (eqb k n ≡ true) ⊎ (eqb k n ≡ false) → List·Memᴰ k (upTo n ++ (n ∷ []))
     go ih (inl e) = Memᴰ·append-right (upTo n) (List·Memᴰ·head (eqb-true k n e))
     go ih (inr e) = Memᴰ·append-left (n ∷ []) (ih (lower (λ q. not-both (eq-eqb k n q) e)))

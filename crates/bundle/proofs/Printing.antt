@@ -43,13 +43,13 @@ placed-append at (c ∷ cs) ds =
     ap (λ (l : List Placed). record { at = at; command = c } ∷ l)
     (placed-append (at + length (bytesOf c)) cs ds
     ∙ ap (λ (n : ℕ). placedFrom (at + length (bytesOf c)) cs ++ placedFrom n ds)
-      (rw length-append (add-assoc at (length (bytesOf c)) (length (concatMap bytesOf cs)))))
+    (rw length-append (add-assoc at (length (bytesOf c)) (length (concatMap bytesOf cs)))))
 
 -- what is printed decodes to itself
 pub decode-printed :
-  (p q : List ℕ) (c : Command)
-  → inRange c ≡ true
-  → decodeAt (p ++ (bytesOf c ++ q)) (length p) ≡ gives (record { command = c; next = length p + length (bytesOf c) })
+    (p q : List ℕ) (c : Command)
+    → inRange c ≡ true
+    → decodeAt (p ++ (bytesOf c ++ q)) (length p) ≡ gives (record { command = c; next = length p + length (bytesOf c) })
 unfolding written
 decode-printed p q c r =
     let s = p ++ (bytesOf c ++ q) in
@@ -58,13 +58,13 @@ decode-printed p q c r =
     read-decodes s (length p) (record { command = c; next = length p + w }) (rw whole at here) .0
   where
     whole :
-      take (length p) (p ++ (bytesOf c ++ q)) ++ bytesOf c ++ drop (length p + length (bytesOf c)) (p ++ (bytesOf c ++ q))
-      ≡ p ++ (bytesOf c ++ q)
+        take (length p) (p ++ (bytesOf c ++ q)) ++ bytesOf c ++ drop (length p + length (bytesOf c)) (p ++ (bytesOf c ++ q))
+        ≡ p ++ (bytesOf c ++ q)
     whole =
         rw (
           take-append-seam p (bytesOf c ++ q),
           drop-append-add p (bytesOf c ++ q) (length (bytesOf c)),
-          drop-append-seam (bytesOf c) q
+          drop-append-seam (bytesOf c) q,
         )
         (append-assoc p (bytesOf c) q)
 
@@ -79,10 +79,10 @@ unfolding frontFrom
 front-goes fuel s at h = rw (lt-leb (length s) at h)
 
 pub front-printed :
-  (fuel : ℕ) (p : List ℕ) (cs : List Command)
-  → ((c : Command) → List·Memᴰ c cs → inRange c ≡ true)
-  → length (printed cs) ≤ fuel
-  → frontFrom fuel (p ++ printed cs) (length p)
+    (fuel : ℕ) (p : List ℕ) (cs : List Command)
+    → ((c : Command) → List·Memᴰ c cs → inRange c ≡ true)
+    → length (printed cs) ≤ fuel
+    → frontFrom fuel (p ++ printed cs) (length p)
     ≡ record { placed = placedFrom (length p) cs; stop = gives (length p + length (printed cs)) }
 unfolding placedFrom printed
 front-printed fuel p [] h f =
@@ -99,26 +99,31 @@ front-printed (suc fuel) p (c ∷ cs) h f =
   where
     w : ℕ
     w = length (bytesOf c)
+
     s : List ℕ
     s = p ++ (bytesOf c ++ concatMap bytesOf cs)
+
     end : ℕ
     end = length p + length (bytesOf c ++ concatMap bytesOf cs)
+
     same-end : length p + w + length (concatMap bytesOf cs) ≡ end
     same-end = rw length-append (add-assoc (length p) w (length (concatMap bytesOf cs)))
+
     inside : length p < length s
     inside = let b = bytes-some c in simp length-append (omega arith)
+
     goes :
-      frontFrom fuel (p ++ bytesOf c ++ printed cs) (length (p ++ bytesOf c))
-      ≡ record { placed = placedFrom (length (p ++ bytesOf c)) cs; stop = gives (length (p ++ bytesOf c) + length (printed cs)) }
-      → frontFrom (suc fuel) s (length p) ≡ record { placed = placedFrom (length p) (c ∷ cs); stop = gives end }
+        frontFrom fuel (p ++ bytesOf c ++ printed cs) (length (p ++ bytesOf c))
+        ≡ record { placed = placedFrom (length (p ++ bytesOf c)) cs; stop = gives (length (p ++ bytesOf c) + length (printed cs)) }
+        → frontFrom (suc fuel) s (length p) ≡ record { placed = placedFrom (length p) (c ∷ cs); stop = gives end }
     goes ih =
         front-goes fuel s (length p) inside
         ∙ ap (follow (frontFrom fuel s) (length p)) (decode-printed p (concatMap bytesOf cs) c (h c (List·Memᴰ·head refl)))
         ∙ unfold follow in
-          (ap
-            (λ (r : Front). record { placed = record { at = length p; command = c } ∷ r .placed; stop = r .stop })
-            ((rw (append-assoc p (bytesOf c) (concatMap bytesOf cs), length-append p (bytesOf c)) at ih)
-            ∙ ap (λ (n : ℕ). record { placed = placedFrom (length p + w) cs; stop = gives n }) same-end))
+        (ap
+        (λ (r : Front). record { placed = record { at = length p; command = c } ∷ r .placed; stop = r .stop })
+        ((rw (append-assoc p (bytesOf c) (concatMap bytesOf cs), length-append p (bytesOf c)) at ih)
+        ∙ ap (λ (n : ℕ). record { placed = placedFrom (length p + w) cs; stop = gives n }) same-end))
 
 -- a bundle that is read to its end, with commands in range, is its commands printed
 abbrev Prints : ℕ → List ℕ → ℕ → Front → Type 0
@@ -128,12 +133,12 @@ Prints past s at front =
     → drop at s ≡ printed (map (λ (p : Placed). p .command) (front .placed))
 
 prints-follow :
-  (s : List ℕ) (at past : ℕ) (rest : ℕ → Front)
-  → Bytes s
-  → ((next : ℕ) → at < next → next ≤ length s → Prints past s next (rest next))
-  → (d : Answer Taken)
-  → decodeAt s at ≡ d
-  → Prints past s at (follow rest at d)
+    (s : List ℕ) (at past : ℕ) (rest : ℕ → Front)
+    → Bytes s
+    → ((next : ℕ) → at < next → next ≤ length s → Prints past s next (rest next))
+    → (d : Answer Taken)
+    → decodeAt s at ≡ d
+    → Prints past s at (follow rest at d)
 unfolding follow printed
 prints-follow s at past rest bytes ih (gives t) q e h =
     let reads = decode-reads s at t q (h (t .command) (List·Memᴰ·head refl)) in
@@ -145,10 +150,10 @@ prints-follow s at past rest bytes ih (gives t) q e h =
 prints-follow s at past rest bytes ih (refuses n p) q e h = let z : _≡_ {A = ℕ} 0 1 = cc in absurd (omega arith)
 
 prints-from :
-  (fuel : ℕ) (s : List ℕ) (at past : ℕ)
-  → Bytes s
-  → length s ≤ at + fuel
-  → Prints past s at (frontFrom fuel s at)
+    (fuel : ℕ) (s : List ℕ) (at past : ℕ)
+    → Bytes s
+    → length s ≤ at + fuel
+    → Prints past s at (frontFrom fuel s at)
 prints-from zero s at past bytes f =
     subst (Prints past s at) (sym (front-stops zero s at (omega arith)))
     (λ e h. unfold printed in (drop-of-length-le s (rw add-zero at f)))
@@ -156,9 +161,9 @@ prints-from (suc fuel) s at past bytes f =
     go (decide (leb (length s) at)) (λ next h l. prints-from fuel s next past bytes (omega arith))
   where
     go :
-      (leb (length s) at ≡ true) ⊎ (leb (length s) at ≡ false)
-      → ((next : ℕ) → at < next → next ≤ length s → Prints past s next (frontFrom fuel s next))
-      → Prints past s at (frontFrom (suc fuel) s at)
+        (leb (length s) at ≡ true) ⊎ (leb (length s) at ≡ false)
+        → ((next : ℕ) → at < next → next ≤ length s → Prints past s next (frontFrom fuel s next))
+        → Prints past s at (frontFrom (suc fuel) s at)
     go (inl t) ih =
         subst (Prints past s at) (sym (front-stops (suc fuel) s at (leb-true (length s) at t)))
         (λ e h. unfold printed in (drop-of-length-le s (leb-true (length s) at t)))
@@ -167,17 +172,17 @@ prints-from (suc fuel) s at past bytes f =
         (prints-follow s at past (frontFrom fuel s) bytes ih (decodeAt s at) refl)
 
 pub prints-front :
-  (s : List ℕ) (past : ℕ)
-  → Bytes s
-  → frontOf s .stop ≡ gives past
-  → ((c : Command) → List·Memᴰ c (map (λ (p : Placed). p .command) (frontOf s .placed)) → inRange c ≡ true)
-  → s ≡ printed (map (λ (p : Placed). p .command) (frontOf s .placed))
+    (s : List ℕ) (past : ℕ)
+    → Bytes s
+    → frontOf s .stop ≡ gives past
+    → ((c : Command) → List·Memᴰ c (map (λ (p : Placed). p .command) (frontOf s .placed)) → inRange c ≡ true)
+    → s ≡ printed (map (λ (p : Placed). p .command) (frontOf s .placed))
 unfolding frontOf
 prints-front s past bytes e h = prints-from (length s) s 0 past bytes (omega arith) e h
 
 pub front-of-printed :
-  (cs : List Command)
-  → ((c : Command) → List·Memᴰ c cs → inRange c ≡ true)
-  → frontOf (printed cs) ≡ record { placed = placedFrom 0 cs; stop = gives (length (printed cs)) }
+    (cs : List Command)
+    → ((c : Command) → List·Memᴰ c cs → inRange c ≡ true)
+    → frontOf (printed cs) ≡ record { placed = placedFrom 0 cs; stop = gives (length (printed cs)) }
 unfolding frontOf
 front-of-printed cs h = front-printed (length (printed cs)) [] cs h (omega arith) ∙ ap (λ (n : ℕ). record { placed = placedFrom 0 cs; stop = gives n }) (zero-add (length (printed cs)))

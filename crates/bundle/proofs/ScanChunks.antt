@@ -17,19 +17,19 @@ unfolding orderly uncounted scanned start
 scan-end k rest = rw and-true
 
 scan-body :
-  (k : Scan) {ps : List Placed} (rest : List Command)
-  → Body ps
-  → orderly k (map (λ (p : Placed). p .command) ps ++ rest)
+    (k : Scan) {ps : List Placed} (rest : List Command)
+    → Body ps
+    → orderly k (map (λ (p : Placed). p .command) ps ++ rest)
     ≡ (orderly k (map (λ (p : Placed). p .command) ps) && orderly start rest)
 unfolding orderly
 scan-body k rest (ends e) = rw e (scan-end k rest)
 scan-body k rest (goes {p = p} {ps = ps} e b) =
     ap (λ (t : Bool). passes k (p .command) && t) (scan-body (uncounted (scanned k (p .command))) rest b)
     ∙ sym
-      (and-assoc
-        (passes k (p .command))
-        (orderly (uncounted (scanned k (p .command))) (map (λ (q : Placed). q .command) ps))
-        (orderly start rest))
+    (and-assoc
+    (passes k (p .command))
+    (orderly (uncounted (scanned k (p .command))) (map (λ (q : Placed). q .command) ps))
+    (orderly start rest))
 
 pub scan-chunk : (c : Chunk) (rest : List Command) → Formed c → orderly start (logOf c ++ rest) ≡ (orderly start (logOf c) && orderly start rest)
 unfolding orderly logOf commandsOf
@@ -40,9 +40,9 @@ scan-chunk c rest f =
     ∙ sym (and-assoc (passes start m) (orderly k (map (λ (p : Placed). p .command) (c .body))) (orderly start rest))
 
 pub scan-chunks :
-  (cs : List Chunk)
-  → ((c : Chunk) → List·Memᴰ c cs → Formed c)
-  → orderly start (concatMap logOf cs) ≡ all (λ (c : Chunk). orderly start (logOf c)) cs
+    (cs : List Chunk)
+    → ((c : Chunk) → List·Memᴰ c cs → Formed c)
+    → orderly start (concatMap logOf cs) ≡ all (λ (c : Chunk). orderly start (logOf c)) cs
 unfolding orderly start
 scan-chunks [] h = refl
 scan-chunks (c ∷ cs) h =

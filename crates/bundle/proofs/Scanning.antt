@@ -81,12 +81,12 @@ tested k c e =
     let o = aboveOwnTeam (k .team) c in
     let l = not (misusesLock (k .state .locks) c) in
     let f = and-left (m && (r && o)) l e in
-    record
-      { in-place = and-left m (r && o) f
-      ; in-range = and-left r o (and-right m (r && o) f)
-      ; above-own = and-right r o (and-right m (r && o) f)
-      ; locks-ok = and-right (m && (r && o)) l e
-      }
+    record {
+      in-place = and-left m (r && o) f;
+      in-range = and-left r o (and-right m (r && o) f);
+      above-own = and-right r o (and-right m (r && o) f);
+      locks-ok = and-right (m && (r && o)) l e;
+    }
 
 pub orderly-head : (k : Scan) (c : Command) (cs : List Command) → orderly k (c ∷ cs) ≡ true → Tested k c
 unfolding orderly
@@ -146,16 +146,16 @@ room-one k c e =
     let s = ltb 512 (k .segments + opensSegment c) in
     let a = ltb 1024 (k .accesses + addsAccess c) in
     let n = counted k c in
-    record
-      { segments = omega (arith, n .segments, ltb-false 512 (k .segments + opensSegment c) (or-false-left s a e))
-      ; accesses = omega (arith, n .accesses, ltb-false 1024 (k .accesses + addsAccess c) (or-false-right s a e))
-      }
+    record {
+      segments = omega (arith, n .segments, ltb-false 512 (k .segments + opensSegment c) (or-false-left s a e));
+      accesses = omega (arith, n .accesses, ltb-false 1024 (k .accesses + addsAccess c) (or-false-right s a e));
+    }
 
 -- a command with no fault
 fault-none :
-  (m r l t : Bool)
-  → _≡_ {A = ℕ} (cond m 4 (cond (not r) 5 (cond l 6 (cond t 7 0)))) 0
-  → ((not m && r && not l) ≡ true) × (t ≡ false)
+    (m r l t : Bool)
+    → _≡_ {A = ℕ} (cond m 4 (cond (not r) 5 (cond l 6 (cond t 7 0)))) 0
+    → ((not m && r && not l) ≡ true) × (t ≡ false)
 fault-none true r l t e = absurd (omega arith)
 fault-none false false l t e = absurd (omega arith)
 fault-none false true true t e = absurd (omega arith)
@@ -163,10 +163,10 @@ fault-none false true false true e = absurd (omega arith)
 fault-none false true false false e = (refl, refl)
 
 fault-zero :
-  (m r l t : Bool)
-  → (not m && r && not l) ≡ true
-  → t ≡ false
-  → _≡_ {A = ℕ} (cond m 4 (cond (not r) 5 (cond l 6 (cond t 7 0)))) 0
+    (m r l t : Bool)
+    → (not m && r && not l) ≡ true
+    → t ≡ false
+    → _≡_ {A = ℕ} (cond m 4 (cond (not r) 5 (cond l 6 (cond t 7 0)))) 0
 fault-zero true r l t e f = false-is-true e
 fault-zero false false l t e f = false-is-true e
 fault-zero false true true t e f = false-is-true e
@@ -205,32 +205,35 @@ walk-elim (p ∷ ps) stop k k′ r e = go (λ r′ q. walk-elim ps stop (scanned
   where
     c : Command
     c = p .command
+
     cs : List Command
     cs = map (λ (q : Placed). q .command) ps
+
     further : passes k c ≡ true → Passed ps stop (scanned k c) → Passed (p ∷ ps) stop k
     further h n =
-        record
-          { order = both h (orderly-uncounted (scanned k c) cs ∙ n .order)
-          ; room = room-cons k c cs (n .room)
-          ; past = n .past
-          ; ended = n .ended
-          }
+        record {
+          order = both h (orderly-uncounted (scanned k c) cs ∙ n .order);
+          room = room-cons k c cs (n .room);
+          past = n .past;
+          ended = n .ended;
+        }
+
     go :
-      (Room (scanned k c) [] → walk ps stop (scanned k c) ≡ gives k′ → Passed ps stop (scanned k c))
-      → (t : Bool)
-      → eqb (faultOf k c) 0 ≡ t
-      → cond t (walk ps stop (scanned k c)) (refuses (faultOf k c) (p .at)) ≡ gives k′
-      → Passed (p ∷ ps) stop k
+        (Room (scanned k c) [] → walk ps stop (scanned k c) ≡ gives k′ → Passed ps stop (scanned k c))
+        → (t : Bool)
+        → eqb (faultOf k c) 0 ≡ t
+        → cond t (walk ps stop (scanned k c)) (refuses (faultOf k c) (p .at)) ≡ gives k′
+        → Passed (p ∷ ps) stop k
     go ih true h q =
         let n = no-fault k c (eqb-true (faultOf k c) 0 h) in
         further (n .0) (ih (room-one k c (n .1)) q)
     go ih false h q = let z : _≡_ {A = ℕ} 0 1 = cc in absurd (omega arith)
 
 pub walk-intro :
-  (ps : List Placed) (past : ℕ) (k : Scan)
-  → orderly k (map (λ (p : Placed). p .command) ps) ≡ true
-  → Room k (map (λ (p : Placed). p .command) ps)
-  → (k′ : Scan) × (walk ps (gives past) k ≡ gives k′)
+    (ps : List Placed) (past : ℕ) (k : Scan)
+    → orderly k (map (λ (p : Placed). p .command) ps) ≡ true
+    → Room k (map (λ (p : Placed). p .command) ps)
+    → (k′ : Scan) × (walk ps (gives past) k ≡ gives k′)
 unfolding walk orderly finish
 walk-intro [] past k o r = (k, rw (is-false (k .inside) (λ h. not-both h (out (k .inside) o))))
   where
@@ -241,16 +244,21 @@ walk-intro (p ∷ ps) past k o r = go (walk-intro ps past (scanned k c) (sym (or
   where
     c : Command
     c = p .command
+
     cs : List Command
     cs = map (λ (q : Placed). q .command) ps
+
     fewer : (x t n : ℕ) → x + (n + t) ≤ 512 → x + n ≤ 512
     fewer x t n h = omega arith
+
     fewer′ : (x t n : ℕ) → x + (n + t) ≤ 1024 → x + n ≤ 1024
     fewer′ x t n h = omega arith
+
     few : tooMany k c ≡ false
     few =
         none-too-many k c
         (fewer (k .segments) (total opensSegment cs) (opensSegment c) (unfold total in r .segments))
         (fewer′ (k .accesses) (total addsAccess cs) (addsAccess c) (unfold total in r .accesses))
+
     go : (k′ : Scan) × (walk ps (gives past) (scanned k c) ≡ gives k′) → (k′ : Scan) × (walk (p ∷ ps) (gives past) k ≡ gives k′)
     go w = (w .0, rw (faultless k c (and-left (passes k c) _ o) few) (w .1))

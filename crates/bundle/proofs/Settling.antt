@@ -21,13 +21,13 @@ use Rattle.bundle.proofs.Printing.{printed, placedFrom, commands-placed
 -- a chunk at an offset, and chunks one after another from an offset on
 unfoldable pub settled : ℕ → Chunk → Chunk
 settled at c =
-    record
-      { place = at
-      ; team = c .team
-      ; member = c .member
-      ; body = placedFrom (at + length (bytesOf (Com.Member (c .team) (c .member)))) (commandsOf c)
-      ; past = at + length (printed (logOf c))
-      }
+    record {
+      place = at;
+      team = c .team;
+      member = c .member;
+      body = placedFrom (at + length (bytesOf (Com.Member (c .team) (c .member)))) (commandsOf c);
+      past = at + length (printed (logOf c));
+    }
 
 unfoldable pub settle : ℕ → List Chunk → List Chunk
 settle at [] = []
@@ -39,8 +39,8 @@ placed-settle at [] = unfold placedFrom in refl
 placed-settle at (c ∷ cs) = go (placed-settle (at + length (printed (logOf c))) cs)
   where
     go :
-      concatMap placedOf (settle (at + length (printed (logOf c))) cs) ≡ placedFrom (at + length (printed (logOf c))) (concatMap logOf cs)
-      → placedOf (settled at c) ++ concatMap placedOf (settle (at + length (printed (logOf c))) cs) ≡ placedFrom at (logOf c ++ concatMap logOf cs)
+        concatMap placedOf (settle (at + length (printed (logOf c))) cs) ≡ placedFrom (at + length (printed (logOf c))) (concatMap logOf cs)
+        → placedOf (settled at c) ++ concatMap placedOf (settle (at + length (printed (logOf c))) cs) ≡ placedFrom at (logOf c ++ concatMap logOf cs)
     go ih =
         ap (λ (l : List Placed). placedOf (settled at c) ++ l) ih
         ∙ sym (placed-append at (logOf c) (concatMap logOf cs) ∙ unfold placedOf settled placedFrom logOf in refl)
@@ -52,9 +52,9 @@ body-placed at (ends e) = ends e
 body-placed at (goes {p = p} e b) = goes e (body-placed (at + length (bytesOf (p .command))) b)
 
 past-placed :
-  (at : ℕ) {ps : List Placed}
-  → Body ps
-  → at + length (printed (map (λ (p : Placed). p .command) ps)) ≡ gather (placedFrom at (map (λ (p : Placed). p .command) ps)) .past
+    (at : ℕ) {ps : List Placed}
+    → Body ps
+    → at + length (printed (map (λ (p : Placed). p .command) ps)) ≡ gather (placedFrom at (map (λ (p : Placed). p .command) ps)) .past
 unfolding placedFrom printed gather gatherOne
 past-placed at (ends e) = rw e (unfold bytesOf in refl)
 past-placed at (goes {p = p} {ps = ps} e b) =
@@ -67,20 +67,20 @@ formed-settled : (at : ℕ) (c : Chunk) → Formed c → Formed (settled at c)
 unfolding settled commandsOf printed logOf
 formed-settled at c f =
     let w = length (bytesOf (Com.Member (c .team) (c .member))) in
-    record
-      { body-ok = body-placed (at + w) (f .body-ok)
-      ; past-ok =
+    record {
+      body-ok = body-placed (at + w) (f .body-ok);
+      past-ok =
           rw length-append
           (sym (add-assoc at w (length (concatMap bytesOf (map (λ (p : Placed). p .command) (c .body)))))
-          ∙ past-placed (at + w) (f .body-ok))
-      }
+          ∙ past-placed (at + w) (f .body-ok));
+    }
 
 pub formed-settle :
-  (at : ℕ) (cs : List Chunk)
-  → ((c : Chunk) → List·Memᴰ c cs → Formed c)
-  → (d : Chunk)
-  → List·Memᴰ d (settle at cs)
-  → Formed d
+    (at : ℕ) (cs : List Chunk)
+    → ((c : Chunk) → List·Memᴰ c cs → Formed c)
+    → (d : Chunk)
+    → List·Memᴰ d (settle at cs)
+    → Formed d
 unfolding settle
 formed-settle at [] h d m = absurd (List·Memᴰ·not-nil m)
 formed-settle at (c ∷ cs) h d m =
@@ -91,9 +91,9 @@ formed-settle at (c ∷ cs) h d m =
 
 -- the chunks of commands printed one after another
 pub gather-settle :
-  (at : ℕ) (cs : List Chunk)
-  → ((c : Chunk) → List·Memᴰ c cs → Formed c)
-  → gather (placedFrom at (concatMap logOf cs)) .chunks ≡ settle at cs
+    (at : ℕ) (cs : List Chunk)
+    → ((c : Chunk) → List·Memᴰ c cs → Formed c)
+    → gather (placedFrom at (concatMap logOf cs)) .chunks ≡ settle at cs
 gather-settle at cs h =
     rw (← placed-settle at cs) (gather-chunks (settle at cs) (formed-settle at cs h))
 
@@ -114,32 +114,37 @@ unplaced-settle at (c ∷ cs) = go (unplaced-settle (at + length (printed (logOf
         unfold unplaced settled commandsOf in
         (ap (λ (l : List Placed). record { place = 0; team = c .team; member = c .member; body = l; past = 0 })
         (bare-placed (at + length (bytesOf (Com.Member (c .team) (c .member)))) (c .body)))
+
     go :
-      map unplaced (settle (at + length (printed (logOf c))) cs) ≡ map unplaced cs
-      → unplaced (settled at c) ∷ map unplaced (settle (at + length (printed (logOf c))) cs) ≡ unplaced c ∷ map unplaced cs
+        map unplaced (settle (at + length (printed (logOf c))) cs) ≡ map unplaced cs
+        → unplaced (settled at c) ∷ map unplaced (settle (at + length (printed (logOf c))) cs) ≡ unplaced c ∷ map unplaced cs
     go ih = rw (one, ih)
 
 -- a chunk's part of the bundle is its commands printed
 pub part-settle :
-  (p : List ℕ) (cs : List Chunk)
-  → map (partOf (p ++ printed (concatMap logOf cs))) (settle (length p) cs) ≡ map (λ (c : Chunk). printed (logOf c)) cs
+    (p : List ℕ) (cs : List Chunk)
+    → map (partOf (p ++ printed (concatMap logOf cs))) (settle (length p) cs) ≡ map (λ (c : Chunk). printed (logOf c)) cs
 unfolding settle
 part-settle p [] = refl
 part-settle p (c ∷ cs) = go (part-settle (p ++ printed (logOf c)) cs)
   where
     x : List ℕ
     x = printed (logOf c)
+
     y : List ℕ
     y = printed (concatMap logOf cs)
+
     split : p ++ printed (logOf c ++ concatMap logOf cs) ≡ p ++ (x ++ y)
     split = unfold printed in (ap (λ (l : List ℕ). p ++ l) (concatMap-append bytesOf (logOf c) (concatMap logOf cs)))
+
     one : partOf (p ++ (x ++ y)) (settled (length p) c) ≡ x
     one =
         unfold partOf settled in
         (rw (add-sub-cancel-left (length p) (length x), drop-append-seam p (x ++ y)) (take-append-seam x y))
+
     go :
-      map (partOf (p ++ x ++ y)) (settle (length (p ++ x)) cs) ≡ map (λ (d : Chunk). printed (logOf d)) cs
-      → map (partOf (p ++ printed (concatMap logOf (c ∷ cs)))) (settled (length p) c ∷ settle (length p + length x) cs)
+        map (partOf (p ++ x ++ y)) (settle (length (p ++ x)) cs) ≡ map (λ (d : Chunk). printed (logOf d)) cs
+        → map (partOf (p ++ printed (concatMap logOf (c ∷ cs)))) (settled (length p) c ∷ settle (length p + length x) cs)
         ≡ x ∷ map (λ (d : Chunk). printed (logOf d)) cs
     go ih =
         rw (split, one)

@@ -91,11 +91,11 @@ pub record Gathered : Type 0 where
 
 unfoldable pub gatherOne : Placed → Command → Gathered → Gathered
 gatherOne p (Com.Member t m) g =
-    record
-      { body = []
-      ; past = 0
-      ; chunks = record { place = p .at; team = t; member = m; body = g .body; past = g .past } ∷ g .chunks
-      }
+    record {
+      body = [];
+      past = 0;
+      chunks = record { place = p .at; team = t; member = m; body = g .body; past = g .past } ∷ g .chunks;
+    }
 gatherOne p Com.End g = record { body = p ∷ []; past = p .at + 1; chunks = g .chunks }
 gatherOne p (Com.Region t z) g = record { body = p ∷ g .body; past = g .past; chunks = g .chunks }
 gatherOne p Com.Barrier g = record { body = p ∷ g .body; past = g .past; chunks = g .chunks }

@@ -80,13 +80,13 @@ start = record { inside = false; team = 0; state = fresh; segments = 0; accesses
 
 unfoldable pub onward : Scan → Command → Scan
 onward k c =
-    record
-      { inside = k .inside
-      ; team = k .team
-      ; state = afterCommand (k .state) c
-      ; segments = k .segments + opensSegment c
-      ; accesses = k .accesses + addsAccess c
-      }
+    record {
+      inside = k .inside;
+      team = k .team;
+      state = afterCommand (k .state) c;
+      segments = k .segments + opensSegment c;
+      accesses = k .accesses + addsAccess c;
+    }
 
 -- the scan after a command
 unfoldable pub scanned : Scan → Command → Scan

@@ -51,12 +51,12 @@ unfoldable pub labelOf : List ℕ → ℕ → ℕ → ℕ → Answer (List Tripl
 labelOf s t m number =
     whenGiven (checkOf s)
     (λ u.
-      fromOption (refuses 14 0)
-      (λ c.
-        fromOption (refuses 14 0)
-        (λ k. gives (segmentLabel (forksOf (chunksOf s)) t m k))
-        (getElem? (segmentStates c) number))
-      (chunkOf (chunksOf s) t m))
+    fromOption (refuses 14 0)
+    (λ c.
+    fromOption (refuses 14 0)
+    (λ k. gives (segmentLabel (forksOf (chunksOf s)) t m k))
+    (getElem? (segmentStates c) number))
+    (chunkOf (chunksOf s) t m))
 
 -- the counted triples of a label as it is lent: "Triples past a label's count are not looked at"
 unfoldable pub counted : Label → List Triple

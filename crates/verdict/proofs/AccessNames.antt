@@ -17,10 +17,10 @@ use Rattle.verdict.proofs.ListMore.{distinct-concatMap}
 pub data Run (t m : ℕ) : ℕ → List NamedAccess → Type 0 where
   run-none : {n : ℕ} → Run t m n []
   run-more :
-    {n : ℕ} {x : NamedAccess} {xs : List NamedAccess}
-    → nameKey (x .name) ≡ t ∷ m ∷ n ∷ []
-    → Run t m (n + 1) xs
-    → Run t m n (x ∷ xs)
+      {n : ℕ} {x : NamedAccess} {xs : List NamedAccess}
+      → nameKey (x .name) ≡ t ∷ m ∷ n ∷ []
+      → Run t m (n + 1) xs
+      → Run t m n (x ∷ xs)
 
 pub access-run : (t m n : ℕ) (k : ChunkState) (cs : List Command) → Run t m n (accessesFrom t m n k cs)
 unfolding accessesFrom nameKey
@@ -66,12 +66,13 @@ accesses-distinct cs d = distinct-concatMap memberKey accessesIn accessKey (λ c
   where
     runs : (c : Chunk) → Run (c .team) (c .member) 0 (accessesIn c)
     runs c = access-run (c .team) (c .member) 0 fresh (commandsOf c)
+
     tells :
-      (c d : Chunk) (u v : NamedAccess)
-      → List·Memᴰ u (accessesIn c)
-      → List·Memᴰ v (accessesIn d)
-      → accessKey u ≡ accessKey v
-      → memberKey c ≡ memberKey d
+        (c d : Chunk) (u v : NamedAccess)
+        → List·Memᴰ u (accessesIn c)
+        → List·Memᴰ v (accessesIn d)
+        → accessKey u ≡ accessKey v
+        → memberKey c ≡ memberKey d
     tells c d u v l k e = go (run-names (runs c) l) (run-names (runs d) k)
       where
         go : Numbered (c .team) (c .member) 0 u → Numbered (d .team) (d .member) 0 v → memberKey c ≡ memberKey d

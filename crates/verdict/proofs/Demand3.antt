@@ -38,7 +38,7 @@ least-in [] r e = let z : _≡_ {A = ℕ} 0 1 = cc in absurd (omega arith)
 least-in (x ∷ xs) r e = List·Memᴰ·head {x = x} (cc)
 
 pub least-first :
-  {rs : List Race} → Ascending rs → (r : Race) → verdictOf rs ≡ Ver.Least r → (q : Race) → List·Memᴰ q rs → (q ≡ r) ⊎ (raceBelow r q ≡ true)
+    {rs : List Race} → Ascending rs → (r : Race) → verdictOf rs ≡ Ver.Least r → (q : Race) → List·Memᴰ q rs → (q ≡ r) ⊎ (raceBelow r q ≡ true)
 unfolding verdictOf
 least-first Ascending.none r e q m = absurd (List·Memᴰ·not-nil m)
 least-first (Ascending.more {r = x} least d) r e q m =
@@ -54,24 +54,25 @@ module _ (tests : ExactTests) where
   pub exactly : (b : List ℕ) → Distinct (map memberKey (chunksOf b)) → Exact b (judgementOf (chunksOf b))
   unfolding judgementOf
   exactly b members =
-      record
-        { race-free =
-            ( λ e r i. free-elim rs e r (races-intro tests cs i)
-            , λ h. free-intro rs (λ r m. h r (races-elim tests cs m))
-            )
-        ; a-race = λ r e. races-elim tests cs (least-in rs r e)
-        ; the-least = λ r e q i. least-first (races-ascending cs members) r e q (races-intro tests cs i)
-        ; races = rs
-        ; ascending = races-ascending cs members
-        ; all-races = λ r. (races-elim tests cs, races-intro tests cs)
-        ; race-count = refl
-        ; chunk-count = refl
-        ; segment-count = refl
-        ; access-count = refl
-        }
+      record {
+        race-free = (
+          λ e r i. free-elim rs e r (races-intro tests cs i),
+          λ h. free-intro rs (λ r m. h r (races-elim tests cs m)),
+        );
+        a-race = λ r e. races-elim tests cs (least-in rs r e);
+        the-least = λ r e q i. least-first (races-ascending cs members) r e q (races-intro tests cs i);
+        races = rs;
+        ascending = races-ascending cs members;
+        all-races = λ r. (races-elim tests cs, races-intro tests cs);
+        race-count = refl;
+        chunk-count = refl;
+        segment-count = refl;
+        access-count = refl;
+      }
     where
       cs : List Chunk
       cs = chunksOf b
+
       rs : List Race
       rs = racesOf cs
 
@@ -79,12 +80,12 @@ module _ (tests : ExactTests) where
   demand3 order b c v w bytes ok re large large′ =
       let r = order .reordered b c bytes ok re in
       let members = order .distinct-members b ok in
-      record
-        { accepted-too = r .0
-        ; judgement = judgementOf (chunksOf b)
-        ; answer = judges b v ok large
-        ; same-answer =
+      record {
+        accepted-too = r .0;
+        judgement = judgementOf (chunksOf b);
+        answer = judges b v ok large;
+        same-answer =
             rw (same-judgement tests (chunksOf b) (chunksOf c) (r .1) members (order .distinct-members c (r .0)))
-            (judges c w (r .0) large′)
-        ; exact = exactly b members
-        }
+            (judges c w (r .0) large′);
+        exact = exactly b members;
+      }

@@ -22,9 +22,9 @@ pub record ExactTests : Type 0 where
 -- an accepted bundle has one chunk for a member, and its chunks may stand in any order
 pub record ChunkOrder : Type 0 where
   pub reordered :
-    (b c : List ℕ)
-    → Bytes b
-    → Accepted b
-    → Reordered b c
-    → Accepted c × List·Permᴰ (map unplaced (chunksOf b)) (map unplaced (chunksOf c))
+      (b c : List ℕ)
+      → Bytes b
+      → Accepted b
+      → Reordered b c
+      → Accepted c × List·Permᴰ (map unplaced (chunksOf b)) (map unplaced (chunksOf c))
   pub distinct-members : (b : List ℕ) → Accepted b → Distinct (map memberKey (chunksOf b))

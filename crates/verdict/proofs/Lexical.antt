@@ -45,10 +45,10 @@ less-trans (x ∷ xs) (y ∷ ys) [] e f = f
 less-trans (x ∷ xs) (y ∷ ys) (z ∷ zs) e f = go (less-trans xs ys zs) (less-elim x y xs ys e) (less-elim y z ys zs f)
   where
     go :
-      (lexLess xs ys ≡ true → lexLess ys zs ≡ true → lexLess xs zs ≡ true)
-      → (x < y) ⊎ ((x ≡ y) × (lexLess xs ys ≡ true))
-      → (y < z) ⊎ ((y ≡ z) × (lexLess ys zs ≡ true))
-      → lexLess (x ∷ xs) (z ∷ zs) ≡ true
+        (lexLess xs ys ≡ true → lexLess ys zs ≡ true → lexLess xs zs ≡ true)
+        → (x < y) ⊎ ((x ≡ y) × (lexLess xs ys ≡ true))
+        → (y < z) ⊎ ((y ≡ z) × (lexLess ys zs ≡ true))
+        → lexLess (x ∷ xs) (z ∷ zs) ≡ true
     go ih (inl p) (inl q) = less-head x z xs zs (omega arith)
     go ih (inl p) (inr q) = less-head x z xs zs (omega arith)
     go ih (inr p) (inl q) = less-head x z xs zs (omega arith)
@@ -72,11 +72,12 @@ compare (x ∷ xs) (y ∷ ys) = go (compare xs ys) (decide (ltb x y)) (decide (e
   where
     above : ltb x y ≡ false → eqb x y ≡ false → y < x
     above p q = omega (arith, ltb-false x y p, eqb-false x y q)
+
     go :
-      Compared xs ys
-      → (ltb x y ≡ true) ⊎ (ltb x y ≡ false)
-      → (eqb x y ≡ true) ⊎ (eqb x y ≡ false)
-      → Compared (x ∷ xs) (y ∷ ys)
+        Compared xs ys
+        → (ltb x y ≡ true) ⊎ (ltb x y ≡ false)
+        → (eqb x y ≡ true) ⊎ (eqb x y ≡ false)
+        → Compared (x ∷ xs) (y ∷ ys)
     go c (inl p) e = less (less-head x y xs ys (ltb-true x y p))
     go c (inr p) (inr q) = more (less-head y x ys xs (above p q))
     go (less h) (inr p) (inl q) = less (less-tail x y xs ys (eqb-true x y q) h)
@@ -92,6 +93,6 @@ nameKey-tells a b e = go (cc) (cc) (cc)
     go t m n = λ i. record { team = t i; member = m i; number = n i }
 
 pub raceKey-tells :
-  (r q : Race) → raceKey r ≡ raceKey q → (r .witness ≡ q .witness) × (r .first ≡ q .first) × (r .second ≡ q .second)
+    (r q : Race) → raceKey r ≡ raceKey q → (r .witness ≡ q .witness) × (r .first ≡ q .first) × (r .second ≡ q .second)
 unfolding raceKey keyOf nameKey
 raceKey-tells r q e = (cc, nameKey-tells (r .first) (q .first) (cc), nameKey-tells (r .second) (q .second) (cc))

@@ -12,8 +12,8 @@ module _ {A B : Type 0} where
 
 -- the lists of f back to back have distinct keys, if each list has and a key tells the name of the element that its list came from
 module _ {A B C D : Type 0} (name : A → C) (f : A → List B) (key : B → D)
-  (each : (x : A) → Distinct (map key (f x)))
-  (tells : (x y : A) (u v : B) → List·Memᴰ u (f x) → List·Memᴰ v (f y) → key u ≡ key v → name x ≡ name y) where
+    (each : (x : A) → Distinct (map key (f x)))
+    (tells : (x y : A) (u v : B) → List·Memᴰ u (f x) → List·Memᴰ v (f y) → key u ≡ key v → name x ≡ name y) where
   pub distinct-concatMap : (xs : List A) → Distinct (map name xs) → Distinct (map key (concatMap f xs))
   distinct-concatMap [] d = distinct-nil
   distinct-concatMap (x ∷ xs) (distinct-cons h d) = rw map-append (distinct-append (each x) (distinct-concatMap xs d) apart)

@@ -28,25 +28,25 @@ module _ (key : List ℕ) where
 
   -- every other race above the key comes later
   pub above-least :
-    {rs : List Race} {r : Race}
-    → Ascending rs
-    → raceAbove key rs ≡ some r
-    → (q : Race)
-    → List·Memᴰ q rs
-    → Above key q
-    → (q ≡ r) ⊎ (raceBelow r q ≡ true)
+      {rs : List Race} {r : Race}
+      → Ascending rs
+      → raceAbove key rs ≡ some r
+      → (q : Race)
+      → List·Memᴰ q rs
+      → Above key q
+      → (q ≡ r) ⊎ (raceBelow r q ≡ true)
   unfolding raceAbove
   above-least Ascending.none e q m h = absurd (List·Memᴰ·not-nil m)
   above-least {r = r} (Ascending.more {r = x} {rs = xs} least d) e q m h =
       go (λ e′ l. above-least d e′ q l h) (lexLess key (raceKey x)) refl e (List·Memᴰ·cases-cons m)
     where
       go :
-        (raceAbove key xs ≡ some r → List·Memᴰ q xs → (q ≡ r) ⊎ (raceBelow r q ≡ true))
-        → (t : Bool)
-        → lexLess key (raceKey x) ≡ t
-        → cond t (some x) (raceAbove key xs) ≡ some r
-        → (q ≡ x) ⊎ List·Memᴰ q xs
-        → (q ≡ r) ⊎ (raceBelow r q ≡ true)
+          (raceAbove key xs ≡ some r → List·Memᴰ q xs → (q ≡ r) ⊎ (raceBelow r q ≡ true))
+          → (t : Bool)
+          → lexLess key (raceKey x) ≡ t
+          → cond t (some x) (raceAbove key xs) ≡ some r
+          → (q ≡ x) ⊎ List·Memᴰ q xs
+          → (q ≡ r) ⊎ (raceBelow r q ≡ true)
       go ih true p e′ (inl o) = inl (cc)
       go ih true p e′ (inr l) = let o : x ≡ r = cc in inr (rw o at (least q l))
       go ih false p e′ (inl o) = not-both (rw o at h) p
@@ -63,23 +63,24 @@ pub record NextRace (b key : List ℕ) : Type 0 where
   pub a-race : (r : Race) → found ≡ some r → IsRace (chunksOf b) r
   pub above : (r : Race) → found ≡ some r → Above key r
   pub the-least :
-    (r : Race) → found ≡ some r → (q : Race) → IsRace (chunksOf b) q → Above key q → (q ≡ r) ⊎ (raceBelow r q ≡ true)
+      (r : Race) → found ≡ some r → (q : Race) → IsRace (chunksOf b) q → Above key q → (q ≡ r) ⊎ (raceBelow r q ≡ true)
   pub no-more : found ≡ none → (q : Race) → IsRace (chunksOf b) q → Above key q → ⊥
 
 pub next-race : ExactTests → ChunkOrder → (b key : List ℕ) → Accepted b → NextRace b key
 unfolding nextAbove
 next-race tests order b key ok =
-    record
-      { found = raceAbove key rs
-      ; answer = rw ok
-      ; a-race = λ r e. races-elim tests cs (above-found key rs e .0)
-      ; above = λ r e. above-found key rs e .1
-      ; the-least =
-          λ r e q i. above-least key (races-ascending cs (order .distinct-members b ok)) e q (races-intro tests cs i)
-      ; no-more = λ e q i. above-none key rs e q (races-intro tests cs i)
-      }
+    record {
+      found = raceAbove key rs;
+      answer = rw ok;
+      a-race = λ r e. races-elim tests cs (above-found key rs e .0);
+      above = λ r e. above-found key rs e .1;
+      the-least =
+          λ r e q i. above-least key (races-ascending cs (order .distinct-members b ok)) e q (races-intro tests cs i);
+      no-more = λ e q i. above-none key rs e q (races-intro tests cs i);
+    }
   where
     cs : List Chunk
     cs = chunksOf b
+
     rs : List Race
     rs = racesOf cs

@@ -35,12 +35,12 @@ module _ (closure : List Pair) (x y : NamedAccess) where
   raceOf-elim {r} m = go (clashes closure x y) refl (sharedByte (x .access .range) (y .access .range)) refl m
     where
       go :
-        (t : Bool)
-        → clashes closure x y ≡ t
-        → (o : Option ℕ)
-        → sharedByte (x .access .range) (y .access .range) ≡ o
-        → List·Memᴰ r (cond t (fromOption [] (λ witness. raceAt x y witness ∷ []) o) [])
-        → Found closure x y r
+          (t : Bool)
+          → clashes closure x y ≡ t
+          → (o : Option ℕ)
+          → sharedByte (x .access .range) (y .access .range) ≡ o
+          → List·Memᴰ r (cond t (fromOption [] (λ witness. raceAt x y witness ∷ []) o) [])
+          → Found closure x y r
       go false p o q m′ = absurd (List·Memᴰ·not-nil m′)
       go true p none q m′ = absurd (List·Memᴰ·not-nil m′)
       go true p (some w) q m′ = record { clash = p; witness = w; shared = q; is = List·Memᴰ·eq-of-singleton m′ }
@@ -54,8 +54,8 @@ module _ (closure : List Pair) (x y : NamedAccess) where
   raceOf-distinct = go (clashes closure x y) (sharedByte (x .access .range) (y .access .range))
     where
       go :
-        (t : Bool) (o : Option ℕ)
-        → Distinct (map raceKey (cond t (fromOption [] (λ witness. raceAt x y witness ∷ []) o) []))
+          (t : Bool) (o : Option ℕ)
+          → Distinct (map raceKey (cond t (fromOption [] (λ witness. raceAt x y witness ∷ []) o) []))
       go false o = distinct-nil
       go true none = distinct-nil
       go true (some w) = distinct-cons List·Memᴰ·not-nil distinct-nil
@@ -71,21 +71,25 @@ races-distinct closure xs d = distinct-concatMap accessKey among raceKey inner f
   where
     among : NamedAccess → List Race
     among x = concatMap (raceOf closure x) xs
+
     first : {r : Race} (x : NamedAccess) → List·Memᴰ r (among x) → r .first ≡ x .name
     first x m = let y = concatMap-elim (raceOf closure x) xs m in names-of closure x (y .source) (y .gives) .0
+
     second : {r : Race} (x y : NamedAccess) → List·Memᴰ r (raceOf closure x y) → r .second ≡ y .name
     second x y m = names-of closure x y m .1
+
     inner : (x : NamedAccess) → Distinct (map raceKey (among x))
     inner x =
         distinct-concatMap accessKey (raceOf closure x) raceKey (raceOf-distinct closure x)
         (λ y z r q m l e. ap nameKey (sym (second x y m) ∙ raceKey-tells r q e .2 ∙ second x z l))
         xs d
+
     firsts :
-      (x y : NamedAccess) (r q : Race)
-      → List·Memᴰ r (among x)
-      → List·Memᴰ q (among y)
-      → raceKey r ≡ raceKey q
-      → accessKey x ≡ accessKey y
+        (x y : NamedAccess) (r q : Race)
+        → List·Memᴰ r (among x)
+        → List·Memᴰ q (among y)
+        → raceKey r ≡ raceKey q
+        → accessKey x ≡ accessKey y
     firsts x y r q m l e = ap nameKey (sym (first x m) ∙ raceKey-tells r q e .1 ∙ first y l)
 
 pub races-ascending : (cs : List Chunk) → Distinct (map memberKey cs) → Ascending (racesOf cs)
@@ -108,7 +112,7 @@ module _ (a b : ℕ) where
   common-lock-intro lock h p q = any-intro (λ l. holds l a && holds l b) (upTo-intro 64 h) (both p q)
 
   pub common-lock-elim :
-    commonLock a b ≡ true → (lock : ℕ) × (lock < 64) × (holds lock a ≡ true) × (holds lock b ≡ true)
+      commonLock a b ≡ true → (lock : ℕ) × (lock < 64) × (holds lock a ≡ true) × (holds lock b ≡ true)
   unfolding commonLock
   common-lock-elim e =
       let f = any-elim (λ l. holds l a && holds l b) (upTo 64) e in
@@ -138,14 +142,14 @@ module _ (closure : List Pair) (x y : NamedAccess) where
       let h4 = and-left (a && b && c && d) e h5 in
       let h3 = and-left (a && b && c) d h4 in
       let h2 = and-left (a && b) c h3 in
-      record
-        { lower = and-left a b h2
-        ; writing = and-right a b h2
-        ; not-atomic = and-right (a && b) c h3
-        ; no-lock = and-right (a && b && c) d h4
-        ; no-path = and-right (a && b && c && d) e h5
-        ; no-path-back = and-right (a && b && c && d && e) f h6
-        }
+      record {
+        lower = and-left a b h2;
+        writing = and-right a b h2;
+        not-atomic = and-right (a && b) c h3;
+        no-lock = and-right (a && b && c) d h4;
+        no-path = and-right (a && b && c && d) e h5;
+        no-path-back = and-right (a && b && c && d && e) f h6;
+      }
 
   pub clash-intro : Clash closure x y → clashes closure x y ≡ true
   unfolding clashes
@@ -154,36 +158,36 @@ module _ (closure : List Pair) (x y : NamedAccess) where
 module _ (tests : ExactTests) (cs : List Chunk) where
   -- two accesses found make a race, and a race is made so
   pub found-race :
-    {x y : NamedAccess} {r : Race}
-    → List·Memᴰ x (accessesOf cs)
-    → List·Memᴰ y (accessesOf cs)
-    → Found (closureOf (segmentsOf cs)) x y r
-    → IsRace cs r
+      {x y : NamedAccess} {r : Race}
+      → List·Memᴰ x (accessesOf cs)
+      → List·Memᴰ y (accessesOf cs)
+      → Found (closureOf (segmentsOf cs)) x y r
+      → IsRace cs r
   unfolding raceAt
   found-race {x} {y} m l f =
       let ss = segmentsOf cs in
       let c = clash-elim (closureOf ss) x y (f .clash) in
       let s = tests .shared-some (x .access .range) (y .access .range) (f .witness) (f .shared) in
       rw (f .is)
-      (record
-        { one = x
-        ; other = y
-        ; one-in = m
-        ; other-in = l
-        ; lower = c .lower
-        ; writing = or-cases (writes (x .access .kind)) (writes (y .access .kind)) (c .writing)
-        ; not-atomic = λ p q. refuted (both p q) (c .not-atomic)
-        ; no-lock = λ lock h p q. refuted (common-lock-intro (x .locks) (y .locks) lock h p q) (c .no-lock)
-        ; no-path = λ p. refuted (tests .reach-complete ss (x .node) (y .node) p) (c .no-path)
-        ; no-path-back = λ p. refuted (tests .reach-complete ss (y .node) (x .node) p) (c .no-path-back)
-        ; one-touches = s .one
-        ; other-touches = s .other
-        ; lowest = s .lowest
-        ; first-name = refl
-        ; first-site = refl
-        ; second-name = refl
-        ; second-site = refl
-        })
+      (record {
+        one = x;
+        other = y;
+        one-in = m;
+        other-in = l;
+        lower = c .lower;
+        writing = or-cases (writes (x .access .kind)) (writes (y .access .kind)) (c .writing);
+        not-atomic = λ p q. refuted (both p q) (c .not-atomic);
+        no-lock = λ lock h p q. refuted (common-lock-intro (x .locks) (y .locks) lock h p q) (c .no-lock);
+        no-path = λ p. refuted (tests .reach-complete ss (x .node) (y .node) p) (c .no-path);
+        no-path-back = λ p. refuted (tests .reach-complete ss (y .node) (x .node) p) (c .no-path-back);
+        one-touches = s .one;
+        other-touches = s .other;
+        lowest = s .lowest;
+        first-name = refl;
+        first-site = refl;
+        second-name = refl;
+        second-site = refl;
+      })
 
   pub race-found : {r : Race} (i : IsRace cs r) → Found (closureOf (segmentsOf cs)) (i .one) (i .other) r
   unfolding raceAt
@@ -193,33 +197,33 @@ module _ (tests : ExactTests) (cs : List Chunk) where
       let ss = segmentsOf cs in
       let a = atomic (x .access .kind) in
       let b = atomic (y .access .kind) in
-      record
-        { clash =
+      record {
+        clash =
             clash-intro (closureOf ss) x y
-            (record
-              { lower = i .lower
-              ; writing = ⊎-elim (or-one (writes (y .access .kind))) (or-other (writes (x .access .kind))) (i .writing)
-              ; not-atomic = fails (a && b) (λ h. i .not-atomic (and-left a b h) (and-right a b h))
-              ; no-lock =
+            (record {
+              lower = i .lower;
+              writing = ⊎-elim (or-one (writes (y .access .kind))) (or-other (writes (x .access .kind))) (i .writing);
+              not-atomic = fails (a && b) (λ h. i .not-atomic (and-left a b h) (and-right a b h));
+              no-lock =
                   fails (commonLock (x .locks) (y .locks))
-                  (λ h. let l = common-lock-elim (x .locks) (y .locks) h in i .no-lock (l .0) (l .1) (l .2) (l .3))
-              ; no-path = fails _ (λ h. i .no-path (tests .reach-sound ss (x .node) (y .node) h))
-              ; no-path-back = fails _ (λ h. i .no-path-back (tests .reach-sound ss (y .node) (x .node) h))
-              })
-        ; witness = r .witness
-        ; shared =
+                  (λ h. let l = common-lock-elim (x .locks) (y .locks) h in i .no-lock (l .0) (l .1) (l .2) (l .3));
+              no-path = fails _ (λ h. i .no-path (tests .reach-sound ss (x .node) (y .node) h));
+              no-path-back = fails _ (λ h. i .no-path-back (tests .reach-sound ss (y .node) (x .node) h));
+            });
+        witness = r .witness;
+        shared =
             tests .shared-is (x .access .range) (y .access .range) (r .witness)
-            (record { one = i .one-touches; other = i .other-touches; lowest = i .lowest })
-        ; is =
+            (record { one = i .one-touches; other = i .other-touches; lowest = i .lowest });
+        is =
             λ j.
-              record
-                { witness = r .witness
-                ; first = i .first-name j
-                ; «first_site» = i .first-site j
-                ; second = i .second-name j
-                ; «second_site» = i .second-site j
-                }
-        }
+            record {
+              witness = r .witness;
+              first = i .first-name j;
+              «first_site» = i .first-site j;
+              second = i .second-name j;
+              «second_site» = i .second-site j;
+            };
+      }
 
   -- the list holds the races and nothing else
   pub races-elim : {r : Race} → List·Memᴰ r (racesOf cs) → IsRace cs r
@@ -238,4 +242,4 @@ module _ (tests : ExactTests) (cs : List Chunk) where
       let xs = accessesOf cs in
       order-intro (racesAmong g xs)
       (concatMap-intro (λ x. concatMap (raceOf g x) xs) (i .one-in)
-        (concatMap-intro (raceOf g (i .one)) (i .other-in) (raceOf-intro g (i .one) (i .other) (race-found i))))
+      (concatMap-intro (raceOf g (i .one)) (i .other-in) (raceOf-intro g (i .one) (i .other) (race-found i))))

@@ -33,19 +33,19 @@ accesses-unplaced cs = concatMap-map accessesIn unplaced accessesIn-unplaced cs
 
 -- a path needs only its segments
 pub path-among :
-  {ss us : List Segment} {a b : Node} → ((s : Segment) → List·Memᴰ s ss → List·Memᴰ s us) → Path ss a b → Path us a b
+    {ss us : List Segment} {a b : Node} → ((s : Segment) → List·Memᴰ s ss → List·Memᴰ s us) → Path ss a b → Path us a b
 path-among f here = here
 path-among f (step p e) =
     step (path-among f p)
-    (record
-      { from = e .from
-      ; to = e .to
-      ; from-in = f (e .from) (e .from-in)
-      ; to-in = f (e .to) (e .to-in)
-      ; from-node = e .from-node
-      ; to-node = e .to-node
-      ; joined = e .joined
-      })
+    (record {
+      from = e .from;
+      to = e .to;
+      from-in = f (e .from) (e .from-in);
+      to-in = f (e .to) (e .to-in);
+      from-node = e .from-node;
+      to-node = e .to-node;
+      joined = e .joined;
+    })
 
 abbrev pub SameChunks : List Chunk → List Chunk → Type 0
 SameChunks cs ds = List·Permᴰ (map unplaced cs) (map unplaced ds)
@@ -64,25 +64,25 @@ same-path cs ds same p = path-among (λ s m. perm-mem (segments-perm cs ds same)
 
 pub same-race : (cs ds : List Chunk) → SameChunks cs ds → {r : Race} → IsRace cs r → IsRace ds r
 same-race cs ds same i =
-    record
-      { one = i .one
-      ; other = i .other
-      ; one-in = perm-mem (accesses-perm cs ds same) (i .one-in)
-      ; other-in = perm-mem (accesses-perm cs ds same) (i .other-in)
-      ; lower = i .lower
-      ; writing = i .writing
-      ; not-atomic = i .not-atomic
-      ; no-lock = i .no-lock
-      ; no-path = λ p. i .no-path (same-path ds cs (Permᴰ·symm same) p)
-      ; no-path-back = λ p. i .no-path-back (same-path ds cs (Permᴰ·symm same) p)
-      ; one-touches = i .one-touches
-      ; other-touches = i .other-touches
-      ; lowest = i .lowest
-      ; first-name = i .first-name
-      ; first-site = i .first-site
-      ; second-name = i .second-name
-      ; second-site = i .second-site
-      }
+    record {
+      one = i .one;
+      other = i .other;
+      one-in = perm-mem (accesses-perm cs ds same) (i .one-in);
+      other-in = perm-mem (accesses-perm cs ds same) (i .other-in);
+      lower = i .lower;
+      writing = i .writing;
+      not-atomic = i .not-atomic;
+      no-lock = i .no-lock;
+      no-path = λ p. i .no-path (same-path ds cs (Permᴰ·symm same) p);
+      no-path-back = λ p. i .no-path-back (same-path ds cs (Permᴰ·symm same) p);
+      one-touches = i .one-touches;
+      other-touches = i .other-touches;
+      lowest = i .lowest;
+      first-name = i .first-name;
+      first-site = i .first-site;
+      second-name = i .second-name;
+      second-site = i .second-site;
+    }
 
 -- the counts
 pub same-chunk-count : (cs ds : List Chunk) → SameChunks cs ds → length cs ≡ length ds
@@ -95,8 +95,8 @@ pub same-access-count : (cs ds : List Chunk) → SameChunks cs ds → length (ac
 same-access-count cs ds same = perm-length (accesses-perm cs ds same)
 
 module _
-  (tests : ExactTests) (cs ds : List Chunk) (same : SameChunks cs ds)
-  (members : Distinct (map memberKey cs)) (members′ : Distinct (map memberKey ds)) where
+    (tests : ExactTests) (cs ds : List Chunk) (same : SameChunks cs ds)
+    (members : Distinct (map memberKey cs)) (members′ : Distinct (map memberKey ds)) where
   pub same-races : racesOf cs ≡ racesOf ds
   same-races =
       ascending-unique (races-ascending cs members) (races-ascending ds members′)

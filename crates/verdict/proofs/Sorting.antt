@@ -3,7 +3,24 @@ use mathlib.Core.Path.{_≡_, refl, sym}
 use mathlib.Core.Logic.{⊎-elim}
 use mathlib.Core.Bool.{Bool, true, false, cond}
 use mathlib.Core.List.{
-  List, [], _∷_, map, List·Memᴰ, List·Memᴰ·head, List·Memᴰ·tail, List·Memᴰ·not-nil, List·Memᴰ·cases-cons, Memᴰ·cast, Memᴰ·map, List·Permᴰ, List·Permᴰ·nil, List·Permᴰ·cons, List·Permᴰ·swap, List·Permᴰ·trans, Permᴰ·refl, Permᴰ·symm
+  List,
+  [],
+  _∷_,
+  map,
+  List·Memᴰ,
+  List·Memᴰ·head,
+  List·Memᴰ·tail,
+  List·Memᴰ·not-nil,
+  List·Memᴰ·cases-cons,
+  Memᴰ·cast,
+  Memᴰ·map,
+  List·Permᴰ,
+  List·Permᴰ·nil,
+  List·Permᴰ·cons,
+  List·Permᴰ·swap,
+  List·Permᴰ·trans,
+  Permᴰ·refl,
+  Permᴰ·symm,
 }
 use lib.ListN.{length}
 use Rattle.bundle.proofs.Tests.{not-both}
@@ -19,9 +36,9 @@ insert-perm r [] = Permᴰ·refl (r ∷ [])
 insert-perm r (q ∷ qs) = go (insert-perm r qs) (raceBelow r q)
   where
     go :
-      List·Permᴰ (r ∷ qs) (insertRace r qs)
-      → (t : Bool)
-      → List·Permᴰ (r ∷ q ∷ qs) (cond t (r ∷ q ∷ qs) (q ∷ insertRace r qs))
+        List·Permᴰ (r ∷ qs) (insertRace r qs)
+        → (t : Bool)
+        → List·Permᴰ (r ∷ q ∷ qs) (cond t (r ∷ q ∷ qs) (q ∷ insertRace r qs))
     go d true = Permᴰ·refl (r ∷ q ∷ qs)
     go d false = List·Permᴰ·trans (List·Permᴰ·swap refl refl) (List·Permᴰ·cons refl d)
 
@@ -59,7 +76,7 @@ above-of-not-below a b e apart = go (compare (raceKey a) (raceKey b))
     go (more h) = h
 
 pub insert-ascending :
-  (r : Race) {qs : List Race} → Ascending qs → ((q : Race) → List·Memᴰ q qs → raceKey r ≡ raceKey q → ⊥) → Ascending (insertRace r qs)
+    (r : Race) {qs : List Race} → Ascending qs → ((q : Race) → List·Memᴰ q qs → raceKey r ≡ raceKey q → ⊥) → Ascending (insertRace r qs)
 unfolding insertRace
 insert-ascending r Ascending.none apart = Ascending.more (λ q m. absurd (List·Memᴰ·not-nil m)) Ascending.none
 insert-ascending r (Ascending.more {r = q} {rs = qs} least d) apart =
@@ -67,13 +84,15 @@ insert-ascending r (Ascending.more {r = q} {rs = qs} least d) apart =
   where
     first : raceBelow r q ≡ true → (x : Race) → List·Memᴰ x (q ∷ qs) → raceBelow r x ≡ true
     first e x m = ⊎-elim (λ (p : x ≡ q). rw p e) (λ l. below-trans r q x e (least x l)) (List·Memᴰ·cases-cons m)
+
     later : raceBelow q r ≡ true → (x : Race) → List·Memᴰ x (insertRace r qs) → raceBelow q x ≡ true
     later e x m = ⊎-elim (λ (p : x ≡ r). rw p e) (least x) (List·Memᴰ·cases-cons (perm-mem (Permᴰ·symm (insert-perm r qs)) m))
+
     go :
-      Ascending (insertRace r qs)
-      → (t : Bool)
-      → raceBelow r q ≡ t
-      → Ascending (cond t (r ∷ q ∷ qs) (q ∷ insertRace r qs))
+        Ascending (insertRace r qs)
+        → (t : Bool)
+        → raceBelow r q ≡ t
+        → Ascending (cond t (r ∷ q ∷ qs) (q ∷ insertRace r qs))
     go ih true e = Ascending.more (first e) (Ascending.more least d)
     go ih false e = Ascending.more (later (above-of-not-below r q e (apart q (List·Memᴰ·head refl)))) ih
 
@@ -86,24 +105,27 @@ order-ascending (r ∷ rs) (distinct-cons h d) =
 
 -- ascending lists of the same races are equal
 pub ascending-unique :
-  {rs qs : List Race}
-  → Ascending rs
-  → Ascending qs
-  → ((x : Race) → List·Memᴰ x rs → List·Memᴰ x qs)
-  → ((x : Race) → List·Memᴰ x qs → List·Memᴰ x rs)
-  → rs ≡ qs
+    {rs qs : List Race}
+    → Ascending rs
+    → Ascending qs
+    → ((x : Race) → List·Memᴰ x rs → List·Memᴰ x qs)
+    → ((x : Race) → List·Memᴰ x qs → List·Memᴰ x rs)
+    → rs ≡ qs
 ascending-unique Ascending.none Ascending.none f g = refl
 ascending-unique Ascending.none (Ascending.more {r = q} least d) f g = absurd (List·Memᴰ·not-nil (g q (List·Memᴰ·head refl)))
 ascending-unique (Ascending.more {r = r} least d) Ascending.none f g = absurd (List·Memᴰ·not-nil (f r (List·Memᴰ·head refl)))
 ascending-unique (Ascending.more {r = r} {rs = rs} h d) (Ascending.more {r = q} {rs = qs} k e) f g =
-    rw
-    (heads, ascending-unique d e
-      (λ x m. kept heads (h x m) (f x (List·Memᴰ·tail m)))
-      (λ x m. kept (sym heads) (k x m) (g x (List·Memᴰ·tail m))))
+    rw (
+      heads,
+      ascending-unique d e
+          (λ x m. kept heads (h x m) (f x (List·Memᴰ·tail m)))
+          (λ x m. kept (sym heads) (k x m) (g x (List·Memᴰ·tail m))),
+    )
   where
     kept : {a b x : Race} {xs : List Race} → a ≡ b → raceBelow a x ≡ true → List·Memᴰ x (b ∷ xs) → List·Memᴰ x xs
     kept {a} {b} {x} p l m =
         ⊎-elim (λ (o : x ≡ b). absurd (below-asymmetric a x l (rw (o, ← p) (rw (o, ← p) at l)))) (λ m′. m′) (List·Memᴰ·cases-cons m)
+
     heads : r ≡ q
     heads =
         ⊎-elim

@@ -28,7 +28,7 @@ pub record Exact (b : List ℕ) (j : Judgement) : Type 0 where
   -- "Otherwise the answer gives one of the bundle's races with its lowest shared byte, and every other race of the bundle comes later"
   pub a-race : (r : Race) → j .verdict ≡ Ver.Least r → IsRace (chunksOf b) r
   pub the-least :
-    (r : Race) → j .verdict ≡ Ver.Least r → (q : Race) → IsRace (chunksOf b) q → (q ≡ r) ⊎ (raceBelow r q ≡ true)
+      (r : Race) → j .verdict ≡ Ver.Least r → (q : Race) → IsRace (chunksOf b) q → (q ≡ r) ⊎ (raceBelow r q ≡ true)
   -- "the race count is the number of the bundle's races": the length of the list that holds each of them once, in order
   pub races : List Race
   pub ascending : Ascending races

@@ -59,21 +59,21 @@ segmentsOf cs = concatMap segmentsIn cs
 pub data Joined (a b : Segment) : Type 0 where
   -- "each segment to the next of its chunk"
   next :
-    a .node .team ≡ b .node .team
-    → a .node .member ≡ b .node .member
-    → b .node .number ≡ suc (a .node .number)
-    → Joined a b
+      a .node .team ≡ b .node .team
+      → a .node .member ≡ b .node .member
+      → b .node .number ≡ suc (a .node .number)
+      → Joined a b
   -- "the segment that a REGION ends to segment 0 of every member of that team"
   fork : a .ended ≡ ofRegion (b .node .team) → b .node .number ≡ 0 → Joined a b
   -- "the last segment of every such member to the segment the REGION opens"
   join : a .ended ≡ ofChunk → b .opened ≡ ofRegion (a .node .team) → Joined a b
   -- "for the barrier of each number in a team, every member's segment ending there to every member's segment opening there"
   barrier :
-    (number : ℕ)
-    → a .node .team ≡ b .node .team
-    → a .ended ≡ ofBarrier number
-    → b .opened ≡ ofBarrier number
-    → Joined a b
+      (number : ℕ)
+      → a .node .team ≡ b .node .team
+      → a .ended ≡ ofBarrier number
+      → b .opened ≡ ofBarrier number
+      → Joined a b
 
 -- an edge between two nodes of a bundle
 pub record Edge (segments : List Segment) (a b : Node) : Type 0 where
@@ -137,9 +137,9 @@ unfoldable pub through : List Pair → Node → List Pair
 through ps k =
     filter (λ (q : Pair). not (linked ps (q .from) (q .to)))
     (concatMap
-      (λ (p : Pair).
-        map (λ (q : Pair). record { from = p .from; to = q .to }) (filter (λ (q : Pair). sameNode (q .from) k) ps))
-      (filter (λ (p : Pair). sameNode (p .to) k) ps))
+    (λ (p : Pair).
+    map (λ (q : Pair). record { from = p .from; to = q .to }) (filter (λ (q : Pair). sameNode (q .from) k) ps))
+    (filter (λ (p : Pair). sameNode (p .to) k) ps))
     ++ ps
 
 unfoldable pub closed : List Pair → List Node → List Pair

@@ -31,13 +31,13 @@ verdictOf (r ∷ rs) = Ver.Least r
 unfoldable pub judgementOf : List Chunk → Judgement
 judgementOf cs =
     let races = racesOf cs in
-    record
-      { chunks = length cs
-      ; segments = length (segmentsOf cs)
-      ; accesses = length (accessesOf cs)
-      ; races = length races
-      ; verdict = verdictOf races
-      }
+    record {
+      chunks = length cs;
+      segments = length (segmentsOf cs);
+      accesses = length (accessesOf cs);
+      races = length races;
+      verdict = verdictOf races;
+    }
 
 -- "Next race takes a witness and two names, real or not, and gives the least race above them, or none"
 unfoldable pub raceAbove : List ℕ → List Race → Option Race

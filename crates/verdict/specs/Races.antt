@@ -38,12 +38,12 @@ accessesFrom t m n k (Com.Barrier ∷ cs) = accessesFrom t m n (afterCommand k C
 accessesFrom t m n k (Com.Acquire l ∷ cs) = accessesFrom t m n (afterCommand k (Com.Acquire l)) cs
 accessesFrom t m n k (Com.Release l ∷ cs) = accessesFrom t m n (afterCommand k (Com.Release l)) cs
 accessesFrom t m n k (Com.Access a ∷ cs) =
-    record
-      { name = record { team = t; member = m; number = n }
-      ; node = nodeAt t m k
-      ; access = a
-      ; locks = k .locks
-      }
+    record {
+      name = record { team = t; member = m; number = n };
+      node = nodeAt t m k;
+      access = a;
+      locks = k .locks;
+    }
     ∷ accessesFrom t m (n + 1) k cs
 
 unfoldable pub accessesIn : Chunk → List NamedAccess
@@ -122,13 +122,13 @@ clashes closure x y =
 
 unfoldable pub raceAt : NamedAccess → NamedAccess → ℕ → Race
 raceAt x y witness =
-    record
-      { witness = witness
-      ; first = x .name
-      ; «first_site» = x .access .site
-      ; second = y .name
-      ; «second_site» = y .access .site
-      }
+    record {
+      witness = witness;
+      first = x .name;
+      «first_site» = x .access .site;
+      second = y .name;
+      «second_site» = y .access .site;
+    }
 
 unfoldable pub raceOf : List Pair → NamedAccess → NamedAccess → List Race
 raceOf closure x y =

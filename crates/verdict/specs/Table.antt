@@ -102,13 +102,13 @@ table =
     row (judge E)
     (counts 3 6 2 1
     (Ver.Least
-    (record
-      { witness = 0x100a
-      ; first = record { team = 1; member = 0; number = 0 }
-      ; «first_site» = 10
-      ; second = record { team = 1; member = 1; number = 0 }
-      ; «second_site» = 20
-      })))
+    (record {
+      witness = 0x100a;
+      first = record { team = 1; member = 0; number = 0 };
+      «first_site» = 10;
+      second = record { team = 1; member = 1; number = 0 };
+      «second_site» = 20;
+    })))
     ∷ row (judge (root ++ member0 ++ member1-later)) (counts 3 6 2 0 Ver.RaceFree)
     ∷ row (judge []) (judged (refuses 10 0))
     -- P4, P5
