@@ -2,3 +2,4 @@ pub mod Digits
 pub mod Decoding
 pub mod Ranges
 pub mod RoundTrip
+pub mod Arms

@@ -1,26 +1,13 @@
 // The commands of a run log: "One byte, then operands of fixed width, low byte first", read from bytes and put into them.
 use crate::refusal::Cause;
 ghost use mathlib.Core.Path.{_≡_};
-ghost use mathlib.Core.Bool.{true, _&&_};
-ghost use Prim.Native.Nat.{_+_, _-_, _≤_, _<_, _%_};
+ghost use mathlib.Core.Bool.{_&&_};
+ghost use Prim.Native.Nat.{_+_, _≤_};
 ghost use lib.Dec.{leb, ltb};
 ghost use lib.ListN.{length};
-ghost use lib.Seq.{paste};
-ghost use Rattle.bundle.specs.Commands.{
-  Lent,
-  numberAt,
-  kindOf,
-  sizeOk,
-  strideOk,
-  lastByte,
-  rangeOk,
-  inRange,
-  ranged,
-  readAt,
-  putAt,
-  readingOf,
-  puttingOf,
-};
+ghost use Rattle.bundle.specs.Commands.{numberAt, kindOf, sizeOk, strideOk, lastByte, rangeOk, inRange, ranged, readAt, readingOf};
+ghost use Rattle.bundle.specs.Inner.{StandsAt, AccessAt, RangeAt};
+ghost use Rattle.bundle.specs.Answer.{refuses};
 
 // What an access does: the commands 0x30 to 0x33 in this order.
 pub enum AccessKind {
@@ -122,5 +109,162 @@ pub fn in_range(command: Command) -> bool
         Command::Acquire(lock) => lock < 64,
         Command::Release(lock) => lock < 64,
         Command::Access(access) => range_ok(access.range),
+    }
+}
+
+// The number of two bytes at a position, low byte first.
+fn two_bytes(bytes: &[u8], at: usize) -> u16
+    requires { ⌜ at + 2 ≤ length (now bytes) ⌝ }
+    ensures { λ r. ⌜ r ≡ numberAt 2 (now (bytes .entry)) at ⌝ }
+{
+    (bytes[at] as u16) + 256 * (bytes[at + 1] as u16)
+}
+
+// The number of four bytes at a position, low byte first.
+fn four_bytes(bytes: &[u8], at: usize) -> u32
+    requires { ⌜ at + 4 ≤ length (now bytes) ⌝ }
+    ensures { λ r. ⌜ r ≡ numberAt 4 (now (bytes .entry)) at ⌝ }
+{
+    let low = two_bytes(bytes, at);
+    let high = two_bytes(bytes, at + 2);
+    (low as u32) + 65536 * (high as u32)
+}
+
+// The command, and the position after it, if its operands are in range.
+fn accept(command: Command, next: usize, place: usize) -> Reading
+    ensures { λ r. ⌜ readingOf r ≡ ranged place (record { command = command; next = next }) ⌝ }
+{
+    if in_range(command) {
+        return Reading::Taken { command, next };
+    }
+    Reading::Refused {
+        cause: Cause::OutOfRange,
+        place,
+    }
+}
+
+fn cut_off(place: usize) -> Reading
+    ensures { λ r. ⌜ readingOf r ≡ refuses 3 place ⌝ }
+{
+    Reading::Refused {
+        cause: Cause::OperandsCutOff,
+        place,
+    }
+}
+
+fn read_member(bytes: &[u8], position: usize) -> Reading
+    requires { ⌜ StandsAt (now bytes) position 0x01 ⌝ }
+    ensures { λ r. ⌜ readingOf r ≡ readAt (now (bytes .entry)) position ⌝ }
+{
+    if bytes.len() - position < 4 {
+        return cut_off(position);
+    }
+    let team = two_bytes(bytes, position + 1);
+    let member = bytes[position + 3];
+    accept(Command::Member { team, member }, position + 4, position)
+}
+
+fn read_region(bytes: &[u8], position: usize) -> Reading
+    requires { ⌜ StandsAt (now bytes) position 0x10 ⌝ }
+    ensures { λ r. ⌜ readingOf r ≡ readAt (now (bytes .entry)) position ⌝ }
+{
+    if bytes.len() - position < 4 {
+        return cut_off(position);
+    }
+    let team = two_bytes(bytes, position + 1);
+    let size = bytes[position + 3];
+    accept(Command::Region { team, size }, position + 4, position)
+}
+
+fn read_acquire(bytes: &[u8], position: usize) -> Reading
+    requires { ⌜ StandsAt (now bytes) position 0x20 ⌝ }
+    ensures { λ r. ⌜ readingOf r ≡ readAt (now (bytes .entry)) position ⌝ }
+{
+    if bytes.len() - position < 2 {
+        return cut_off(position);
+    }
+    let lock = bytes[position + 1];
+    accept(Command::Acquire(lock), position + 2, position)
+}
+
+fn read_release(bytes: &[u8], position: usize) -> Reading
+    requires { ⌜ StandsAt (now bytes) position 0x21 ⌝ }
+    ensures { λ r. ⌜ readingOf r ≡ readAt (now (bytes .entry)) position ⌝ }
+{
+    if bytes.len() - position < 2 {
+        return cut_off(position);
+    }
+    let lock = bytes[position + 1];
+    accept(Command::Release(lock), position + 2, position)
+}
+
+fn kind_of(byte: u8) -> AccessKind
+    ensures { λ r. ⌜ r ≡ kindOf byte ⌝ }
+{
+    if byte == 0x30 {
+        return AccessKind::Read;
+    }
+    if byte == 0x31 {
+        return AccessKind::Write;
+    }
+    if byte == 0x32 {
+        return AccessKind::AtomicRead;
+    }
+    AccessKind::AtomicWrite
+}
+
+// The range whose operands begin at a position.
+fn range_at(bytes: &[u8], at: usize) -> Range
+    requires { ⌜ at + 9 ≤ length (now bytes) ⌝ }
+    ensures { λ r. ⌜ RangeAt (now (bytes .entry)) at r ⌝ }
+{
+    let base = four_bytes(bytes, at);
+    let stride = two_bytes(bytes, at + 4);
+    let count = two_bytes(bytes, at + 6);
+    let size = bytes[at + 8];
+    Range {
+        base,
+        stride,
+        count,
+        size,
+    }
+}
+
+fn read_access(bytes: &[u8], position: usize) -> Reading
+    requires { ⌜ AccessAt (now bytes) position ⌝ }
+    ensures { λ r. ⌜ readingOf r ≡ readAt (now (bytes .entry)) position ⌝ }
+{
+    if bytes.len() - position < 12 {
+        return cut_off(position);
+    }
+    let kind = kind_of(bytes[position]);
+    let site = two_bytes(bytes, position + 1);
+    let range = range_at(bytes, position + 3);
+    let access = Access { kind, site, range };
+    accept(Command::Access(access), position + 12, position)
+}
+
+// The command at a position, and the position after it.
+pub fn read_command(bytes: &[u8], position: usize) -> Reading
+    ensures { λ r. ⌜ readingOf r ≡ readAt (now (bytes .entry)) position ⌝ }
+{
+    if bytes.len() <= position {
+        return Reading::Refused {
+            cause: Cause::PastEnd,
+            place: position,
+        };
+    }
+    match bytes[position] {
+        0x01 => read_member(bytes, position),
+        0x02 => accept(Command::End, position + 1, position),
+        0x10 => read_region(bytes, position),
+        0x11 => accept(Command::Barrier, position + 1, position),
+        0x20 => read_acquire(bytes, position),
+        0x21 => read_release(bytes, position),
+        0x30..=0x33 => read_access(bytes, position),
+        _ => Reading::Refused {
+            cause: Cause::UnknownCommand,
+            place: position,
+        },
     }
 }
