@@ -3,3 +3,4 @@ pub mod Decoding
 pub mod Ranges
 pub mod RoundTrip
 pub mod Arms
+pub mod Copying

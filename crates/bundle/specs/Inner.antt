@@ -2,8 +2,9 @@
 use mathlib.Core.Path.{_≡_}
 use Prim.Native.Nat.{ℕ, _+_, _<_, _≤_}
 use mathlib.Core.List.{List}
-use lib.ListN.{length, getD}
+use lib.ListN.{length, getD, take}
 use Rattle.bundle.specs.Commands.{numberAt}
+use Rattle.bundle.specs.declared.command.Encoded.{Encoded}
 use Rattle.bundle.specs.declared.command.Range.{Range}
 
 -- a byte at a position
@@ -23,3 +24,9 @@ pub record RangeAt (s : List ℕ) (at : ℕ) (r : Range) : Type 0 where
   pub stride : r .stride ≡ numberAt 2 s (at + 4)
   pub count : r .count ≡ numberAt 2 s (at + 6)
   pub size : r .size ≡ numberAt 1 s (at + 8)
+
+-- the encoded bytes are these
+pub record Holds (e : Encoded) (bytes : List ℕ) : Type 0 where
+  pub prefix : take (e .length) (e .bytes) ≡ bytes
+  pub long : e .length ≡ length bytes
+  pub within : e .length ≤ length (e .bytes)

@@ -2,11 +2,12 @@
 use crate::refusal::Cause;
 ghost use mathlib.Core.Path.{_≡_};
 ghost use mathlib.Core.Bool.{_&&_};
-ghost use Prim.Native.Nat.{_+_, _≤_};
+ghost use Prim.Native.Nat.{_+_, _-_, _%_, _≤_};
 ghost use lib.Dec.{leb, ltb};
+ghost use mathlib.Core.List.{[], _∷_, _++_};
 ghost use lib.ListN.{length};
-ghost use Rattle.bundle.specs.Commands.{numberAt, kindOf, sizeOk, strideOk, lastByte, rangeOk, inRange, ranged, readAt, readingOf};
-ghost use Rattle.bundle.specs.Inner.{StandsAt, AccessAt, RangeAt};
+ghost use Rattle.bundle.specs.Commands.{numberAt, kindOf, sizeOk, strideOk, lastByte, rangeOk, inRange, ranged, readAt, readingOf, lowFirst, byteOf, bytesOf, written, putAt, puttingOf};
+ghost use Rattle.bundle.specs.Inner.{StandsAt, AccessAt, RangeAt, Holds};
 ghost use Rattle.bundle.specs.Answer.{refuses};
 
 // What an access does: the commands 0x30 to 0x33 in this order.
@@ -267,4 +268,149 @@ pub fn read_command(bytes: &[u8], position: usize) -> Reading
             place: position,
         },
     }
+}
+
+// A command's bytes: the first ones of `bytes`, as many as `length` says.
+struct Encoded {
+    bytes: [u8; 12],
+    length: usize,
+}
+
+fn low(number: u32) -> u8
+    ensures { λ r. ⌜ r ≡ number % 256 ⌝ }
+{
+    (number % 256) as u8
+}
+
+fn encode_plain(byte: u8) -> Encoded
+    ensures { λ r. ⌜ Holds r (byte ∷ []) ⌝ }
+{
+    Encoded {
+        bytes: [byte, 0, 0, 0, 0, 0, 0, 0, 0, 0, 0, 0],
+        length: 1,
+    }
+}
+
+fn encode_lock(byte: u8, lock: u8) -> Encoded
+    ensures { λ r. ⌜ Holds r (byte ∷ lowFirst 1 lock) ⌝ }
+{
+    let lock = low(lock as u32);
+    Encoded {
+        bytes: [byte, lock, 0, 0, 0, 0, 0, 0, 0, 0, 0, 0],
+        length: 2,
+    }
+}
+
+fn encode_team(byte: u8, team: u16, last: u8) -> Encoded
+    ensures { λ r. ⌜ Holds r (byte ∷ lowFirst 2 team ++ lowFirst 1 last) ⌝ }
+{
+    let team = team as u32;
+    let team_0 = low(team);
+    let team_1 = low(team / 256);
+    let last = low(last as u32);
+    Encoded {
+        bytes: [byte, team_0, team_1, last, 0, 0, 0, 0, 0, 0, 0, 0],
+        length: 4,
+    }
+}
+
+fn byte_of(kind: AccessKind) -> u8
+    ensures { λ r. ⌜ r ≡ byteOf kind ⌝ }
+{
+    match kind {
+        AccessKind::Read => 0x30,
+        AccessKind::Write => 0x31,
+        AccessKind::AtomicRead => 0x32,
+        AccessKind::AtomicWrite => 0x33,
+    }
+}
+
+fn encode_access(access: Access) -> Encoded
+    ensures { λ r. ⌜ Holds r (bytesOf (Command.Access access)) ⌝ }
+{
+    let kind = access.kind;
+    let byte = byte_of(kind);
+    let site = access.site as u32;
+    let range = access.range;
+    let base = range.base;
+    let stride = range.stride as u32;
+    let count = range.count as u32;
+    let size = range.size as u32;
+    Encoded {
+        bytes: [
+            byte,
+            low(site),
+            low(site / 256),
+            low(base),
+            low(base / 256),
+            low(base / 256 / 256),
+            low(base / 256 / 256 / 256),
+            low(stride),
+            low(stride / 256),
+            low(count),
+            low(count / 256),
+            low(size),
+        ],
+        length: 12,
+    }
+}
+
+fn encode(command: Command) -> Encoded
+    ensures { λ r. ⌜ Holds r (bytesOf command) ⌝ }
+{
+    match command {
+        Command::Member { team, member } => encode_team(0x01, team, member),
+        Command::End => encode_plain(0x02),
+        Command::Region { team, size } => encode_team(0x10, team, size),
+        Command::Barrier => encode_plain(0x11),
+        Command::Acquire(lock) => encode_lock(0x20, lock),
+        Command::Release(lock) => encode_lock(0x21, lock),
+        Command::Access(access) => encode_access(access),
+    }
+}
+
+// Whether so many bytes fit between the position and the end.
+fn fits(length: usize, end: usize, position: usize) -> bool
+    requires { ⌜ 1 ≤ length ⌝ }
+    ensures { λ r. ⌜ r ≡ leb length (end - position) ⌝ }
+{
+    if end <= position {
+        return false;
+    }
+    length <= end - position
+}
+
+// Copies all of the bytes into the buffer, from the position on.
+fn copy_in(bytes: &[u8], buffer: &mut [u8], position: usize)
+    requires { ⌜ position + length (now bytes) ≤ length (now buffer) ⌝ }
+    ensures { λ _. ⌜ now (buffer .exit) ≡ written (now (buffer .entry)) position (now (bytes .entry)) ⌝ }
+{
+    let mut i = 0;
+    while i < bytes.len() {
+        buffer[position + i] = bytes[i];
+        i += 1;
+    }
+}
+
+// Puts the command's bytes into the buffer at a position.
+pub fn put_command(command: Command, buffer: &mut [u8], position: usize) -> Putting
+    ensures { λ r. ⌜ putAt command (now (buffer .entry)) position ≡ record { answer = puttingOf r; buffer = now (buffer .exit) } ⌝ }
+{
+    if !in_range(command) {
+        return Putting::Refused {
+            cause: Cause::OutOfRange,
+            place: position,
+        };
+    }
+    let encoded = encode(command);
+    let bytes = encoded.bytes;
+    let length = encoded.length;
+    if !fits(length, buffer.len(), position) {
+        return Putting::Refused {
+            cause: Cause::DoesNotFit,
+            place: position,
+        };
+    }
+    copy_in(&bytes[..length], buffer, position);
+    Putting::Written(position + length)
 }
