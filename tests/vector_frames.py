@@ -9,6 +9,9 @@ import second_reader as sr
 from second_reader import Command, Refused
 
 OPERATION_READ, OPERATION_PUT = 1, 2
+OPERATION_CHECK, OPERATION_FIND, OPERATION_LABEL = 3, 4, 5
+OPERATION_COMPARE, OPERATION_SHARED = 6, 7
+OPERATION_JUDGE, OPERATION_NEXT = 8, 9
 
 RECORD_LENGTH = 12
 
@@ -90,6 +93,50 @@ def put_frame(position, command, buffer):
     return frame(OPERATION_PUT, number(position, 8) + command_record(command) + buffer)
 
 
+def check_frame(bundle):
+    return frame(OPERATION_CHECK, bundle)
+
+
+def find_frame(team, member, bundle):
+    return frame(OPERATION_FIND, number(team, 2) + number(member, 1) + bundle)
+
+
+def label_frame(team, member, segment, bundle):
+    return frame(OPERATION_LABEL, number(team, 2) + number(member, 1) + number(segment, 4) + bundle)
+
+
+def label_bytes(label):
+    """A label is its count and five triples."""
+    count, triples = label
+    return number(count, 4) + b"".join(number(part, 4) for triple in triples for part in triple)
+
+
+def compare_frame(first, second):
+    return frame(OPERATION_COMPARE, label_bytes(first) + label_bytes(second))
+
+
+def range_bytes(r):
+    return number(r.base, 4) + number(r.stride, 2) + number(r.count, 2) + number(r.size, 1)
+
+
+def shared_frame(first, second):
+    return frame(OPERATION_SHARED, range_bytes(first) + range_bytes(second))
+
+
+def judge_frame(words, bundle):
+    return frame(OPERATION_JUDGE, number(words, 4) + bundle)
+
+
+def name_bytes(name):
+    team, member, access = name
+    return number(team, 2) + number(member, 1) + number(access, 2)
+
+
+def next_frame(words, witness, first, second, bundle):
+    key = number(witness, 4) + name_bytes(first) + name_bytes(second)
+    return frame(OPERATION_NEXT, number(words, 4) + key + bundle)
+
+
 # ------------------------------------------------------------ answer lines
 
 
@@ -118,9 +165,81 @@ def answer_put(body):
         return f"{refusal_text(refusal)} {buffer.hex()}"
 
 
+def answer_check(body):
+    sr.check(body.rest())
+    return "accepted"
+
+
+def answer_find(body):
+    team, member = body.number(2), body.number(1)
+    return f"chunk {sr.find_chunk(body.rest(), team, member).hex()}"
+
+
+def answer_label(body):
+    team, member, segment = body.number(2), body.number(1), body.number(4)
+    label = sr.label_of(body.rest(), team, member, segment)
+    return "label " + "".join(f"({o},{s},{i})" for o, s, i in label)
+
+
+def take_label(body):
+    count = body.number(4)
+    return count, [(body.number(4), body.number(4), body.number(4)) for _ in range(5)]
+
+
+def answer_compare(body):
+    first = take_label(body)
+    second = take_label(body)
+    return sr.compare_labels(first, second)
+
+
+def take_range(body):
+    return sr.Range(body.number(4), body.number(2), body.number(2), body.number(1))
+
+
+def answer_shared(body):
+    first = take_range(body)
+    second = take_range(body)
+    byte = sr.lowest_shared_byte(first, second)
+    return "none" if byte is None else f"byte {byte}"
+
+
+def race_line(race):
+    return sr.race_text(race, str(race.witness))
+
+
+def answer_judge(body):
+    words = body.number(4)
+    return judgement_text(sr.judge(words, body.rest()))
+
+
+def judgement_text(judgement):
+    chunks, segments, accesses, races, least = judgement
+    counts = f"chunks {chunks} segments {segments} accesses {accesses} races {races}"
+    return f"{counts} {race_line(least) if least else 'race-free'}"
+
+
+def take_name(body):
+    return (body.number(2), body.number(1), body.number(2))
+
+
+def answer_next(body):
+    words, witness = body.number(4), body.number(4)
+    first = take_name(body)
+    second = take_name(body)
+    race = sr.next_race(words, body.rest(), witness, first, second)
+    return race_line(race) if race else "none"
+
+
 ANSWERS = {
     OPERATION_READ: answer_read,
     OPERATION_PUT: answer_put,
+    OPERATION_CHECK: answer_check,
+    OPERATION_FIND: answer_find,
+    OPERATION_LABEL: answer_label,
+    OPERATION_COMPARE: answer_compare,
+    OPERATION_SHARED: answer_shared,
+    OPERATION_JUDGE: answer_judge,
+    OPERATION_NEXT: answer_next,
 }
 
 
