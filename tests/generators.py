@@ -171,9 +171,7 @@ def count_of(chunks, codes):
 
 def fill_segments(chunks, wanted):
     """Barriers of the root, until the bundle has so many segments."""
-    missing = wanted - count_of(chunks, sr.OPENS_SEGMENT)
-    root_of(chunks)[-1:-1] = [Command(sr.BARRIER, ())] * missing
-    return chunks
+    root_of(chunks)[-1:-1] = [Command(sr.BARRIER, ())] * segments_missing(chunks, wanted)
 
 
 def fill_accesses(rng, chunks, wanted, style):
@@ -181,29 +179,34 @@ def fill_accesses(rng, chunks, wanted, style):
     for _ in range(wanted - count_of(chunks, sr.ACCESSES)):
         chunk = rng.choice(chunks)
         chunk.insert(rng.randint(1, len(chunk) - 1), random_access(rng, style))
-    return chunks
 
 
-def fill_bytes(chunks, wanted):
-    """Root barriers up to a multiple of 4, then ACQUIRE and RELEASE of a
-    lock that the generators do not use, until the bundle has this length."""
-    root = root_of(chunks)
-    missing = wanted - len(bundle_bytes(chunks))
+def add_empty_team(chunks):
+    """A team of one without commands, forked by the root: two segments more."""
+    numbers = [c.operands[0] for chunk in chunks for c in chunk if c.code == sr.REGION]
+    free = next(t for t in range(65535, 0, -1) if t not in numbers)
+    root_of(chunks).insert(-1, Command(sr.REGION, (free, 1)))
+    chunks.append([Command(sr.MEMBER, (free, 0)), Command(sr.END, ())])
+
+
+def fill_bytes(chunks, missing):
+    """So many bytes, a multiple of 4, by ACQUIRE and RELEASE of a lock that
+    the generators do not use."""
     pair = [Command(sr.ACQUIRE, (63,)), Command(sr.RELEASE, (63,))]
-    root[-1:-1] = [Command(sr.BARRIER, ())] * (missing % 4) + pair * (missing // 4)
-    return chunks
+    root_of(chunks)[-1:-1] = pair * (missing // 4)
 
 
 def full_bundle(rng, style=LARGE, segments=512, accesses=1024, length=65536):
-    """A bundle with exactly so many segments, accesses and bytes; one more
-    of a single one of them is refused. None leaves a measure as it is."""
+    """A bundle with exactly so many segments, accesses and bytes. A length
+    of None leaves it as it comes."""
     chunks = random_chunks(rng, style)
-    if accesses is not None:
-        fill_accesses(rng, chunks, accesses, style)
+    fill_accesses(rng, chunks, accesses, style)
     if length is not None:
-        fill_bytes(chunks, length - (segments_missing(chunks, segments) if segments else 0))
-    if segments is not None:
-        fill_segments(chunks, segments)
+        # All but END and BARRIER come to multiples of 4 bytes.
+        while (length - len(bundle_bytes(chunks)) - segments_missing(chunks, segments)) % 4:
+            add_empty_team(chunks)
+        fill_bytes(chunks, length - len(bundle_bytes(chunks)) - segments_missing(chunks, segments))
+    fill_segments(chunks, segments)
     return chunks
 
 
