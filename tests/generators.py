@@ -309,15 +309,16 @@ def random_label(rng):
 
 
 def random_triple(rng, number):
-    span = 1 if number == 0 else rng.choice((1, 2, 2, 2, 3, 64))
-    return (rng.randrange(4), span, rng.randrange(2))
+    if number == 0:
+        return (rng.choice((0, 0, 0, 1)), 1, 0)
+    return (rng.randrange(5), rng.choice((2, 2, 2, 2, 3)), rng.choice((0, 0, 1)))
 
 
 def like_label(rng, label):
     """A label that differs from the given one in one place or none."""
     count, triples = label[0], [list(t) for t in label[1]]
-    which = rng.randrange(5)
-    part = rng.randrange(3)
+    which = rng.choice((0, 1, 1, 2, 2, 3, 4))
+    part = rng.choice((0, 0, 1, 2))
     turn = rng.randrange(4)
     if turn == 0:
         count = rng.randint(1, 5)

@@ -251,6 +251,12 @@ def answer_line(operation, data):
         return refusal_text(refusal)
 
 
+def answer_frame(data):
+    """The line for a single frame, given as bytes."""
+    [(operation, body)] = split_frames(data)
+    return answer_line(operation, body)
+
+
 def answer_all(data):
     """The whole stdout for a file of frames."""
     lines = [answer_line(operation, body) + "\n" for operation, body in split_frames(data)]
