@@ -66,12 +66,14 @@ def compare_triples(left, right, place):
 
 # ------------------------------------------------------------ shared bytes
 
-SMALL_RANGE = 512  # bytes touched, up to which sets are used
+SMALL_RANGE = 128  # count times size, up to which sets are used
 
 
-@lru_cache(maxsize=4096)
 def bytes_of(r):
     return frozenset(r.base + k * r.stride + j for k in range(r.count) for j in range(r.size))
+
+
+kept_bytes_of = lru_cache(maxsize=2048)(bytes_of)  # the same, for small ranges
 
 
 def shared_by_sets(a, b):
@@ -111,7 +113,7 @@ def lowest_start(a, b, difference):
 def shared_byte(a, b):
     """The lowest shared byte of two good ranges, or None."""
     if a.count * a.size <= SMALL_RANGE and b.count * b.size <= SMALL_RANGE:
-        return shared_by_sets(a, b)
+        return min(kept_bytes_of(a) & kept_bytes_of(b), default=None)
     return shared_by_solving(a, b)
 
 
