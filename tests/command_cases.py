@@ -64,7 +64,7 @@ def limit_accesses(code, place):
     for size in SIZES:
         yield Command(code, (9, 4096, 0, 1, size))
         yield Command(code, (9, 4096, 3, 4, size))
-    # The whole product for one kind; a quarter of it for each kind.
+    # Each kind takes the whole product for size 1, and a quarter of it for other sizes.
     turn = 0
     for stride in STRIDES:
         for count in COUNTS:
