@@ -58,17 +58,18 @@ pub data Known : ℕ → Type 0 where
   release : Known 0x21
   access : (k : AccessKind) → Known (byteOf k)
 
-access-known : (b : ℕ) → 0x30 ≤ b → b < 0x34 → Known b
+-- what holds of the four kinds' bytes holds of 0x30 to 0x33
+pub access-elim : (P : ℕ → Type 0) → ((k : AccessKind) → P (byteOf k)) → (b : ℕ) → 0x30 ≤ b → b < 0x34 → P b
 unfolding byteOf
-access-known b l h = go (ℕ-discrete b 0x30) (ℕ-discrete b 0x31) (ℕ-discrete b 0x32)
+access-elim P f b l h = go (ℕ-discrete b 0x30) (ℕ-discrete b 0x31) (ℕ-discrete b 0x32)
   where
-    go : Dec (b ≡ 0x30) → Dec (b ≡ 0x31) → Dec (b ≡ 0x32) → Known b
-    go (yes e) q r = subst Known (sym e) (access Kind.Read)
-    go (no n) (yes e) r = subst Known (sym e) (access Kind.Write)
-    go (no n) (no m) (yes e) = subst Known (sym e) (access Kind.AtomicRead)
+    go : Dec (b ≡ 0x30) → Dec (b ≡ 0x31) → Dec (b ≡ 0x32) → P b
+    go (yes e) q r = subst P (sym e) (f Kind.Read)
+    go (no n) (yes e) r = subst P (sym e) (f Kind.Write)
+    go (no n) (no m) (yes e) = subst P (sym e) (f Kind.AtomicRead)
     go (no n) (no m) (no k) =
         let e : b ≡ 0x33 = omega arith in
-        subst Known (sym e) (access Kind.AtomicWrite)
+        subst P (sym e) (f Kind.AtomicWrite)
 
 -- the byte b, if its width is w, begins a command
 record Begins (b w : ℕ) : Type 0 where
@@ -88,7 +89,7 @@ width-known b =
     (begins-at 0x20 2 acquire
     (begins-at 0x21 2 release
     (cond-elim (Begins b) (leb 0x30 b && ltb b 0x34) 12 0
-    (λ e. record { known = λ _. access-known b (leb-true 0x30 b (and-left (leb 0x30 b) (ltb b 0x34) e)) (ltb-true b 0x34 (and-right (leb 0x30 b) (ltb b 0x34) e)) })
+    (λ e. record { known = λ _. access-elim Known access b (leb-true 0x30 b (and-left (leb 0x30 b) (ltb b 0x34) e)) (ltb-true b 0x34 (and-right (leb 0x30 b) (ltb b 0x34) e)) })
     (λ _. record { known = λ e. absurd (true≢false e) }))))))) .known
 
 -- each of them has a width, and no width passes 12

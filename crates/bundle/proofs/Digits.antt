@@ -3,7 +3,7 @@
 use mathlib.Core.Path.{_≡_, refl, sym, ap, ap₂, _∙_}
 use mathlib.Core.List.{List, [], _∷_, _++_}
 use Prim.Native.Nat.{ℕ, zero, suc, _+_, _*_, _/_, _%_, _^_, _≤_, _<_}
-use native.Mathlib.Nat.{add-assoc, mod-add-div, div-lt-iff-lt-mul, pow-suc}
+use native.Mathlib.Nat.{zero-add, add-zero, suc-add, add-assoc, mul-add, mul-assoc, mul-left-comm, mod-add-div, div-lt-iff-lt-mul, pow-suc}
 use native.Mathlib.Numerals.{add-one}
 use native.Mathlib.Omega.{arith}
 use lib.Dec.{lit<}
@@ -63,3 +63,20 @@ pub digits-joined : (k m : ℕ) (s : List ℕ) (from at : ℕ) → Bytes s → f
     → take k (drop from s) ++ lowFirst m (numberAt m s at) ≡ take (k + m) (drop from s)
 digits-joined k m s from at b e h =
     rw (digits-written m s at b h, take-add k m, drop-drop, e)
+
+-- one byte; and a number in two parts
+pub number-one : (s : List ℕ) (at : ℕ) → numberAt 1 s at ≡ getD s at 0
+unfolding numberAt
+number-one s at = omega arith
+
+regroup : (g a p b : ℕ) → g + 256 * (a + p * b) ≡ g + 256 * a + p * 256 * b
+regroup g a p b = simp (mul-add, add-assoc, mul-assoc, mul-left-comm 256 p b)
+
+pub number-parts : (k m : ℕ) (s : List ℕ) (at : ℕ) → numberAt (k + m) s at ≡ numberAt k s at + 256 ^ k * numberAt m s (at + k)
+unfolding numberAt
+number-parts zero m s at = rw (zero-add m, add-zero at) (omega arith)
+number-parts (suc k) m s at =
+    rw (suc-add k m)
+    (ap (λ (n : ℕ). getD s at 0 + 256 * n) (number-parts k m s (at + 1))
+    ∙ regroup (getD s at 0) (numberAt k s (at + 1)) (256 ^ k) (numberAt m s (at + 1 + k))
+    ∙ ap₂ (λ (p n : ℕ). getD s at 0 + 256 * numberAt k s (at + 1) + p * numberAt m s n) (sym (pow-suc 256 k)) (omega arith))

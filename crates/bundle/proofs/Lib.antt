@@ -14,3 +14,5 @@ pub mod Printing
 pub mod Settling
 pub mod Failing
 pub mod Shape
+pub mod Arms
+pub mod Copying

@@ -1,26 +1,14 @@
 // The commands of a run log: "One byte, then operands of fixed width, low byte first", read from bytes and put into them.
 use crate::refusal::Cause;
 ghost use mathlib.Core.Path.{_≡_};
-ghost use mathlib.Core.Bool.{true, _&&_};
-ghost use Prim.Native.Nat.{_+_, _-_, _≤_, _<_, _%_};
+ghost use mathlib.Core.Bool.{_&&_};
+ghost use Prim.Native.Nat.{_+_, _-_, _%_, _≤_};
 ghost use lib.Dec.{leb, ltb};
+ghost use mathlib.Core.List.{[], _∷_, _++_};
 ghost use lib.ListN.{length};
-ghost use lib.Seq.{paste};
-ghost use Rattle.bundle.specs.Commands.{
-  Lent,
-  numberAt,
-  kindOf,
-  sizeOk,
-  strideOk,
-  lastByte,
-  rangeOk,
-  inRange,
-  ranged,
-  readAt,
-  putAt,
-  readingOf,
-  puttingOf,
-};
+ghost use Rattle.bundle.specs.Commands.{numberAt, kindOf, sizeOk, strideOk, lastByte, rangeOk, inRange, ranged, readAt, readingOf, lowFirst, byteOf, bytesOf, written, putAt, puttingOf};
+ghost use Rattle.bundle.specs.Inner.{StandsAt, AccessAt, RangeAt, Holds};
+ghost use Rattle.bundle.specs.Answer.{refuses};
 
 // What an access does: the commands 0x30 to 0x33 in this order.
 pub enum AccessKind {
@@ -123,4 +111,306 @@ pub fn in_range(command: Command) -> bool
         Command::Release(lock) => lock < 64,
         Command::Access(access) => range_ok(access.range),
     }
+}
+
+// The number of two bytes at a position, low byte first.
+fn two_bytes(bytes: &[u8], at: usize) -> u16
+    requires { ⌜ at + 2 ≤ length (now bytes) ⌝ }
+    ensures { λ r. ⌜ r ≡ numberAt 2 (now (bytes .entry)) at ⌝ }
+{
+    (bytes[at] as u16) + 256 * (bytes[at + 1] as u16)
+}
+
+// The number of four bytes at a position, low byte first.
+fn four_bytes(bytes: &[u8], at: usize) -> u32
+    requires { ⌜ at + 4 ≤ length (now bytes) ⌝ }
+    ensures { λ r. ⌜ r ≡ numberAt 4 (now (bytes .entry)) at ⌝ }
+{
+    let low = two_bytes(bytes, at);
+    let high = two_bytes(bytes, at + 2);
+    (low as u32) + 65536 * (high as u32)
+}
+
+// The command, and the position after it, if its operands are in range.
+fn accept(command: Command, next: usize, place: usize) -> Reading
+    ensures { λ r. ⌜ readingOf r ≡ ranged place (record { command = command; next = next }) ⌝ }
+{
+    if in_range(command) {
+        return Reading::Taken { command, next };
+    }
+    Reading::Refused {
+        cause: Cause::OutOfRange,
+        place,
+    }
+}
+
+fn cut_off(place: usize) -> Reading
+    ensures { λ r. ⌜ readingOf r ≡ refuses 3 place ⌝ }
+{
+    Reading::Refused {
+        cause: Cause::OperandsCutOff,
+        place,
+    }
+}
+
+fn read_member(bytes: &[u8], position: usize) -> Reading
+    requires { ⌜ StandsAt (now bytes) position 0x01 ⌝ }
+    ensures { λ r. ⌜ readingOf r ≡ readAt (now (bytes .entry)) position ⌝ }
+{
+    if bytes.len() - position < 4 {
+        return cut_off(position);
+    }
+    let team = two_bytes(bytes, position + 1);
+    let member = bytes[position + 3];
+    accept(Command::Member { team, member }, position + 4, position)
+}
+
+fn read_region(bytes: &[u8], position: usize) -> Reading
+    requires { ⌜ StandsAt (now bytes) position 0x10 ⌝ }
+    ensures { λ r. ⌜ readingOf r ≡ readAt (now (bytes .entry)) position ⌝ }
+{
+    if bytes.len() - position < 4 {
+        return cut_off(position);
+    }
+    let team = two_bytes(bytes, position + 1);
+    let size = bytes[position + 3];
+    accept(Command::Region { team, size }, position + 4, position)
+}
+
+fn read_acquire(bytes: &[u8], position: usize) -> Reading
+    requires { ⌜ StandsAt (now bytes) position 0x20 ⌝ }
+    ensures { λ r. ⌜ readingOf r ≡ readAt (now (bytes .entry)) position ⌝ }
+{
+    if bytes.len() - position < 2 {
+        return cut_off(position);
+    }
+    let lock = bytes[position + 1];
+    accept(Command::Acquire(lock), position + 2, position)
+}
+
+fn read_release(bytes: &[u8], position: usize) -> Reading
+    requires { ⌜ StandsAt (now bytes) position 0x21 ⌝ }
+    ensures { λ r. ⌜ readingOf r ≡ readAt (now (bytes .entry)) position ⌝ }
+{
+    if bytes.len() - position < 2 {
+        return cut_off(position);
+    }
+    let lock = bytes[position + 1];
+    accept(Command::Release(lock), position + 2, position)
+}
+
+fn kind_of(byte: u8) -> AccessKind
+    ensures { λ r. ⌜ r ≡ kindOf byte ⌝ }
+{
+    if byte == 0x30 {
+        return AccessKind::Read;
+    }
+    if byte == 0x31 {
+        return AccessKind::Write;
+    }
+    if byte == 0x32 {
+        return AccessKind::AtomicRead;
+    }
+    AccessKind::AtomicWrite
+}
+
+// The range whose operands begin at a position.
+fn range_at(bytes: &[u8], at: usize) -> Range
+    requires { ⌜ at + 9 ≤ length (now bytes) ⌝ }
+    ensures { λ r. ⌜ RangeAt (now (bytes .entry)) at r ⌝ }
+{
+    let base = four_bytes(bytes, at);
+    let stride = two_bytes(bytes, at + 4);
+    let count = two_bytes(bytes, at + 6);
+    let size = bytes[at + 8];
+    Range {
+        base,
+        stride,
+        count,
+        size,
+    }
+}
+
+fn read_access(bytes: &[u8], position: usize) -> Reading
+    requires { ⌜ AccessAt (now bytes) position ⌝ }
+    ensures { λ r. ⌜ readingOf r ≡ readAt (now (bytes .entry)) position ⌝ }
+{
+    if bytes.len() - position < 12 {
+        return cut_off(position);
+    }
+    let kind = kind_of(bytes[position]);
+    let site = two_bytes(bytes, position + 1);
+    let range = range_at(bytes, position + 3);
+    let access = Access { kind, site, range };
+    accept(Command::Access(access), position + 12, position)
+}
+
+// The command at a position, and the position after it.
+pub fn read_command(bytes: &[u8], position: usize) -> Reading
+    ensures { λ r. ⌜ readingOf r ≡ readAt (now (bytes .entry)) position ⌝ }
+{
+    if bytes.len() <= position {
+        return Reading::Refused {
+            cause: Cause::PastEnd,
+            place: position,
+        };
+    }
+    match bytes[position] {
+        0x01 => read_member(bytes, position),
+        0x02 => accept(Command::End, position + 1, position),
+        0x10 => read_region(bytes, position),
+        0x11 => accept(Command::Barrier, position + 1, position),
+        0x20 => read_acquire(bytes, position),
+        0x21 => read_release(bytes, position),
+        0x30..=0x33 => read_access(bytes, position),
+        _ => Reading::Refused {
+            cause: Cause::UnknownCommand,
+            place: position,
+        },
+    }
+}
+
+// A command's bytes: the first ones of `bytes`, as many as `length` says.
+struct Encoded {
+    bytes: [u8; 12],
+    length: usize,
+}
+
+fn low(number: u32) -> u8
+    ensures { λ r. ⌜ r ≡ number % 256 ⌝ }
+{
+    (number % 256) as u8
+}
+
+fn encode_plain(byte: u8) -> Encoded
+    ensures { λ r. ⌜ Holds r (byte ∷ []) ⌝ }
+{
+    Encoded {
+        bytes: [byte, 0, 0, 0, 0, 0, 0, 0, 0, 0, 0, 0],
+        length: 1,
+    }
+}
+
+fn encode_lock(byte: u8, lock: u8) -> Encoded
+    ensures { λ r. ⌜ Holds r (byte ∷ lowFirst 1 lock) ⌝ }
+{
+    let lock = low(lock as u32);
+    Encoded {
+        bytes: [byte, lock, 0, 0, 0, 0, 0, 0, 0, 0, 0, 0],
+        length: 2,
+    }
+}
+
+fn encode_team(byte: u8, team: u16, last: u8) -> Encoded
+    ensures { λ r. ⌜ Holds r (byte ∷ lowFirst 2 team ++ lowFirst 1 last) ⌝ }
+{
+    let team = team as u32;
+    let team_0 = low(team);
+    let team_1 = low(team / 256);
+    let last = low(last as u32);
+    Encoded {
+        bytes: [byte, team_0, team_1, last, 0, 0, 0, 0, 0, 0, 0, 0],
+        length: 4,
+    }
+}
+
+fn byte_of(kind: AccessKind) -> u8
+    ensures { λ r. ⌜ r ≡ byteOf kind ⌝ }
+{
+    match kind {
+        AccessKind::Read => 0x30,
+        AccessKind::Write => 0x31,
+        AccessKind::AtomicRead => 0x32,
+        AccessKind::AtomicWrite => 0x33,
+    }
+}
+
+fn encode_access(access: Access) -> Encoded
+    ensures { λ r. ⌜ Holds r (bytesOf (Command.Access access)) ⌝ }
+{
+    let kind = access.kind;
+    let byte = byte_of(kind);
+    let site = access.site as u32;
+    let range = access.range;
+    let base = range.base;
+    let stride = range.stride as u32;
+    let count = range.count as u32;
+    let size = range.size as u32;
+    Encoded {
+        bytes: [
+            byte,
+            low(site),
+            low(site / 256),
+            low(base),
+            low(base / 256),
+            low(base / 256 / 256),
+            low(base / 256 / 256 / 256),
+            low(stride),
+            low(stride / 256),
+            low(count),
+            low(count / 256),
+            low(size),
+        ],
+        length: 12,
+    }
+}
+
+fn encode(command: Command) -> Encoded
+    ensures { λ r. ⌜ Holds r (bytesOf command) ⌝ }
+{
+    match command {
+        Command::Member { team, member } => encode_team(0x01, team, member),
+        Command::End => encode_plain(0x02),
+        Command::Region { team, size } => encode_team(0x10, team, size),
+        Command::Barrier => encode_plain(0x11),
+        Command::Acquire(lock) => encode_lock(0x20, lock),
+        Command::Release(lock) => encode_lock(0x21, lock),
+        Command::Access(access) => encode_access(access),
+    }
+}
+
+// Whether so many bytes fit between the position and the end.
+fn fits(length: usize, end: usize, position: usize) -> bool
+    requires { ⌜ 1 ≤ length ⌝ }
+    ensures { λ r. ⌜ r ≡ leb length (end - position) ⌝ }
+{
+    if end <= position {
+        return false;
+    }
+    length <= end - position
+}
+
+// Copies all of the bytes into the buffer, from the position on.
+fn copy_in(bytes: &[u8], buffer: &mut [u8], position: usize)
+    requires { ⌜ position + length (now bytes) ≤ length (now buffer) ⌝ }
+    ensures { λ _. ⌜ now (buffer .exit) ≡ written (now (buffer .entry)) position (now (bytes .entry)) ⌝ }
+{
+    let mut i = 0;
+    while i < bytes.len() {
+        buffer[position + i] = bytes[i];
+        i += 1;
+    }
+}
+
+// Puts the command's bytes into the buffer at a position.
+pub fn put_command(command: Command, buffer: &mut [u8], position: usize) -> Putting
+    ensures { λ r. ⌜ putAt command (now (buffer .entry)) position ≡ record { answer = puttingOf r; buffer = now (buffer .exit) } ⌝ }
+{
+    if !in_range(command) {
+        return Putting::Refused {
+            cause: Cause::OutOfRange,
+            place: position,
+        };
+    }
+    let encoded = encode(command);
+    let bytes = encoded.bytes;
+    let length = encoded.length;
+    if !fits(length, buffer.len(), position) {
+        return Putting::Refused {
+            cause: Cause::DoesNotFit,
+            place: position,
+        };
+    }
+    copy_in(&bytes[..length], buffer, position);
+    Putting::Written(position + length)
 }

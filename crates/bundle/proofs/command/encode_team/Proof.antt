@@ -1,0 +1,12 @@
+-- `bundle::command::encode_team` meets its contract. Assumes nothing.
+use Rattle.bundle.specs.Commands.{lowFirst}
+use borrow.Author.Needs.{needs}
+use Rattle.bundle.proofs.command.encode_team.Statement.{statement}
+use Rattle.bundle.proofs.command.encode_team.Tie as tie
+
+returns : tie.Need-returns
+unfolding lowFirst
+returns c = search needs
+
+pub encode-team-spec : {M : Type 1} → statement M
+encode-team-spec = tie.close (tie.spec (λ c κs. search needs) (λ c κs. search needs) (λ c κs. search needs) returns)

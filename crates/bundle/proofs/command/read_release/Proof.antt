@@ -1,0 +1,31 @@
+-- `bundle::command::read_release` meets its contract. Assumes nothing.
+use mathlib.Core.Path.{sym, ap, _∙_}
+use Rattle.bundle.specs.Commands.{widthOf, commandAt}
+use Rattle.bundle.specs.declared.command.Command.the-variants as Com
+use Rattle.bundle.proofs.Digits.{number-one}
+use Rattle.bundle.proofs.Decoding.{release}
+use Rattle.bundle.proofs.Arms.{read-cut, read-whole}
+use borrow.Author.Needs.{needs}
+use Rattle.bundle.proofs.command.read_release.Statement.{statement}
+use Rattle.bundle.proofs.command.read_release.Tie as tie
+
+returns : tie.Need-returns
+unfolding widthOf
+returns c = c .cut-off .ensures ∙ read-cut _ _ (c .before .before .before .pre) release (c .before .if1 .taken)
+
+returns-2 : tie.Need-returns-2
+unfolding widthOf commandAt
+returns-2 c = c .accept .ensures ∙ read-whole _ _ (c .before .before .before .before .pre) _ release (c .before .before .if1 .left) (ap Com.Release (sym (number-one _ _)))
+
+pub read-release-spec : {M : Type 1} → statement M
+read-release-spec =
+    tie.close
+    (tie.spec
+    (λ c. search needs)
+    (λ c κs. search needs)
+    returns
+    (λ c. search needs)
+    (λ c. search needs)
+    (λ c. search needs)
+    (λ c κs. search needs)
+    returns-2)

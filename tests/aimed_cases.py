@@ -1,0 +1,340 @@
+"""Bundles aimed at each refusal of check, its sub-cases and precedences.
+
+Each case is a title, the refusal's number (None if accepted) and the bundle
+as text, with * at the place of the refusal. Number and place are taken from
+document 01 by hand.
+"""
+
+from collections import namedtuple
+
+from bundle_text import assemble
+
+Case = namedtuple("Case", "title number text")
+
+E = """
+member 0 0; region 1 2; end
+member 1 0; write 10 4096 8 2 4; barrier; end
+member 1 1; read 20 4106 0 1 4; barrier; end
+"""
+
+E_BYTES = bytes.fromhex(
+    "01 00 00 00 10 01 00 02 02"
+    "01 01 00 00 31 0a 00 00 10 00 00 08 00 02 00 04 11 02"
+    "01 01 00 01 30 14 00 0a 10 00 00 00 00 01 00 04 11 02"
+)
+
+# E with member 1's read after its barrier.
+E_LATE_READ = """
+member 0 0; region 1 2; end
+member 1 0; write 10 4096 8 2 4; barrier; end
+member 1 1; barrier; read 20 4106 0 1 4; end
+"""
+
+ACCESS = "read 1 0 0 1 1"
+FULL_BYTES = "member 0 0; times 3 barrier; times 16382 acquire 1, release 1"  # 65,535 bytes
+CHAIN_4 = """
+member 0 0; region 1 1; end
+member 1 0; region 2 1; end
+member 2 0; region 3 1; end
+member 3 0; region 4 1; end
+"""
+
+ACCEPTED = [
+    Case("only a root", None, "member 0 0; end"),
+    Case("E", None, E),
+    Case("E with a late read", None, E_LATE_READ),
+    Case("exactly 65,536 bytes", None, FULL_BYTES + "; end"),
+    Case("exactly 512 segments", None, "member 0 0; times 511 barrier; end"),
+    Case("exactly 1,024 accesses", None, f"member 0 0; times 1024 {ACCESS}; end"),
+    Case("exactly 512 segments, then more commands", None,
+         f"member 0 0; times 511 barrier; {ACCESS}; acquire 1; release 1; end"),
+    Case("exactly 1,024 accesses, then more commands", None,
+         f"member 0 0; times 1024 {ACCESS}; barrier; acquire 1; release 1; region 1 1; end\nmember 1 0; end"),
+    Case("exactly 512 segments over a root and 63 members", None,
+         "member 0 0; times 447 barrier; region 1 63; end\n"
+         + "\n".join(f"member 1 {m}; end" for m in range(63))),
+    Case("depth 4", None, CHAIN_4 + "member 4 0; end"),
+    Case("team of 64", None, "member 0 0; region 65535 64; end\n"
+         + "\n".join(f"member 65535 {m}; end" for m in reversed(range(64)))),
+    Case("chunks before their fork", None, "member 2 0; end; member 1 0; region 2 1; end; member 0 0; region 1 1; end"),
+    Case("locks held over a barrier and a region", None,
+         "member 0 0; acquire 0; acquire 63; region 1 1; barrier; release 0; release 63; end; member 1 0; acquire 63; release 63; end"),
+    Case("a lock taken again", None, "member 0 0; acquire 5; release 5; acquire 5; release 5; end"),
+    Case("root barriers", None, "member 0 0; barrier; barrier; end"),
+    Case("last byte 4,294,967,295", None, "member 0 0; write 1 4294967288 0 1 8; end"),
+    Case("last byte 4,294,967,295 with a stride", None, "member 0 0; write 1 4294967286 8 2 2; end"),
+    Case("like barrier counts in each team alone", None, """
+        member 0 0; barrier; region 1 2; region 2 2; end
+        member 1 0; barrier; barrier; end; member 1 1; barrier; barrier; end
+        member 2 0; end; member 2 1; end"""),
+]
+
+TOO_LONG = [
+    Case("65,537 good bytes", 1, "*" + FULL_BYTES + "; barrier; end"),
+    Case("1 before 2", 1, "*times 65537 raw 00"),
+    Case("1 before 3", 1, "*" + FULL_BYTES + "; end; cut 1 member 0 0"),
+    Case("1 before 4", 1, "*" + FULL_BYTES + "; barrier; barrier"),
+    Case("1 before 7", 1, "*member 0 0; times 70000 barrier; end"),
+    Case("1 before 10", 1, "*" + FULL_BYTES + "; region 1 1; end"),
+    Case("not 1: 65,536 unknown bytes", 2, "*times 65536 raw 00"),
+    Case("not 1: 65,536 bytes ending inside a chunk", 4, FULL_BYTES + "; barrier; *"),
+]
+
+UNKNOWN = [
+    Case("alone", 2, "*raw 00"),
+    Case("inside a chunk", 2, "member 0 0; barrier; *raw 03; end"),
+    Case("behind a good bundle", 2, "member 0 0; end; *raw ff"),
+    Case("2 before 3: nothing follows", 2, "member 0 0; *raw 34"),
+    Case("2 before 4: outside a chunk", 2, "*raw 12; end"),
+    Case("2 at a lower offset than 3", 2, "member 0 0; *raw 22; cut 1 acquire 1"),
+    Case("2 at a lower offset than 4", 2, "member 0 0; *raw 2f"),
+    Case("2 before 8 to 12 at lower offsets", 2, "member 0 1; region 1 2; region 1 2; end; *raw 0f"),
+]
+
+CUT_OFF = [
+    Case("MEMBER cut after 1", 3, "*cut 1 member 0 0"),
+    Case("MEMBER cut after 3", 3, "*cut 3 member 0 0"),
+    Case("a second MEMBER cut", 3, "member 0 0; end; *cut 2 member 1 0"),
+    Case("REGION cut after 1", 3, "member 0 0; *cut 1 region 1 1"),
+    Case("REGION cut after 3", 3, "member 0 0; *cut 3 region 1 1"),
+    Case("ACQUIRE cut", 3, "member 0 0; *cut 1 acquire 1"),
+    Case("RELEASE cut", 3, "member 0 0; *cut 1 release 1"),
+    Case("access cut after 1", 3, "member 0 0; *cut 1 read 1 0 0 1 1"),
+    Case("access cut after 11", 3, "member 0 0; *cut 11 atomic-write 1 0 0 1 1"),
+    Case("3 before 4: access outside a chunk", 3, "*cut 5 write 1 0 0 1 1"),
+    Case("3 before 4: ACQUIRE outside a chunk", 3, "member 0 0; end; *cut 1 acquire 1"),
+    Case("3 before 4: REGION outside a chunk", 3, "*cut 2 region 1 1"),
+    Case("3 before 4: MEMBER inside a chunk", 3, "member 0 0; *cut 3 member 1 0"),
+    Case("3 before 5: team 0", 3, "member 0 0; *cut 3 region 0 1"),
+    Case("3 before 5: own-team rule", 3, "member 5 0; *cut 3 region 5 1"),
+    Case("3 before 5: count 0", 3, "member 0 0; *cut 11 write 1 0 0 0 1"),
+    Case("3 before 6: an unheld lock cut off", 3, "member 0 0; acquire 1; *cut 1 release 2"),
+    Case("3 before 7: the 513th segment cut off", 3, "member 0 0; times 511 barrier; *cut 2 region 1 1"),
+    Case("3 before 7: the 1,025th access cut off", 3, f"member 0 0; times 1024 {ACCESS}; *cut 11 {ACCESS}"),
+    Case("3 before 8 to 12 at lower offsets", 3, "member 0 1; region 1 2; region 1 2; end; *cut 1 member 0 0"),
+]
+
+MISPLACED = [
+    Case("END outside", 4, "*end"),
+    Case("BARRIER outside", 4, "*barrier"),
+    Case("REGION outside", 4, "*region 1 1; end"),
+    Case("ACQUIRE outside", 4, "*acquire 1"),
+    Case("RELEASE outside", 4, "*release 1"),
+    *[Case(f"{kind} outside", 4, f"*{kind} 1 0 0 1 1; member 0 0; end")
+      for kind in ("read", "write", "atomic-read", "atomic-write")],
+    Case("a second END", 4, "member 0 0; end; *end"),
+    Case("a command between chunks", 4, "member 0 0; region 1 1; end; *barrier; member 1 0; end"),
+    Case("MEMBER inside", 4, "member 0 0; *member 1 0; end"),
+    Case("the same MEMBER inside", 4, "member 0 0; barrier; *member 0 0; end; end"),
+    Case("ending behind MEMBER", 4, "member 0 0; *"),
+    Case("ending behind a region", 4, "member 0 0; region 1 1; *"),
+    Case("ending in the second chunk", 4, "member 0 0; region 1 1; end; member 1 0; barrier; *"),
+    Case("ending with a lock held, not 6", 4, "member 0 0; acquire 1; *"),
+    Case("ending before 8 to 12", 4, "member 0 1; region 1 2; region 1 2; end; member 0 1; *"),
+    Case("4 before 5: MEMBER 64 inside", 4, "member 0 0; *member 0 64; end"),
+    Case("4 before 5: ACQUIRE 64 outside", 4, "*acquire 64"),
+    Case("4 before 5: RELEASE 255 outside", 4, "*release 255"),
+    Case("4 before 5: REGION size 0 outside", 4, "*region 1 0"),
+    Case("4 before 5: REGION team 0 outside", 4, "member 0 0; end; *region 0 1"),
+    Case("4 before 5: access count 0 outside", 4, "*write 1 0 0 0 1"),
+    Case("4 before 5: access size 3 outside", 4, "*atomic-read 1 0 0 1 3"),
+    Case("4 before 6: RELEASE unheld outside", 4, "member 0 0; end; *release 1"),
+    Case("4 before 6: ACQUIRE twice outside", 4, "member 0 0; acquire 1; release 1; end; *acquire 1; acquire 1"),
+    Case("4 before 7: 513th segment by MEMBER inside", 4, "member 0 0; times 511 barrier; *member 1 0; end"),
+    Case("4 before 7: 513th segment by BARRIER outside", 4, "member 0 0; times 511 barrier; end; *barrier"),
+    Case("4 before 7: 1,025th access outside", 4, f"member 0 0; times 1024 {ACCESS}; end; *{ACCESS}"),
+    Case("4 at a lower offset than 2", 4, "*barrier; raw 00"),
+    Case("4 at a lower offset than 3", 4, "*end; cut 1 member 0 0"),
+    Case("4 before 8 to 12 at lower offsets", 4, "member 0 1; region 1 2; region 1 2; end; *end"),
+]
+
+OUT_OF_RANGE = [
+    Case("MEMBER 64", 5, "*member 0 64; end"),
+    Case("MEMBER 255 in the second chunk", 5, "member 0 0; end; *member 1 255; end"),
+    Case("REGION team 0", 5, "member 0 0; *region 0 1; end"),
+    Case("REGION size 0", 5, "member 0 0; *region 1 0; end"),
+    Case("REGION size 65", 5, "member 0 0; *region 1 65; end"),
+    Case("own team", 5, "member 0 0; region 3 1; end; member 3 0; *region 3 1; end"),
+    Case("team below the own", 5, "member 0 0; region 3 1; end; member 3 0; *region 2 1; end"),
+    Case("own team 65,535", 5, "member 65535 0; *region 65535 1; end"),
+    Case("own team compared as 16 bits", 5, "member 256 0; *region 255 1; end"),
+    Case("ACQUIRE 64", 5, "member 0 0; *acquire 64; end"),
+    Case("count 0", 5, "member 0 0; *read 1 0 0 0 1; end"),
+    Case("count 0 with a stride", 5, "member 0 0; *read 1 0 4 0 1; end"),
+    Case("stride 0 with count 2", 5, "member 0 0; *write 1 0 0 2 1; end"),
+    Case("stride 1 with count 1", 5, "member 0 0; *atomic-read 1 0 1 1 1; end"),
+    *[Case(f"size {size}", 5, f"member 0 0; *atomic-write 1 0 0 1 {size}; end")
+      for size in (0, 3, 5, 6, 7, 9, 16, 255)],
+    Case("last byte 4,294,967,296 by size", 5, "member 0 0; *write 1 4294967295 0 1 2; end"),
+    Case("last byte 4,294,967,296 by stride", 5, "member 0 0; *write 1 4294967287 8 2 2; end"),
+    Case("last byte above 2 to the 33rd", 5, "member 0 0; *write 1 4294967295 65535 65535 8; end"),
+    Case("5 before 6: RELEASE 64, unheld", 5, "member 0 0; *release 64; end"),
+    Case("5 before 6: ACQUIRE 65 twice", 5, "member 0 0; *acquire 65; acquire 65; end"),
+    Case("5 before 7: 513th segment by REGION size 0", 5, "member 0 0; times 511 barrier; *region 1 0; end"),
+    Case("5 before 7: 513th segment by own team", 5, "member 7 0; times 511 barrier; *region 7 1; end"),
+    Case("5 before 7: 513th segment by MEMBER 64", 5, "member 0 0; times 511 barrier; end; *member 1 64; end"),
+    Case("5 before 7: 1,025th access with size 3", 5, f"member 0 0; times 1024 {ACCESS}; *read 1 0 0 1 3; end"),
+    Case("5 at a lower offset than 2", 5, "member 0 0; *acquire 64; raw 00"),
+    Case("5 at a lower offset than 4", 5, "member 0 0; *acquire 64"),
+    Case("5 at a lower offset than 6", 5, "member 0 0; *acquire 64; release 3; end"),
+    Case("5 before 8 to 12 at lower offsets", 5, "member 0 1; region 1 2; region 1 2; end; *member 0 64; end"),
+]
+
+LOCKS = [
+    Case("a held lock acquired", 6, "member 0 0; acquire 3; *acquire 3; release 3; end"),
+    Case("a held lock acquired behind others", 6, "member 0 0; acquire 0; acquire 63; barrier; *acquire 0; end"),
+    Case("an unheld lock released", 6, "member 0 0; *release 3; end"),
+    Case("another lock released", 6, "member 0 0; acquire 3; *release 4; end"),
+    Case("a lock released twice", 6, "member 0 0; acquire 3; release 3; *release 3; end"),
+    Case("a lock of an earlier chunk released", 6, "member 0 0; region 1 1; acquire 3; release 3; end; member 1 0; *release 3; end"),
+    Case("a lock held at END", 6, "member 0 0; acquire 63; *end"),
+    Case("one of two locks held at END", 6, "member 0 0; acquire 0; acquire 1; release 0; *end"),
+    Case("6 at a lower offset than 2", 6, "member 0 0; *release 3; raw 00"),
+    Case("6 at a lower offset than 4", 6, "member 0 0; acquire 1; *end; end"),
+    Case("6 at a lower offset than 5", 6, "member 0 0; *release 3; acquire 64; end"),
+    Case("6 at a lower offset than 7", 6, "member 0 0; times 511 barrier; *release 3; barrier; end"),
+    Case("6 before 8 to 12 at lower offsets", 6, "member 0 1; region 1 2; region 1 2; end; member 0 1; *release 0; end"),
+]
+
+TOO_MANY = [
+    Case("513th segment by BARRIER", 7, "member 0 0; times 511 barrier; *barrier; end"),
+    Case("513th segment by REGION", 7, "member 0 0; times 511 barrier; *region 1 1; end; member 1 0; end"),
+    Case("513th segment by MEMBER", 7, "member 0 0; times 511 barrier; end; *member 1 0; end"),
+    Case("513th segment over several chunks", 7,
+         "member 0 0; times 300 barrier; region 1 1; end; member 1 0; times 209 barrier; *barrier; end"),
+    *[Case(f"1,025th access by {kind}", 7, f"member 0 0; times 1024 {ACCESS}; *{kind} 1 0 0 1 1; end")
+      for kind in ("read", "write", "atomic-read", "atomic-write")],
+    Case("1,025th access over several chunks", 7,
+         f"member 0 0; times 1000 {ACCESS}; region 1 1; end; member 1 0; times 24 {ACCESS}; *{ACCESS}; end"),
+    Case("7 by a segment before 7 by an access", 7,
+         f"member 0 0; times 1024 {ACCESS}; times 511 barrier; *barrier; {ACCESS}; end"),
+    Case("7 by an access before 7 by a segment", 7,
+         f"member 0 0; times 511 barrier; times 1024 {ACCESS}; *{ACCESS}; barrier; end"),
+    Case("7 at a lower offset than 2", 7, "member 0 0; times 511 barrier; *barrier; raw 00"),
+    Case("7 at a lower offset than 4", 7, "member 0 0; times 511 barrier; *barrier"),
+    Case("7 at a lower offset than 6", 7, "member 0 0; times 511 barrier; *barrier; release 3; end"),
+    Case("7 before 8 to 12 at lower offsets", 7,
+         "member 0 1; region 1 2; region 1 2; end; member 0 1; times 508 barrier; *barrier; end"),
+]
+
+FORKED_BEFORE = [
+    Case("twice in a chunk", 8, "member 0 0; region 1 1; *region 1 1; end; member 1 0; end"),
+    Case("in two chunks of a team", 8, """
+        member 0 0; region 1 2; end
+        member 1 0; region 2 1; end; member 1 1; *region 2 1; end; member 2 0; end"""),
+    Case("later is the higher offset", 8, """
+        member 1 0; region 2 1; end
+        member 0 0; region 1 1; *region 2 1; end; member 2 0; end"""),
+    Case("with another size", 8, "member 0 0; region 1 1; *region 1 2; end; member 1 0; end; member 1 1; end"),
+    Case("three times", 8, "member 0 0; region 1 1; *region 1 1; region 1 1; end; member 1 0; end"),
+    Case("two teams, the lower offset", 8,
+         "member 0 0; region 1 1; region 2 1; *region 2 1; region 1 1; end; member 1 0; end; member 2 0; end"),
+    Case("8 before 9 at a lower offset", 8, "member 9 0; end; member 0 0; region 1 1; *region 1 1; end; member 1 0; end"),
+    Case("8 before 10 at a lower offset", 8, "member 0 0; region 2 1; region 1 1; *region 1 1; end; member 1 0; end"),
+    Case("8 before 10: no chunk of the team", 8, "member 0 0; region 1 1; *region 1 1; end"),
+    Case("8 before 11 at a lower offset", 8, CHAIN_4 + "member 4 0; region 5 1; *region 5 1; end; member 5 0; end"),
+    Case("8 before 12 at a lower offset", 8, """
+        member 1 1; end; member 1 0; barrier; end
+        member 0 0; region 1 2; region 2 1; *region 2 1; end; member 2 0; end"""),
+]
+
+STRAY = [
+    Case("never forked", 9, "member 0 0; end; *member 1 0; end"),
+    Case("never forked, before the root", 9, "*member 1 0; end; member 0 0; end"),
+    Case("never forked, without a root", 9, "*member 1 0; end"),
+    Case("forked only by its number in low bytes", 9, "member 0 0; region 257 1; end; *member 1 0; end; member 257 0; end"),
+    Case("member equal to the size", 9, "member 0 0; region 1 1; end; member 1 0; end; *member 1 1; end"),
+    Case("member above the size", 9, "*member 1 63; end; member 0 0; region 1 2; end; member 1 0; end; member 1 1; end"),
+    Case("root member 1", 9, "member 0 0; end; *member 0 1; end"),
+    Case("root member 1 alone", 9, "*member 0 1; end"),
+    Case("a second root", 9, "member 0 0; end; *member 0 0; end"),
+    Case("a second chunk of a member", 9, "member 0 0; region 1 1; end; member 1 0; end; *member 1 0; end"),
+    Case("a second chunk before the fork", 9, "member 1 0; end; *member 1 0; end; member 0 0; region 1 1; end"),
+    Case("a third chunk", 9, "member 0 0; end; *member 0 0; end; member 0 0; end"),
+    Case("several, the lowest offset", 9, """
+        member 0 0; region 1 1; end
+        member 1 0; end; *member 1 1; end; member 1 0; end; member 2 0; end"""),
+    Case("several, the lowest offset, never forked first", 9, """
+        member 0 0; region 1 1; end
+        member 1 0; end; *member 2 0; end; member 1 1; end; member 1 0; end"""),
+    Case("several, the lowest offset, second chunk first", 9, """
+        member 0 0; region 1 1; end
+        member 1 0; end; *member 1 0; end; member 2 0; end; member 1 1; end"""),
+    Case("9 before 10 at a lower offset", 9, "member 0 0; region 1 2; end; member 1 0; end; *member 2 0; end"),
+    Case("9 before 10: no root", 9, "*member 3 0; region 4 1; end; member 4 0; end"),
+    Case("9 before 11 at a lower offset", 9, CHAIN_4 + "member 4 0; region 5 1; end; member 5 0; end; *member 6 0; end"),
+    Case("9 before 12 at a lower offset", 9, """
+        member 0 0; region 1 2; end
+        member 1 0; barrier; end; member 1 1; end; *member 1 2; end"""),
+    Case("9 before 12: second chunks unlike", 9, "member 0 0; end; *member 0 0; barrier; end"),
+]
+
+LACKING = [
+    Case("the empty bundle", 10, "*"),
+    Case("no chunk of the team", 10, "member 0 0; *region 1 1; end"),
+    Case("the last member lacking", 10, "member 0 0; *region 1 3; end; member 1 0; end; member 1 1; end"),
+    Case("member 0 lacking", 10, "member 0 0; *region 1 2; end; member 1 1; end"),
+    Case("a middle member lacking", 10, "member 1 0; end; member 1 2; end; member 0 0; *region 1 3; end"),
+    Case("the inner team lacking", 10, "member 0 0; region 1 1; end; member 1 0; *region 2 2; end; member 2 0; end"),
+    Case("two teams, the lower offset", 10, "member 0 0; region 3 1; *region 2 1; region 1 1; end; member 3 0; end"),
+    Case("two teams, the lower offset and higher depth", 10,
+         "member 1 0; *region 2 1; end; member 0 0; region 1 1; region 3 1; end"),
+    Case("10 before 11: the fifth level lacking", 10, CHAIN_4 + "member 4 0; *region 5 1; end"),
+    Case("10 before 11 at a lower offset", 10, """
+        member 4 0; region 5 1; end; member 5 0; end
+        member 0 0; region 1 1; *region 9 1; end
+        member 1 0; region 2 1; end; member 2 0; region 3 1; end; member 3 0; region 4 1; end"""),
+    Case("10 before 12 at a lower offset", 10, """
+        member 1 0; barrier; end; member 1 1; end
+        member 0 0; region 1 2; *region 2 1; end"""),
+    Case("10 before 12 within a team, member 0 lacking", 10, """
+        member 1 1; barrier; end; member 1 2; end
+        member 0 0; *region 1 3; end"""),
+]
+
+TOO_DEEP = [
+    Case("depth 5", 11, CHAIN_4 + "member 4 0; *region 5 1; end; member 5 0; end"),
+    Case("depth 6, the lower offset", 11,
+         CHAIN_4 + "member 4 0; *region 5 1; end; member 5 0; region 6 1; end; member 6 0; end"),
+    Case("depth 6 standing first", 11,
+         "member 5 0; *region 6 1; end; member 6 0; end" + CHAIN_4 + "member 4 0; region 5 1; end"),
+    Case("two of depth 5", 11,
+         CHAIN_4 + "member 4 0; *region 6 1; region 5 1; end; member 5 0; end; member 6 0; end"),
+    Case("11 before 12 at a lower offset", 11, """
+        member 5 1; barrier; end; member 5 0; end
+        """ + CHAIN_4 + "member 4 0; *region 5 2; end"),
+]
+
+BARRIERS = [
+    Case("one fewer", 12, "member 0 0; region 1 2; end; member 1 0; barrier; end; *member 1 1; end"),
+    Case("one more", 12, "member 0 0; region 1 2; end; member 1 0; end; *member 1 1; barrier; end"),
+    Case("member 0 stands later", 12, "*member 1 1; end; member 0 0; region 1 2; end; member 1 0; barrier; end"),
+    Case("member 0 unlike the others", 12, """
+        member 0 0; region 1 3; end
+        member 1 0; barrier; end; *member 1 2; end; member 1 1; end"""),
+    Case("only the last unlike", 12, """
+        member 0 0; region 1 3; end
+        member 1 0; barrier; end; member 1 1; barrier; end; *member 1 2; barrier; barrier; end"""),
+    Case("two teams, the lower offset", 12, """
+        member 0 0; region 1 2; region 2 2; end
+        member 2 0; end; *member 2 1; barrier; end
+        member 1 0; end; member 1 1; barrier; end"""),
+    Case("regions are not barriers", 12, """
+        member 0 0; region 1 2; end
+        member 1 0; barrier; end; *member 1 1; region 2 1; end; member 2 0; end"""),
+    Case("in the fourth level", 12, """
+        member 0 0; region 1 1; end; member 1 0; region 2 1; end; member 2 0; region 3 1; end
+        member 3 0; region 4 2; end; member 4 0; barrier; end; *member 4 1; end"""),
+]
+
+REFUSED = (
+    TOO_LONG + UNKNOWN + CUT_OFF + MISPLACED + OUT_OF_RANGE + LOCKS
+    + TOO_MANY + FORKED_BEFORE + STRAY + LACKING + TOO_DEEP + BARRIERS
+)
+
+
+def check_cases():
+    """All cases as (title, number, place, bytes)."""
+    for case in ACCEPTED + REFUSED:
+        data, place = assemble(case.text)
+        yield case.title, case.number, place, data

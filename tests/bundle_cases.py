@@ -1,0 +1,268 @@
+"""Frames for the operations on bundles, labels and ranges."""
+
+import random
+from itertools import product
+
+import aimed_cases
+import generators
+import race_cases
+import second_reader as sr
+from bundle_text import bundle
+from second_reader import Range
+from vector_frames import (
+    check_frame, compare_frame, find_frame, judge_frame, label_frame, next_frame, shared_frame,
+)
+
+SHORT = 1000  # bytes; longer aimed bundles go to large_frames
+ENOUGH = 16384
+E = aimed_cases.E_BYTES
+
+
+def aimed_bundles():
+    """The aimed bundles of check."""
+    return [data for _, _, _, data in aimed_cases.check_cases()]
+
+
+def short_aimed_bundles():
+    return [data for data in aimed_bundles() if len(data) <= SHORT]
+
+
+def listed_bundles():
+    return [bundle(case.text) for case in race_cases.LISTINGS]
+
+
+def small_good(rng, count):
+    return [generators.random_bundle(rng, generators.SMALL) for _ in range(count)]
+
+
+def small_damaged(rng, count):
+    return [generators.damaged_bundle(rng, generators.SMALL) for _ in range(count)]
+
+
+# ------------------------------------------------- check, find and labels
+
+
+def check_frames(seed):
+    rng = random.Random(seed)
+    for data in short_aimed_bundles() + listed_bundles():
+        yield check_frame(data)
+    for cut in range(len(E)):
+        yield check_frame(E[:cut])
+    for data in small_good(rng, 60) + small_damaged(rng, 500):
+        yield check_frame(data)
+    for style in generators.STYLES:
+        yield check_frame(generators.random_bundle(rng, style))
+        yield check_frame(generators.damaged_bundle(rng, style))
+
+
+NO_MEMBERS = ((0, 1), (0, 255), (1, 63), (255, 0), (256, 0), (65535, 0), (65535, 255))
+
+
+def member_names(data):
+    return sorted(sr.check(data).chunk_of)
+
+
+def find_frames(seed):
+    rng = random.Random(seed)
+    for data in [E] + small_good(rng, 20):
+        for team, member in (*member_names(data), *NO_MEMBERS):
+            yield find_frame(team, member, data)
+    for data in short_aimed_bundles() + small_damaged(rng, 100):
+        yield find_frame(rng.randrange(2), 0, data)
+    for style in generators.STYLES:
+        data = generators.random_bundle(rng, style)
+        for team, member in rng.sample(member_names(data), min(3, len(member_names(data)))):
+            yield find_frame(team, member, data)
+
+
+def label_frames(seed):
+    rng = random.Random(seed)
+    for data in [E] + small_good(rng, 12):
+        yield from labels_of_all(data)
+        for team, member in NO_MEMBERS:
+            yield label_frame(team, member, 0, data)
+    for data in short_aimed_bundles() + small_damaged(rng, 60):
+        yield label_frame(rng.randrange(2), 0, rng.randrange(3), data)
+    for style in generators.STYLES:
+        data = generators.random_bundle(rng, style)
+        frames = list(labels_of_all(data))
+        yield from rng.sample(frames, min(6, len(frames)))
+
+
+def labels_of_all(data):
+    """Each segment of each chunk, and numbers that are too high."""
+    for chunk in sr.check(data).chunks:
+        count = len(chunk.segments)
+        for number in (*range(count), count, count + 1, 256 + count, 2**16, 2**31, 2**32 - 1):
+            yield label_frame(chunk.team, chunk.member, number, data)
+
+
+# ------------------------------------------- comparing and shared bytes
+
+ROOT = (0, 1, 0)
+
+
+def filled(*triples):
+    """A label with these triples; those past its count would be refused."""
+    return len(triples), [*triples, *[(7, 0, 7)] * (5 - len(triples))]
+
+
+def compare_frames(seed):
+    rng = random.Random(seed)
+    inner = list(product((0, 1, 2), (2,), (0, 1))) + [(0, 3, 0), (0, 2, 2**32 - 1), (2**32 - 1, 2, 0)]
+    for first, second in product(inner, inner):
+        yield compare_frame(filled(ROOT, first), filled(ROOT, second))
+    yield compare_frame(filled(ROOT, (0, 2, 0), (0, 2, 1)), filled(ROOT, (1, 2, 0)))
+    yield from compare_prefixes()
+    yield from compare_bad()
+    for _ in range(600):
+        label = generators.random_label(rng)
+        yield compare_frame(label, generators.like_label(rng, label))
+        yield compare_frame(label, generators.random_label(rng))
+
+
+def compare_prefixes():
+    """All pairs of prefixes of one label."""
+    triples = [ROOT, (1, 2, 3), (4, 5, 6), (7, 64, 9), (63, 64, 0)]
+    for first, second in product(range(1, 6), range(1, 6)):
+        yield compare_frame(filled(*triples[:first]), filled(*triples[:second]))
+
+
+def compare_bad():
+    good = filled(ROOT)
+    bad = [(count, [ROOT] * 5) for count in (0, 6, 7, 256, 2**31, 2**32 - 1)]
+    bad += [filled((0, span, 0)) for span in (0, 2, 64, 65, 2**32 - 1)]
+    for place in range(1, 5):
+        for span in (0, 65, 256, 2**32 - 1):
+            bad.append(filled(*[ROOT] * place, (0, span, 0)))
+    for label in bad:
+        yield compare_frame(label, good)
+        yield compare_frame(good, label)
+        yield compare_frame(label, bad[0])
+        yield compare_frame(bad[0], label)
+    for place in range(1, 5):  # 16 at each place, before intervals and offsets
+        yield compare_frame(filled(*[ROOT] * place, (0, 2, 0)), filled(*[ROOT] * place, (1, 3, 1)))
+        yield compare_frame(filled(*[ROOT] * place, (0, 64, 0)), filled(*[ROOT] * place, (0, 1, 0)))
+
+
+def shared_frames(seed):
+    rng = random.Random(seed)
+    top = sr.LAST_ADDRESS
+    for first, second in (
+        ((0, 8, 4, 4), (4, 8, 4, 4)),
+        ((0, 8, 4, 4), (4, 0, 1, 8)),
+        ((0, 3, 3, 1), (1, 2, 3, 1)),
+        ((top, 0, 1, 1), (top, 0, 1, 1)),
+        ((0, 65535, 65535, 8), (top - 7, 0, 1, 8)),
+        ((0, 65535, 65535, 8), (65534 * 65535 + 7, 0, 1, 8)),
+        ((0, 65535, 65535, 1), (1, 65534, 65535, 1)),
+        ((0, 65535, 65535, 1), (65534, 65534, 65535, 1)),
+        ((0, 65534, 65535, 8), (9, 65534, 65535, 8)),
+        ((0, 1, 65535, 1), (65534, 1, 65535, 1)),
+        ((0, 1, 65535, 1), (65535, 1, 65535, 1)),
+    ):
+        yield shared_frame(Range(*first), Range(*second))
+        yield shared_frame(Range(*second), Range(*first))
+    for _ in range(1000):
+        yield shared_frame(generators.small_range(rng), generators.small_range(rng))
+    for _ in range(300):
+        yield shared_frame(generators.middle_range(rng), generators.middle_range(rng))
+        yield shared_frame(generators.far_range(rng), generators.far_range(rng))
+        yield shared_frame(generators.any_range(rng), generators.any_range(rng))
+    yield from shared_bad()
+
+
+def shared_bad():
+    good = Range(0, 0, 1, 1)
+    bad = [Range(0, stride, count, size) for stride, count, size in product((0, 1), (0, 1, 2), range(10))]
+    bad += [Range(sr.LAST_ADDRESS - last, 1, 2, size) for last, size in product(range(9), (1, 2, 4, 8))]
+    for r in bad:
+        yield shared_frame(r, good)
+        yield shared_frame(good, r)
+    yield shared_frame(Range(0, 0, 0, 1), Range(0, 0, 0, 1))
+
+
+# ---------------------------------------------------------------- verdicts
+
+
+def judge_frames(seed):
+    rng = random.Random(seed)
+    for data in (E, b"", E[:-1], bytes(3)):
+        for words in (0, 1, 255, 256, 16383, 16384, 16385, 20000):
+            yield judge_frame(words, data)
+    for data in listed_bundles() + short_aimed_bundles():
+        yield judge_frame(ENOUGH, data)
+    for data in small_good(rng, 150) + small_damaged(rng, 60):
+        yield judge_frame(ENOUGH, data)
+    for style in generators.STYLES * 3:
+        yield judge_frame(ENOUGH, generators.random_bundle(rng, style))
+    for _ in range(4):
+        yield from judge_orders(rng)
+
+
+def judge_orders(rng):
+    """All orders of one small bundle."""
+    chunks = generators.random_chunks(rng, generators.SMALL)
+    while len(chunks) > 4:
+        chunks = generators.random_chunks(rng, generators.SMALL)
+    for order in generators.all_orders(chunks):
+        yield judge_frame(ENOUGH, generators.bundle_bytes(order))
+
+
+LOWEST, HIGHEST = (0, 0, 0), (65535, 255, 65535)
+
+
+def next_frames(seed):
+    rng = random.Random(seed)
+    yield next_frame(16383, 0, LOWEST, LOWEST, E)
+    yield next_frame(0, 0, LOWEST, LOWEST, b"")
+    yield next_frame(ENOUGH, 0, LOWEST, LOWEST, E[:-1])
+    for data in [E, bundle(aimed_cases.E_LATE_READ)] + listed_bundles():
+        yield from next_of_all(rng, data)
+    for data in small_good(rng, 25):
+        yield from next_of_all(rng, data)
+    for style in (generators.NESTED, generators.LOCKED, generators.FAR, generators.QUIET):
+        yield from next_of_all(rng, generators.random_bundle(rng, style))
+
+
+def next_of_all(rng, data):
+    """Keys at, below and above some races, and those outside of all."""
+    yield next_frame(ENOUGH, 0, LOWEST, LOWEST, data)
+    yield next_frame(ENOUGH, sr.LAST_ADDRESS, HIGHEST, HIGHEST, data)
+    races = sr.all_races(sr.check(data))
+    picked = sorted(set(races[:3] + races[-2:] + rng.sample(races, min(2, len(races)))))
+    for race in picked:
+        for key in keys_about(rng, race):
+            yield next_frame(ENOUGH, *key, data)
+
+
+def keys_about(rng, race):
+    witness, first, second = sr.race_key(race)
+    yield witness, first, second
+    yield witness, second, first
+    yield witness, first, first
+    yield witness, LOWEST, HIGHEST
+    yield witness, first, (*second[:2], second[2] + 1)
+    if second[2]:
+        yield witness, first, (*second[:2], second[2] - 1)
+    if witness:
+        yield witness - 1, HIGHEST, HIGHEST
+    yield witness, (first[0], rng.randrange(256), rng.randrange(65536)), second
+
+
+# ------------------------------------------------------------ long bundles
+
+
+def large_frames(seed):
+    """Bundles at and past the limits; some hundred thousand bytes."""
+    rng = random.Random(seed)
+    for data in aimed_bundles():
+        if len(data) > SHORT:
+            yield check_frame(data)
+    for style in (generators.LARGE, generators.QUIET):
+        chunks = generators.shuffled(rng, generators.full_bundle(rng, style))
+        data = generators.bundle_bytes(chunks)
+        yield judge_frame(ENOUGH, data)
+        yield find_frame(0, 1, data)
+        yield next_frame(ENOUGH, generators.BASE + 20, LOWEST, LOWEST, data)
+    yield judge_frame(ENOUGH, generators.random_bundle(rng, generators.LARGE))

@@ -1,0 +1,354 @@
+"""Seeded generators of good and damaged bundles.
+
+A bundle is made as a list of chunks, a chunk as a list of Commands, so that
+chunks can be put in any order. Every function takes its random.Random.
+"""
+
+from collections import namedtuple
+from itertools import permutations
+
+import second_reader as sr
+from second_reader import Command
+
+# What a generated bundle may hold.
+# depth: of the teams; sizes: team sizes to choose from; regions, barriers:
+# most in a chunk; actions: most accesses and lock commands between two
+# segment openings; locks: how many are in use; addresses: how many bases;
+# far: whether some ranges are long or at the end of memory.
+Style = namedtuple("Style", "depth sizes regions barriers actions locks addresses far segments accesses")
+
+SMALL = Style(2, (1, 2, 2), 1, 1, 2, 2, 6, False, 14, 8)
+MIDDLE = Style(4, (1, 2, 2, 3), 2, 2, 3, 3, 12, False, 60, 80)
+NESTED = Style(4, (1, 2, 2), 2, 1, 2, 2, 8, False, 100, 100)
+WIDE = Style(2, (4, 8, 16, 64), 2, 2, 2, 4, 24, False, 200, 200)
+LOCKED = Style(2, (2, 3), 1, 2, 6, 2, 6, False, 40, 60)
+FAR = Style(3, (2, 3), 2, 2, 3, 2, 6, True, 60, 60)
+LARGE = Style(4, (2, 4, 8, 16), 3, 3, 4, 4, 64, False, 400, 800)
+QUIET = Style(4, (1, 2, 2, 3), 2, 2, 2, 2, 1500, False, 60, 60)
+STYLES = (SMALL, MIDDLE, NESTED, WIDE, LOCKED, FAR, QUIET)
+
+BASE = 4096
+
+
+# ------------------------------------------------------------ good bundles
+
+
+class Maker:
+    """Makes one bundle; counts what is left of the segments and accesses."""
+
+    def __init__(self, rng, style):
+        self.rng = rng
+        self.style = style
+        self.segments = style.segments
+        self.accesses = style.accesses
+        self.teams = {0}
+        self.chunks = []
+
+    def make(self):
+        barriers = self.rng.randint(0, self.style.barriers)
+        self.segments -= 1 + barriers
+        self.add_team(0, 1, barriers, 0)
+        return self.chunks
+
+    def add_team(self, team, size, barriers, depth):
+        for member in range(size):
+            self.add_chunk(team, member, barriers, depth)
+
+    def add_chunk(self, team, member, barriers, depth):
+        rng = self.rng
+        regions = rng.randint(0 if team else 1, self.style.regions)
+        openings = [sr.BARRIER] * barriers + [sr.REGION] * regions
+        rng.shuffle(openings)
+        chunk = [Command(sr.MEMBER, (team, member))]
+        held = set()
+        self.add_actions(chunk, held)
+        for code in openings:
+            if code == sr.BARRIER:
+                chunk.append(Command(sr.BARRIER, ()))
+            elif not self.add_region(chunk, team, depth):
+                continue
+            self.add_actions(chunk, held)
+        for lock in rng.sample(sorted(held), len(held)):
+            chunk.append(Command(sr.RELEASE, (lock,)))
+        chunk.append(Command(sr.END, ()))
+        self.chunks.append(chunk)
+
+    def add_region(self, chunk, team, depth):
+        """Adds a REGION and its team if depth and segments allow it."""
+        size = self.rng.choice(self.style.sizes)
+        barriers = self.rng.randint(0, self.style.barriers)
+        need = 1 + size * (1 + barriers)
+        inner = self.new_team(team)
+        if depth == self.style.depth or need > self.segments or inner is None:
+            return False
+        self.segments -= need
+        self.teams.add(inner)
+        chunk.append(Command(sr.REGION, (inner, size)))
+        self.add_team(inner, size, barriers, depth + 1)
+        return True
+
+    def new_team(self, team):
+        """A team number above the given one that is not in use."""
+        for spread in (3, 20, 300, 300, 60000, 65535):
+            inner = team + self.rng.randint(1, spread)
+            if inner <= 65535 and inner not in self.teams:
+                return inner
+        return None
+
+    def add_actions(self, chunk, held):
+        rng = self.rng
+        for _ in range(rng.randint(0, self.style.actions)):
+            lock = rng.randrange(self.style.locks)
+            turn = rng.randrange(8)
+            if turn == 0 and lock not in held:
+                held.add(lock)
+                chunk.append(Command(sr.ACQUIRE, (lock,)))
+            elif turn == 1 and lock in held:
+                held.remove(lock)
+                chunk.append(Command(sr.RELEASE, (lock,)))
+            elif self.accesses:
+                self.accesses -= 1
+                chunk.append(random_access(rng, self.style))
+
+
+def random_access(rng, style):
+    code = rng.choice((sr.READ, sr.READ, sr.WRITE, sr.WRITE, sr.ATOMIC_READ, sr.ATOMIC_WRITE))
+    site = rng.choice((rng.randrange(100), rng.randrange(65536)))
+    far = style.far and rng.randrange(2)
+    return Command(code, (site, *(far_range(rng) if far else near_range(rng, style))))
+
+
+def near_range(rng, style):
+    """A short range over few addresses; elements may overlap each other."""
+    base = BASE + rng.randrange(style.addresses)
+    size = rng.choice((1, 1, 2, 4, 8))
+    if rng.randrange(2):
+        return sr.Range(base, 0, 1, size)
+    return sr.Range(base, rng.randint(1, 12), rng.randint(2, 5), size)
+
+
+def far_range(rng):
+    """A long range, or one that ends at the end of memory."""
+    size = rng.choice((1, 2, 4, 8))
+    count = rng.choice((1, 2, 100, 1000, 65535, rng.randint(2, 65535)))
+    stride = 0 if count == 1 else rng.choice((1, 7, 8, 16, 96, 65535, rng.randint(1, 65535)))
+    room = sr.LAST_ADDRESS - ((count - 1) * stride + size - 1)
+    base = rng.choice((0, room, min(room, BASE), min(room, BASE + rng.randrange(64)), rng.randint(0, room)))
+    return sr.Range(base, stride, count, size)
+
+
+def random_chunks(rng, style):
+    return Maker(rng, style).make()
+
+
+def bundle_bytes(chunks):
+    return b"".join(sr.command_bytes(c) for chunk in chunks for c in chunk)
+
+
+def shuffled(rng, chunks):
+    return rng.sample(chunks, len(chunks))
+
+
+def all_orders(chunks):
+    return (list(order) for order in permutations(chunks))
+
+
+def random_bundle(rng, style):
+    """A good bundle in a random order of its chunks."""
+    return bundle_bytes(shuffled(rng, random_chunks(rng, style)))
+
+
+# ------------------------------------------------- limits exactly reached
+
+
+def root_of(chunks):
+    return next(c for c in chunks if c[0] == Command(sr.MEMBER, (0, 0)))
+
+
+def count_of(chunks, codes):
+    return sum(c.code in codes for chunk in chunks for c in chunk)
+
+
+def fill_segments(chunks, wanted):
+    """Barriers of the root, until the bundle has so many segments."""
+    root_of(chunks)[-1:-1] = [Command(sr.BARRIER, ())] * segments_missing(chunks, wanted)
+
+
+def fill_accesses(rng, chunks, wanted, style):
+    """Accesses at random places, until the bundle has so many."""
+    for _ in range(wanted - count_of(chunks, sr.ACCESSES)):
+        chunk = rng.choice(chunks)
+        chunk.insert(rng.randint(1, len(chunk) - 1), random_access(rng, style))
+
+
+def add_empty_team(chunks):
+    """A team of one without commands, forked by the root: two segments more."""
+    numbers = [c.operands[0] for chunk in chunks for c in chunk if c.code == sr.REGION]
+    free = next(t for t in range(65535, 0, -1) if t not in numbers)
+    root_of(chunks).insert(-1, Command(sr.REGION, (free, 1)))
+    chunks.append([Command(sr.MEMBER, (free, 0)), Command(sr.END, ())])
+
+
+def fill_bytes(chunks, missing):
+    """So many bytes, a multiple of 4, by ACQUIRE and RELEASE of a lock that
+    the generators do not use."""
+    pair = [Command(sr.ACQUIRE, (63,)), Command(sr.RELEASE, (63,))]
+    root_of(chunks)[-1:-1] = pair * (missing // 4)
+
+
+def full_bundle(rng, style=LARGE, segments=512, accesses=1024, length=65536):
+    """A bundle with exactly so many segments, accesses and bytes. A length
+    of None leaves it as it comes."""
+    chunks = random_chunks(rng, style)
+    fill_accesses(rng, chunks, accesses, style)
+    if length is not None:
+        # All but END and BARRIER come to multiples of 4 bytes.
+        while (length - len(bundle_bytes(chunks)) - segments_missing(chunks, segments)) % 4:
+            add_empty_team(chunks)
+        fill_bytes(chunks, length - len(bundle_bytes(chunks)) - segments_missing(chunks, segments))
+    fill_segments(chunks, segments)
+    return chunks
+
+
+def segments_missing(chunks, wanted):
+    return wanted - count_of(chunks, sr.OPENS_SEGMENT)
+
+
+# --------------------------------------------------------- damaged bundles
+
+
+def damage_bytes(rng, data):
+    """One random change of the bytes."""
+    data = bytearray(data)
+    at = rng.randrange(len(data) + 1)
+    end = min(len(data), at + rng.choice((1, 1, 2, 4, 12)))
+    turn = rng.randrange(6)
+    if turn == 0:
+        return bytes(data[:at])  # cut
+    if turn == 1:
+        return flip_bit(rng, data)
+    if turn == 2 and data:
+        data[rng.randrange(len(data))] = rng.randrange(256)
+        return bytes(data)
+    if turn == 3:
+        return bytes(data[:at]) + rng.randbytes(rng.randint(1, 4)) + bytes(data[at:])  # inserted
+    if turn == 4:
+        return bytes(data[:at] + data[end:])  # dropped
+    return bytes(data[:end] + data[at:])  # doubled
+
+
+def flip_bit(rng, data):
+    data = bytearray(data)
+    if data:
+        data[rng.randrange(len(data))] ^= 1 << rng.randrange(8)
+    return bytes(data)
+
+
+def damage_chunks(rng, chunks):
+    """One random change of whole commands or chunks; answers bytes."""
+    chunks = [list(c) for c in shuffled(rng, chunks)]
+    chunk = rng.choice(chunks)
+    at = rng.randrange(len(chunk))
+    turn = rng.randrange(7)
+    if turn == 0:
+        del chunk[at]
+    elif turn == 1:
+        chunk.insert(at, chunk[at])
+    elif turn == 2:
+        chunk.insert(rng.randint(1, len(chunk)), random_extra(rng))
+    elif turn == 3:
+        chunk[at] = change_operand(rng, chunk[at])
+    elif turn == 4:
+        chunks.remove(chunk)
+    elif turn == 5:
+        chunks.insert(rng.randint(0, len(chunks)), chunk)
+    else:
+        other = rng.randrange(len(chunk))
+        chunk[at], chunk[other] = chunk[other], chunk[at]
+    return bundle_bytes(chunks)
+
+
+def random_extra(rng):
+    """A command that is often wrong where it is put."""
+    return rng.choice((
+        Command(sr.BARRIER, ()),
+        Command(sr.END, ()),
+        Command(sr.MEMBER, (rng.randrange(4), rng.randrange(4))),
+        Command(sr.REGION, (rng.randrange(1, 6), rng.randint(1, 3))),
+        Command(sr.ACQUIRE, (rng.randrange(3),)),
+        Command(sr.RELEASE, (rng.randrange(3),)),
+    ))
+
+
+def change_operand(rng, command):
+    if not command.operands:
+        return command
+    operands = list(command.operands)
+    which = rng.randrange(len(operands))
+    top = 256 ** sr.WIDTHS[command.code][which] - 1
+    near = max(0, min(top, operands[which] + rng.choice((-1, 1))))
+    operands[which] = rng.choice((0, 1, 2, near, near, top))
+    return Command(command.code, tuple(operands))
+
+
+def damaged_bundle(rng, style):
+    chunks = random_chunks(rng, style)
+    if rng.randrange(2):
+        return damage_chunks(rng, chunks)
+    return damage_bytes(rng, bundle_bytes(shuffled(rng, chunks)))
+
+
+# ------------------------------------------------------- labels and ranges
+
+
+def random_label(rng):
+    """(count, 5 triples); often good, with few values."""
+    count = rng.choice((1, 2, 2, 3, 3, 4, 5, 5))
+    triples = [random_triple(rng, n) for n in range(5)]
+    return count, triples
+
+
+def random_triple(rng, number):
+    if number == 0:
+        return (rng.choice((0, 0, 0, 1)), 1, 0)
+    return (rng.randrange(5), rng.choice((2, 2, 2, 2, 3)), rng.choice((0, 0, 1)))
+
+
+def like_label(rng, label):
+    """A label that differs from the given one in one place or none."""
+    count, triples = label[0], [list(t) for t in label[1]]
+    which = rng.choice((0, 1, 1, 2, 2, 3, 4))
+    part = rng.choice((0, 0, 1, 2))
+    turn = rng.randrange(4)
+    if turn == 0:
+        count = rng.randint(1, 5)
+    elif part == 1 and which:
+        triples[which][1] = rng.choice((0, 1, 2, 3, 64, 65))
+    else:
+        triples[which][part and 2] = rng.choice((0, 1, 2, 3, 4, 64, 2**31, 2**32 - 1))
+    return count, [tuple(t) for t in triples]
+
+
+def small_range(rng):
+    """A good range over few bytes."""
+    base = rng.randrange(24)
+    size = rng.choice((1, 2, 4, 8))
+    if rng.randrange(4) == 0:
+        return sr.Range(base, 0, 1, size)
+    return sr.Range(base, rng.randint(1, 14), rng.randint(2, 7), size)
+
+
+def middle_range(rng):
+    """A good range of some thousand bytes."""
+    return sr.Range(
+        rng.randrange(3000), rng.choice((rng.randint(1, 20), rng.randint(1, 400))),
+        rng.randint(2, 700), rng.choice((1, 2, 4, 8)),
+    )
+
+
+def any_range(rng):
+    """Any numbers of the widths; many are bad."""
+    return sr.Range(
+        rng.choice((0, 10, 2**32 - 1, rng.randrange(2**32))), rng.choice((0, 1, 8, rng.randrange(65536))),
+        rng.choice((0, 1, 2, rng.randrange(65536))), rng.choice((0, 1, 2, 3, 4, 8, 9, 255)),
+    )

@@ -1,0 +1,139 @@
+"""Small bundles with the listing that document 01 gives them, by hand."""
+
+from collections import namedtuple
+
+from aimed_cases import E, E_LATE_READ
+
+Listing = namedtuple("Listing", "title text lines")
+
+
+def pair(first, second, before="", after=""):
+    """A root and a team of two; the members' accesses as given."""
+    return f"""
+        member 0 0; {before}; region 1 2; {after}; end
+        member 1 0; {first}; end
+        member 1 1; {second}; end"""
+
+
+def listing(counts, *races):
+    """counts is "chunks segments accesses"."""
+    chunks, segments, accesses = counts.split()
+    last = f"pairs {len(races)}" if races else "race-free"
+    lines = [f"chunks {chunks} segments {segments} accesses {accesses}"]
+    return lines + [f"race {r}" for r in races] + [last]
+
+
+ONE_RACE = listing("3 4 2", "00000040 1.0.0 1 1.1.0 2")
+NO_RACE = listing("3 4 2")
+
+KINDS = [
+    Listing(f"{first} and {second}", pair(f"{first} 1 64 0 1 4", f"{second} 2 64 0 1 4"), lines)
+    for first, second, lines in (
+        ("read", "read", NO_RACE),
+        ("read", "write", ONE_RACE),
+        ("write", "read", ONE_RACE),
+        ("write", "write", ONE_RACE),
+        ("read", "atomic-read", NO_RACE),
+        ("read", "atomic-write", ONE_RACE),
+        ("write", "atomic-read", ONE_RACE),
+        ("atomic-read", "write", ONE_RACE),
+        ("atomic-write", "write", ONE_RACE),
+        ("atomic-write", "read", ONE_RACE),
+        ("atomic-read", "read", NO_RACE),
+        ("atomic-read", "atomic-read", NO_RACE),
+        ("atomic-read", "atomic-write", NO_RACE),
+        ("atomic-write", "atomic-read", NO_RACE),
+        ("atomic-write", "atomic-write", NO_RACE),
+    )
+]
+
+W1, W2 = "write 1 64 0 1 4", "write 2 64 0 1 4"
+
+LOCKED = [
+    Listing("one common lock", pair(f"acquire 3; {W1}; release 3", f"acquire 3; {W2}; release 3"), NO_RACE),
+    Listing("one of several is common",
+            pair(f"acquire 0; acquire 63; {W1}; release 0; release 63", f"acquire 63; acquire 1; {W2}; release 1; release 63"), NO_RACE),
+    Listing("different locks", pair(f"acquire 3; {W1}; release 3", f"acquire 4; {W2}; release 4"), ONE_RACE),
+    Listing("a lock on one side", pair(f"acquire 3; {W1}; release 3", W2), ONE_RACE),
+    Listing("released before the access", pair(f"acquire 3; release 3; {W1}", f"acquire 3; {W2}; release 3"), ONE_RACE),
+    Listing("acquired behind the access", pair(f"{W1}; acquire 3; release 3", f"acquire 3; {W2}; release 3"), ONE_RACE),
+    Listing("no lock passes to the members", pair(W1, W2, before="acquire 3", after="release 3"), ONE_RACE),
+    Listing("held over a barrier",
+            pair(f"acquire 3; barrier; {W1}; release 3", f"barrier; acquire 3; {W2}; release 3"), listing("3 6 2")),
+    Listing("held over a region", """
+        member 0 0; region 1 2; end
+        member 1 0; acquire 3; region 2 1; write 1 64 0 1 4; release 3; end
+        member 1 1; acquire 3; write 2 64 0 1 4; release 3; end
+        member 2 0; write 7 64 0 1 1; end""",
+            listing("4 6 3", "00000040 1.1.0 2 2.0.0 7")),
+]
+
+ORDERED = [
+    Listing("E", E, ["chunks 3 segments 6 accesses 2", "race 0000100a 1.0.0 10 1.1.0 20", "pairs 1"]),
+    Listing("E with a late read", E_LATE_READ, ["chunks 3 segments 6 accesses 2", "race-free"]),
+    Listing("no access", "member 0 0; end", listing("1 1 0")),
+    Listing("two accesses of one segment", "member 0 0; write 1 0 0 1 4; write 2 0 0 1 4; end", listing("1 1 2")),
+    Listing("one chunk", "member 0 0; write 1 0 0 1 4; barrier; write 2 0 0 1 4; end", listing("1 2 2")),
+    Listing("before the fork", pair(f"{W1}; barrier", "barrier", before="write 9 64 0 1 4"), listing("3 6 2")),
+    Listing("behind the join", pair(W1, "read 2 0 0 1 4", after="write 9 64 0 1 4"), listing("3 4 3")),
+    Listing("two regions of one chunk", """
+        member 0 0; region 2 1; region 1 1; end
+        member 1 0; write 1 0 0 1 1; end; member 2 0; write 1 0 0 1 1; end""", listing("3 5 2")),
+    Listing("interval 0 against interval 1", pair(f"{W1}; barrier", f"barrier; {W2}"), listing("3 6 2")),
+    Listing("interval 1 against interval 1", pair(f"barrier; {W1}", f"barrier; {W2}"),
+            listing("3 6 2", "00000040 1.0.0 1 1.1.0 2")),
+    Listing("a larger offset is not later", """
+        member 0 0; region 1 2; end
+        member 1 0; region 2 1; write 1 64 0 1 4; end
+        member 1 1; write 2 64 0 1 4; end
+        member 2 0; end""", listing("4 6 2", "00000040 1.0.0 1 1.1.0 2")),
+    Listing("an inner barrier does not order an outer sibling", """
+        member 0 0; region 1 2; end
+        member 1 0; region 2 2; end
+        member 1 1; write 2 64 0 1 4; end
+        member 2 0; barrier; write 1 64 0 1 4; end
+        member 2 1; barrier; end""", listing("5 9 2", "00000040 1.1.0 2 2.0.0 1")),
+    Listing("an outer barrier orders inner teams", """
+        member 0 0; region 1 2; end
+        member 1 0; region 2 1; barrier; end
+        member 1 1; barrier; region 3 1; end
+        member 2 0; write 1 64 0 1 4; end
+        member 3 0; write 2 64 0 1 4; end""", listing("5 10 2")),
+    Listing("inner teams of two siblings", """
+        member 0 0; region 1 2; end
+        member 1 0; region 3 1; end
+        member 1 1; region 2 1; end
+        member 2 0; write 1 64 0 1 4; end
+        member 3 0; write 2 64 0 1 4; end""", listing("5 8 2", "00000040 2.0.0 1 3.0.0 2")),
+]
+
+SHARED = [
+    Listing("outer bounds overlap, no shared byte", pair("write 1 0 8 4 4", "write 2 4 8 4 4"), NO_RACE),
+    Listing("neighbouring bytes", pair("write 1 60 0 1 4", "write 2 64 0 1 4"), NO_RACE),
+    Listing("the last byte of one", pair("write 1 57 0 1 8", "write 2 64 0 1 4"), ONE_RACE),
+    Listing("the last byte of memory", pair("write 1 4294967295 0 1 1", "write 2 4294967288 0 1 8"),
+            listing("3 4 2", "ffffffff 1.0.0 1 1.1.0 2")),
+    Listing("elements that overlap each other", pair("write 1 56 1 2 8", "write 2 64 3 2 4"), ONE_RACE),
+]
+
+SORTED = [
+    Listing("three pairs of one byte", """
+        member 0 0; region 1 3; end
+        member 1 2; write 30 0 0 1 1; end; member 1 0; write 10 0 0 1 1; end; member 1 1; write 20 0 0 1 1; end""",
+            listing("4 5 3", "00000000 1.0.0 10 1.1.0 20", "00000000 1.0.0 10 1.2.0 30", "00000000 1.1.0 20 1.2.0 30")),
+    Listing("witness before names", pair("write 1 16 0 1 1; write 2 15 0 1 1", "read 3 15 0 1 1; read 4 16 0 1 1"),
+            listing("3 4 4", "0000000f 1.0.1 2 1.1.0 3", "00000010 1.0.0 1 1.1.1 4")),
+    Listing("names compared as numbers, low byte first in the log", """
+        member 0 0; region 255 2; end
+        member 255 0; region 256 1; end
+        member 255 1; region 257 1; write 5 7 0 1 1; end
+        member 256 0; write 6 7 0 1 1; end
+        member 257 0; write 7 7 0 1 1; end""",
+            listing("5 8 3", "00000007 255.1.0 5 256.0.0 6", "00000007 256.0.0 6 257.0.0 7")),
+    Listing("sites 0 and 65,535", pair("write 65535 64 0 1 1", "read 0 64 0 1 1"),
+            listing("3 4 2", "00000040 1.0.0 65535 1.1.0 0")),
+    Listing("access numbers above 9", pair("times 10 read 1 0 0 1 1; write 2 9 0 1 1", "times 2 read 3 9 0 1 1"),
+            listing("3 4 13", "00000009 1.0.10 2 1.1.0 3", "00000009 1.0.10 2 1.1.1 3")),
+]
+
+LISTINGS = ORDERED + KINDS + LOCKED + SHARED + SORTED

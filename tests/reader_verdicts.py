@@ -1,0 +1,161 @@
+"""The fork-join graph, races, judge, next race and the text of racelist."""
+
+from collections import namedtuple
+from itertools import combinations
+
+from reader_bundles import check
+from reader_commands import ATOMIC_READ, ATOMIC_WRITE, WRITE, Refused
+from reader_order import shared_byte
+
+# ------------------------------------------------------------------- graph
+
+
+def graph_edges(bundle):
+    """Each segment (team, member, number) with the set of its successors."""
+    edges = {(c.team, c.member, n): set() for c in bundle.chunks for n in range(len(c.segments))}
+    for chunk in bundle.chunks:
+        for n in range(len(chunk.segments) - 1):
+            edges[chunk.team, chunk.member, n].add((chunk.team, chunk.member, n + 1))
+        for fork in chunk.forks:
+            add_fork_edges(bundle, edges, fork)
+    for team in {c.team for c in bundle.chunks}:
+        add_barrier_edges(bundle, edges, team)
+    return edges
+
+
+def add_fork_edges(bundle, edges, fork):
+    before = (fork.chunk.team, fork.chunk.member, fork.segment)
+    after = (fork.chunk.team, fork.chunk.member, fork.segment + 1)
+    for chunk in bundle.members(fork.team):
+        edges[before].add((chunk.team, chunk.member, 0))
+        edges[chunk.team, chunk.member, len(chunk.segments) - 1].add(after)
+
+
+def add_barrier_edges(bundle, edges, team):
+    """For each barrier number: all segments ending there to all opening there."""
+    members = bundle.members(team)
+    for number in range(1, members[0].barriers() + 1):
+        opening = [(team, c.member, segment_opened(c, number)) for c in members]
+        for _, member, n in opening:
+            edges[team, member, n - 1].update(opening)
+
+
+def segment_opened(chunk, barrier):
+    """The segment that the chunk's barrier of this number, from 1, opens."""
+    return next(n for n, s in enumerate(chunk.segments) if s.barriers == barrier)
+
+
+def reached_from(edges, start):
+    """Breadth first; a segment reaches itself."""
+    reached, border = {start}, {start}
+    while border:
+        border = set().union(*(edges[n] for n in border)) - reached
+        reached |= border
+    return reached
+
+
+# ------------------------------------------------------------------- races
+
+LEAST_WORDS = 16384
+
+Race = namedtuple("Race", "witness first second first_site second_site")
+Judgement = namedtuple("Judgement", "chunks segments accesses races least")
+
+
+def writes(access):
+    return access.kind in (WRITE, ATOMIC_WRITE)
+
+
+def is_atomic(access):
+    return access.kind in (ATOMIC_READ, ATOMIC_WRITE)
+
+
+def segment_of(access):
+    return (access.chunk.team, access.chunk.member, access.segment)
+
+
+def all_races(bundle):
+    """All races in order."""
+    edges = graph_edges(bundle)
+    accesses = sorted(bundle.accesses(), key=lambda a: a.name)
+    reach = {s: reached_from(edges, s) for s in {segment_of(a) for a in accesses}}
+    races = []
+    for first, second in combinations(accesses, 2):
+        witness = race_witness(reach, first, second)
+        if witness is not None:
+            races.append(Race(witness, first.name, second.name, first.site, second.site))
+    return sorted(races, key=race_key)
+
+
+def race_key(race):
+    return (race.witness, race.first, race.second)
+
+
+def race_witness(reach, first, second):
+    """The witness if the two accesses race, else None."""
+    if not (writes(first) or writes(second)):
+        return None
+    if is_atomic(first) and is_atomic(second):
+        return None
+    if first.locks & second.locks:
+        return None
+    here, there = segment_of(first), segment_of(second)
+    if there in reach[here] or here in reach[there]:
+        return None
+    return shared_byte(first.range, second.range)
+
+
+def check_with_area(words, data):
+    if words < LEAST_WORDS:
+        raise Refused(13, 0)
+    return check(data)
+
+
+def judge(words, data):
+    bundle = check_with_area(words, data)
+    races = all_races(bundle)
+    return Judgement(
+        len(bundle.chunks),
+        bundle.segment_count(),
+        len(bundle.accesses()),
+        len(races),
+        races[0] if races else None,
+    )
+
+
+def next_race(words, data, witness, first, second):
+    """The least race above the witness and the two names, or None."""
+    bundle = check_with_area(words, data)
+    return next((r for r in all_races(bundle) if race_key(r) > (witness, first, second)), None)
+
+
+# ---------------------------------------------------------------- racelist
+
+
+def name_text(name):
+    return ".".join(str(part) for part in name)
+
+
+def race_text(race, witness):
+    """witness is the text of the witness."""
+    return (
+        f"race {witness} {name_text(race.first)} {race.first_site}"
+        f" {name_text(race.second)} {race.second_site}"
+    )
+
+
+def racelist_lines(data):
+    try:
+        bundle = check(data)
+    except Refused as refusal:
+        return [f"refused {refusal.number} at {refusal.place}"]
+    races = all_races(bundle)
+    lines = [f"chunks {len(bundle.chunks)} segments {bundle.segment_count()} accesses {len(bundle.accesses())}"]
+    lines += [race_text(r, f"{r.witness:08x}") for r in races]
+    lines.append(f"pairs {len(races)}" if races else "race-free")
+    return lines
+
+
+def racelist(data):
+    """The whole output of the program racelist."""
+    return "".join(line + "\n" for line in racelist_lines(data)).encode("ascii")

@@ -1,0 +1,12 @@
+"""The second reader: the operations of document 01 in Python.
+
+Written from documents 00 and 01 alone. It is slow and plain on purpose.
+Every operation either returns its answer or raises Refused(number, place).
+The parts stand in reader_commands, reader_bundles, reader_order and
+reader_verdicts; this module gives all of their names.
+"""
+
+from reader_commands import *
+from reader_bundles import *
+from reader_order import *
+from reader_verdicts import *

@@ -1,0 +1,263 @@
+"""Frames of the vectors: their bytes, and the line that answers each.
+
+A frame is an operation (1 byte), the length of its body (4 bytes) and the
+body. All numbers are low byte first. The answer is computed from the body
+alone, so any file of frames can be answered.
+"""
+
+import second_reader as sr
+from second_reader import Command, Refused
+
+OPERATION_READ, OPERATION_PUT = 1, 2
+OPERATION_CHECK, OPERATION_FIND, OPERATION_LABEL = 3, 4, 5
+OPERATION_COMPARE, OPERATION_SHARED = 6, 7
+OPERATION_JUDGE, OPERATION_NEXT = 8, 9
+
+RECORD_LENGTH = 12
+
+ACCESS_NAMES = {
+    sr.READ: "read",
+    sr.WRITE: "write",
+    sr.ATOMIC_READ: "atomic-read",
+    sr.ATOMIC_WRITE: "atomic-write",
+}
+COMMAND_NAMES = {
+    sr.MEMBER: "member",
+    sr.END: "end",
+    sr.REGION: "region",
+    sr.BARRIER: "barrier",
+    sr.ACQUIRE: "acquire",
+    sr.RELEASE: "release",
+    **ACCESS_NAMES,
+}
+
+
+def number(value, width):
+    return value.to_bytes(width, "little")
+
+
+class Body:
+    """Takes fields off the front of a frame's body."""
+
+    def __init__(self, data):
+        self.data = data
+        self.at = 0
+
+    def number(self, width):
+        return int.from_bytes(self.bytes(width), "little")
+
+    def bytes(self, length):
+        part = self.data[self.at : self.at + length]
+        if len(part) != length:
+            raise ValueError("frame body too short")
+        self.at += length
+        return part
+
+    def rest(self):
+        return self.bytes(len(self.data) - self.at)
+
+
+# ------------------------------------------------------------- frame bytes
+
+
+def frame(operation, body):
+    return bytes([operation]) + number(len(body), 4) + body
+
+
+def split_frames(data):
+    """The (operation, body) pairs of a file of frames."""
+    frames = []
+    body = Body(data)
+    while body.at < len(data):
+        operation = body.number(1)
+        length = body.number(4)
+        frames.append((operation, body.bytes(length)))
+    return frames
+
+
+def command_record(command):
+    data = sr.command_bytes(command)
+    return data + bytes(RECORD_LENGTH - len(data))
+
+
+def split_record(record):
+    code = record[0]
+    return Command(code, sr.split_operands(code, record[1 : sr.command_length(code)]))
+
+
+def read_frame(position, data):
+    return frame(OPERATION_READ, number(position, 8) + data)
+
+
+def put_frame(position, command, buffer):
+    return frame(OPERATION_PUT, number(position, 8) + command_record(command) + buffer)
+
+
+def check_frame(bundle):
+    return frame(OPERATION_CHECK, bundle)
+
+
+def find_frame(team, member, bundle):
+    return frame(OPERATION_FIND, number(team, 2) + number(member, 1) + bundle)
+
+
+def label_frame(team, member, segment, bundle):
+    return frame(OPERATION_LABEL, number(team, 2) + number(member, 1) + number(segment, 4) + bundle)
+
+
+def label_bytes(label):
+    """A label is its count and five triples."""
+    count, triples = label
+    return number(count, 4) + b"".join(number(part, 4) for triple in triples for part in triple)
+
+
+def compare_frame(first, second):
+    return frame(OPERATION_COMPARE, label_bytes(first) + label_bytes(second))
+
+
+def range_bytes(r):
+    return number(r.base, 4) + number(r.stride, 2) + number(r.count, 2) + number(r.size, 1)
+
+
+def shared_frame(first, second):
+    return frame(OPERATION_SHARED, range_bytes(first) + range_bytes(second))
+
+
+def judge_frame(words, bundle):
+    return frame(OPERATION_JUDGE, number(words, 4) + bundle)
+
+
+def name_bytes(name):
+    team, member, access = name
+    return number(team, 2) + number(member, 1) + number(access, 2)
+
+
+def next_frame(words, witness, first, second, bundle):
+    key = number(witness, 4) + name_bytes(first) + name_bytes(second)
+    return frame(OPERATION_NEXT, number(words, 4) + key + bundle)
+
+
+# ------------------------------------------------------------ answer lines
+
+
+def command_text(command):
+    return " ".join([COMMAND_NAMES[command.code]] + [str(v) for v in command.operands])
+
+
+def refusal_text(refusal):
+    return f"refused {refusal.number} at {refusal.place}"
+
+
+def answer_read(body):
+    position, data = body.number(8), body.rest()
+    command, after = sr.read_command(data, position)
+    return f"{command_text(command)} next {after}"
+
+
+def answer_put(body):
+    position = body.number(8)
+    command = split_record(body.bytes(RECORD_LENGTH))
+    buffer = bytearray(body.rest())
+    try:
+        after = sr.put_command(command, buffer, position)
+        return f"put {after} {buffer.hex()}"
+    except Refused as refusal:
+        return f"{refusal_text(refusal)} {buffer.hex()}"
+
+
+def answer_check(body):
+    sr.check(body.rest())
+    return "accepted"
+
+
+def answer_find(body):
+    team, member = body.number(2), body.number(1)
+    return f"chunk {sr.find_chunk(body.rest(), team, member).hex()}"
+
+
+def answer_label(body):
+    team, member, segment = body.number(2), body.number(1), body.number(4)
+    label = sr.label_of(body.rest(), team, member, segment)
+    return "label " + "".join(f"({o},{s},{i})" for o, s, i in label)
+
+
+def take_label(body):
+    count = body.number(4)
+    return count, [(body.number(4), body.number(4), body.number(4)) for _ in range(5)]
+
+
+def answer_compare(body):
+    first = take_label(body)
+    second = take_label(body)
+    return sr.compare_labels(first, second)
+
+
+def take_range(body):
+    return sr.Range(body.number(4), body.number(2), body.number(2), body.number(1))
+
+
+def answer_shared(body):
+    first = take_range(body)
+    second = take_range(body)
+    byte = sr.lowest_shared_byte(first, second)
+    return "none" if byte is None else f"byte {byte}"
+
+
+def race_line(race):
+    return sr.race_text(race, str(race.witness))
+
+
+def answer_judge(body):
+    words = body.number(4)
+    return judgement_text(sr.judge(words, body.rest()))
+
+
+def judgement_text(judgement):
+    chunks, segments, accesses, races, least = judgement
+    counts = f"chunks {chunks} segments {segments} accesses {accesses} races {races}"
+    return f"{counts} {race_line(least) if least else 'race-free'}"
+
+
+def take_name(body):
+    return (body.number(2), body.number(1), body.number(2))
+
+
+def answer_next(body):
+    words, witness = body.number(4), body.number(4)
+    first = take_name(body)
+    second = take_name(body)
+    race = sr.next_race(words, body.rest(), witness, first, second)
+    return race_line(race) if race else "none"
+
+
+ANSWERS = {
+    OPERATION_READ: answer_read,
+    OPERATION_PUT: answer_put,
+    OPERATION_CHECK: answer_check,
+    OPERATION_FIND: answer_find,
+    OPERATION_LABEL: answer_label,
+    OPERATION_COMPARE: answer_compare,
+    OPERATION_SHARED: answer_shared,
+    OPERATION_JUDGE: answer_judge,
+    OPERATION_NEXT: answer_next,
+}
+
+
+def answer_line(operation, data):
+    """The line for one frame, without its line end."""
+    try:
+        return ANSWERS[operation](Body(data))
+    except Refused as refusal:
+        return refusal_text(refusal)
+
+
+def answer_frame(data):
+    """The line for a single frame, given as bytes."""
+    [(operation, body)] = split_frames(data)
+    return answer_line(operation, body)
+
+
+def answer_all(data):
+    """The whole stdout for a file of frames."""
+    lines = [answer_line(operation, body) + "\n" for operation, body in split_frames(data)]
+    return "".join(lines).encode("ascii")
