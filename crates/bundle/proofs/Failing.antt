@@ -1,5 +1,4 @@
--- When no element fails a test: for a test of the element alone, for a test against the elements before, and for a list whose elements are
--- changed.
+-- When no element fails a test: for a test of the element alone, and for a test against the elements before.
 use Prim.Native.Nat.{ℕ}
 use mathlib.Core.Path.{_≡_, refl, sym, _∙_, ap}
 use mathlib.Core.Logic.{_⊎_, inl, inr, ⊎-elim, _↔_}
@@ -104,20 +103,6 @@ module _ {A K : Type 0} (key : A → K) (low : A → Bool) (same : A → A → B
 
       new : (y : A) → List·Memᴰ y xs → key y ≡ key x → ⊥
       new y m q = distinct-head (o .distinct) (rw (← q) (Memᴰ·map key m))
-
--- a list whose elements are changed, with a test that does not see the change
-module _ {A B : Type 0} (g : A → B) (fails : List A → A → Bool) (fails′ : List B → B → Bool)
-    (alike : (before : List A) (x : A) → fails′ (map g before) (g x) ≡ fails before x) where
-  pub none-map : {before xs : List A} → NoneFails fails before xs → NoneFails fails′ (map g before) (map g xs)
-  none-map at-end = at-end
-  none-map (one-more {before = before} {x = x} h n) = one-more (alike before x ∙ h) (none-map n)
-
-  pub none-unmap : (before xs : List A) → NoneFails fails′ (map g before) (map g xs) → NoneFails fails before xs
-  none-unmap before [] n = at-end
-  none-unmap before (x ∷ xs) n = go (none-unmap (x ∷ before) xs) n
-    where
-      go : (NoneFails fails′ (map g (x ∷ before)) (map g xs) → NoneFails fails (x ∷ before) xs) → NoneFails fails′ (map g before) (g x ∷ map g xs) → NoneFails fails before (x ∷ xs)
-      go ih (one-more h m) = one-more (sym (alike before x) ∙ h) (ih m)
 
 -- refusals of a number that has no place
 pub refused-none : (n : ℕ) (ps : List ℕ) (next : Answer (Unit {0})) → refusedAt n ps next ≡ gives tt → (ps ≡ []) × (next ≡ gives tt)

@@ -13,6 +13,7 @@ pub mod ScanChunks
 pub mod Printing
 pub mod Settling
 pub mod Failing
-pub mod Shape
 pub mod Arms
 pub mod Copying
+pub mod Keys
+pub mod Shape
