@@ -17,3 +17,4 @@ pub mod Arms
 pub mod Copying
 pub mod Keys
 pub mod Shape
+pub mod ShapeOrder

@@ -1,0 +1,251 @@
+-- Neither the order of the chunks nor their places matter to the shape of a bundle.
+use Prim.Native.Nat.{ℕ, zero, suc}
+use mathlib.Core.Path.{_≡_, refl, sym, _∙_, ap, subst, fun-ext}
+use mathlib.Core.Bool.{Bool, true, false, cond, not, _&&_, _||_}
+use mathlib.Core.List.{List, [], _∷_, _++_, map, map-append, List·Memᴰ, Memᴰ·map, Memᴰ·of-map, List·Permᴰ, Permᴰ·symm}
+use mathlib.Core.Option.{Option, none, some}
+use lib.Dec.{eqb, ltb, leb}
+use borrow.Author.Tests.{eqb-true}
+use Rattle.bundle.specs.Lists.{upTo, any, all, first, concatMap, fromOption}
+use Rattle.bundle.specs.Chunks.{Placed, Chunk, fresh, afterCommand, afterCommands, commandsOf, isOf, chunkOf}
+use Rattle.bundle.specs.Check.{Fork, forkHere, forksFrom, forksIn, forksOf, forkOf, sizeOf, depthFrom, depthOf, barriersOf, lacksChunk, unlikeFirst}
+use Rattle.bundle.specs.declared.chunk.ChunkState.{ChunkState}
+use Rattle.bundle.specs.declared.command.Command.{Command}
+use Rattle.bundle.specs.declared.command.Command.the-variants as Com
+use Rattle.bundle.proofs.ListLaws.{Distinct, perm-mem, perm-map, perm-concatMap}
+use Rattle.bundle.proofs.Keys.{perm-distinct, perm-any, perm-first, all-same, distinct-key}
+use Rattle.bundle.proofs.Places.{unplacedCommand, unplaced, memberKey, commandsOf-unplaced}
+use Rattle.bundle.proofs.Shape.{Shaped, isOf-elim}
+
+-- what follows from the same forks for each team, and the same chunks for each member
+abbrev SameFork : List Fork → List Fork → Type 0
+SameFork fs gs = (t : ℕ) → forkOf fs t ≡ forkOf gs t
+
+size-same : (fs gs : List Fork) → SameFork fs gs → (t : ℕ) → sizeOf fs t ≡ sizeOf gs t
+unfolding sizeOf
+size-same fs gs h t = rw (h t)
+
+depth-same : (fuel : ℕ) (fs gs : List Fork) → SameFork fs gs → (t : ℕ) → depthFrom fuel fs t ≡ depthFrom fuel gs t
+unfolding depthFrom
+depth-same zero fs gs h t = refl
+depth-same (suc fuel) fs gs h t = rw (h t) (go (forkOf gs t) (λ u. depth-same fuel fs gs h u))
+  where
+    go :
+      (o : Option Fork)
+      → ((u : ℕ) → depthFrom fuel fs u ≡ depthFrom fuel gs u)
+      → fromOption 0 (λ (f : Fork). suc (depthFrom fuel fs (f .byTeam))) o
+        ≡ fromOption 0 (λ (f : Fork). suc (depthFrom fuel gs (f .byTeam))) o
+    go none ih = refl
+    go (some f) ih = ap suc (ih (f .byTeam))
+
+lacks-same : (cs ds : List Chunk) → ((t m : ℕ) → any (isOf t m) cs ≡ any (isOf t m) ds) → (t size : ℕ) → lacksChunk cs t size ≡ lacksChunk ds t size
+unfolding lacksChunk
+lacks-same cs ds h t size =
+    ap not (all-same (λ m. any (isOf t m) cs) (λ m. any (isOf t m) ds) (upTo size) (h t))
+
+-- another order
+fork-perm : {fs gs : List Fork} → List·Permᴰ fs gs → Distinct (map (λ (f : Fork). f .team) fs) → SameFork fs gs
+unfolding forkOf
+fork-perm p d t =
+    perm-first (λ (f : Fork). eqb (f .team) t) p
+    (λ f g m l e q. distinct-key (λ (f : Fork). f .team) d m l (eqb-true (f .team) t e ∙ sym (eqb-true (g .team) t q)))
+
+key-of : (t m : ℕ) (c : Chunk) → isOf t m c ≡ true → memberKey c ≡ t ∷ m ∷ []
+unfolding memberKey
+key-of t m c e = let p = isOf-elim t m c e in rw (p .0, p .1)
+
+chunk-perm : {cs ds : List Chunk} → List·Permᴰ cs ds → Distinct (map memberKey cs) → (t m : ℕ) → chunkOf cs t m ≡ chunkOf ds t m
+unfolding chunkOf
+chunk-perm p d t m =
+    perm-first (isOf t m) p (λ c e l k x y. distinct-key memberKey d l k (key-of t m c x ∙ sym (key-of t m e y)))
+
+unlike-perm : {cs ds : List Chunk} → List·Permᴰ cs ds → Distinct (map memberKey cs) → (c : Chunk) → unlikeFirst cs c ≡ unlikeFirst ds c
+unfolding unlikeFirst
+unlike-perm p d c = rw (chunk-perm p d (c .team) 0)
+
+pub shaped-perm : {cs ds : List Chunk} → List·Permᴰ cs ds → Shaped cs → Shaped ds
+unfolding depthOf
+shaped-perm {cs} {ds} p s =
+    record {
+      forks-once = perm-distinct (perm-map (λ (f : Fork). f .team) q) (s .forks-once);
+      members-once = perm-distinct (perm-map memberKey p) (s .members-once);
+      members-low = λ c m. rw (← size-same fs gs same (c .team)) (s .members-low c (perm-mem (Permᴰ·symm p) m));
+      root = sym (lacks 0 1) ∙ s .root;
+      present = λ f m. sym (lacks (f .team) (f .size)) ∙ s .present f (perm-mem (Permᴰ·symm q) m);
+      shallow = λ f m. rw (← depth-same (suc (f .team)) fs gs same (f .team)) (s .shallow f (perm-mem (Permᴰ·symm q) m));
+      alike = λ c m. sym (unlike-perm p (s .members-once) c) ∙ s .alike c (perm-mem (Permᴰ·symm p) m);
+    }
+  where
+    fs : List Fork
+    fs = forksOf cs
+    gs : List Fork
+    gs = forksOf ds
+    q : List·Permᴰ fs gs
+    q = unfold forksOf in (perm-concatMap forksIn p)
+    same : SameFork fs gs
+    same = fork-perm q (s .forks-once)
+    lacks : (t size : ℕ) → lacksChunk cs t size ≡ lacksChunk ds t size
+    lacks = lacks-same cs ds (λ t m. perm-any (isOf t m) p)
+
+-- without places
+unfoldable pub unplacedFork : Fork → Fork
+unplacedFork f =
+    record { place = 0; team = f .team; size = f .size; byTeam = f .byTeam; byMember = f .byMember; state = f .state }
+
+fork-unplaced : (t m : ℕ) (k : ChunkState) (at : ℕ) (c : Command) (fs : List Fork) → forkHere t m k 0 c (map unplacedFork fs) ≡ map unplacedFork (forkHere t m k at c fs)
+unfolding forkHere unplacedFork
+fork-unplaced t m k at (Com.Member u i) fs = refl
+fork-unplaced t m k at Com.End fs = refl
+fork-unplaced t m k at (Com.Region u z) fs = refl
+fork-unplaced t m k at Com.Barrier fs = refl
+fork-unplaced t m k at (Com.Acquire l) fs = refl
+fork-unplaced t m k at (Com.Release l) fs = refl
+fork-unplaced t m k at (Com.Access a) fs = refl
+
+forks-from-unplaced : (t m : ℕ) (k : ChunkState) (ps : List Placed) → forksFrom t m k (map unplacedCommand ps) ≡ map unplacedFork (forksFrom t m k ps)
+unfolding forksFrom unplacedCommand
+forks-from-unplaced t m k [] = refl
+forks-from-unplaced t m k (p ∷ ps) =
+    ap (forkHere t m k 0 (p .command)) (forks-from-unplaced t m (afterCommand k (p .command)) ps)
+    ∙ fork-unplaced t m k (p .at) (p .command) (forksFrom t m (afterCommand k (p .command)) ps)
+
+pub forks-unplaced : (cs : List Chunk) → forksOf (map unplaced cs) ≡ map unplacedFork (forksOf cs)
+unfolding forksOf forksIn unplaced
+forks-unplaced [] = refl
+forks-unplaced (c ∷ cs) =
+    rw (forks-from-unplaced (c .team) (c .member) fresh (c .body), forks-unplaced cs)
+    (sym (map-append unplacedFork (forksFrom (c .team) (c .member) fresh (c .body)) (concatMap forksIn cs)))
+
+any-map : {A B : Type 0} (g : A → B) (p : B → Bool) (xs : List A) → any p (map g xs) ≡ any (λ x. p (g x)) xs
+any-map g p [] = refl
+any-map g p (x ∷ xs) = ap (λ (t : Bool). p (g x) || t) (any-map g p xs)
+
+mapOption : {A B : Type 0} → (A → B) → Option A → Option B
+mapOption g none = none
+mapOption g (some x) = some (g x)
+
+first-map : {A B : Type 0} (g : A → B) (p : B → Bool) (xs : List A) → first p (map g xs) ≡ mapOption g (first (λ x. p (g x)) xs)
+unfolding mapOption
+first-map g p [] = refl
+first-map g p (x ∷ xs) = rw (first-map g p xs) (go (p (g x)))
+  where
+    go : (t : Bool) → cond t (some (g x)) (mapOption g (first (λ y. p (g y)) xs)) ≡ mapOption g (cond t (some x) (first (λ y. p (g y)) xs))
+    go true = refl
+    go false = refl
+
+size-unplaced : (fs : List Fork) (t : ℕ) → sizeOf (map unplacedFork fs) t ≡ sizeOf fs t
+unfolding sizeOf forkOf unplacedFork mapOption
+size-unplaced fs t = ap (λ (n : ℕ). cond (eqb t 0) 1 n) (rw (first-map unplacedFork (λ (f : Fork). eqb (f .team) t) fs) (go (first (λ (f : Fork). eqb (f .team) t) fs)))
+  where
+    go : (o : Option Fork) → fromOption 0 (λ (f : Fork). f .size) (mapOption unplacedFork o) ≡ fromOption 0 (λ (f : Fork). f .size) o
+    go none = refl
+    go (some f) = refl
+
+depth-unplaced : (fuel : ℕ) (fs : List Fork) (t : ℕ) → depthFrom fuel (map unplacedFork fs) t ≡ depthFrom fuel fs t
+unfolding depthFrom forkOf unplacedFork mapOption
+depth-unplaced zero fs t = refl
+depth-unplaced (suc fuel) fs t =
+    rw (first-map unplacedFork (λ (f : Fork). eqb (f .team) t) fs)
+    (go (first (λ (f : Fork). eqb (f .team) t) fs) (λ u. depth-unplaced fuel fs u))
+  where
+    go :
+      (o : Option Fork)
+      → ((u : ℕ) → depthFrom fuel (map unplacedFork fs) u ≡ depthFrom fuel fs u)
+      → fromOption 0 (λ (f : Fork). suc (depthFrom fuel (map unplacedFork fs) (f .byTeam))) (mapOption unplacedFork o)
+        ≡ fromOption 0 (λ (f : Fork). suc (depthFrom fuel fs (f .byTeam))) o
+    go none ih = refl
+    go (some f) ih = ap suc (ih (f .byTeam))
+
+any-unplaced : (cs : List Chunk) (t m : ℕ) → any (isOf t m) (map unplaced cs) ≡ any (isOf t m) cs
+unfolding isOf unplaced
+any-unplaced cs t m = any-map unplaced (isOf t m) cs
+
+barriers-unplaced : (c : Chunk) → barriersOf (unplaced c) ≡ barriersOf c
+unfolding barriersOf
+barriers-unplaced c = ap (λ (cs : List Command). afterCommands fresh cs .barriers) (commandsOf-unplaced c)
+
+unlike-unplaced : (cs : List Chunk) (c : Chunk) → unlikeFirst (map unplaced cs) (unplaced c) ≡ unlikeFirst cs c
+unfolding unlikeFirst chunkOf
+unlike-unplaced cs c =
+    rw (barriers-unplaced c, first-map unplaced (isOf (unplaced c .team) 0) cs) (ap (λ (n : ℕ). not (eqb (barriersOf c) n)) (unfold unplaced isOf in (go (first (isOf (c .team) 0) cs))))
+  where
+    go : (o : Option Chunk) → fromOption 0 barriersOf (mapOption unplaced o) ≡ fromOption 0 barriersOf o
+    go none = unfold mapOption in refl
+    go (some d) = unfold mapOption in (barriers-unplaced d)
+
+same-keys : {A B K : Type 0} (g : A → B) (key : A → K) (key′ : B → K) → ((x : A) → key′ (g x) ≡ key x) → (xs : List A) → map key′ (map g xs) ≡ map key xs
+same-keys g key key′ h [] = refl
+same-keys g key key′ h (x ∷ xs) = rw (h x, same-keys g key key′ h xs)
+
+module _ (cs : List Chunk) where
+  teams : map (λ (f : Fork). f .team) (forksOf (map unplaced cs)) ≡ map (λ (f : Fork). f .team) (forksOf cs)
+  unfolding unplacedFork
+  teams = rw (forks-unplaced cs) (same-keys unplacedFork (λ (f : Fork). f .team) (λ (f : Fork). f .team) (λ f. refl) (forksOf cs))
+
+  members : map memberKey (map unplaced cs) ≡ map memberKey cs
+  unfolding memberKey unplaced
+  members = same-keys unplaced memberKey memberKey (λ c. refl) cs
+
+  low : (c : Chunk) → leb (sizeOf (forksOf (map unplaced cs)) (unplaced c .team)) (unplaced c .member) ≡ leb (sizeOf (forksOf cs) (c .team)) (c .member)
+  unfolding unplaced
+  low c = rw (forks-unplaced cs, size-unplaced (forksOf cs) (c .team))
+
+  lacking : (t size : ℕ) → lacksChunk (map unplaced cs) t size ≡ lacksChunk cs t size
+  lacking = lacks-same (map unplaced cs) cs (any-unplaced cs)
+
+  depth : (t : ℕ) → depthOf (forksOf (map unplaced cs)) t ≡ depthOf (forksOf cs) t
+  unfolding depthOf
+  depth t = rw (forks-unplaced cs) (depth-unplaced (suc t) (forksOf cs) t)
+
+  -- a property of the team and size of each fork, or of each chunk, with and without places
+  forks-there :
+    (P : ℕ → ℕ → Type 0)
+    → ((f : Fork) → List·Memᴰ f (forksOf cs) → P (f .team) (f .size))
+    → (f : Fork)
+    → List·Memᴰ f (forksOf (map unplaced cs))
+    → P (f .team) (f .size)
+  unfolding unplacedFork
+  forks-there P h f m =
+      let w = Memᴰ·of-map unplacedFork (forksOf cs) (rw (forks-unplaced cs) at m) in
+      subst (λ (g : Fork). P (g .team) (g .size)) (w .2) (h (w .0) (w .1))
+
+  forks-back :
+    (P : ℕ → ℕ → Type 0)
+    → ((f : Fork) → List·Memᴰ f (forksOf (map unplaced cs)) → P (f .team) (f .size))
+    → (f : Fork)
+    → List·Memᴰ f (forksOf cs)
+    → P (f .team) (f .size)
+  unfolding unplacedFork
+  forks-back P h f m = h (unplacedFork f) (rw (forks-unplaced cs) (Memᴰ·map unplacedFork m))
+
+  pub shaped-unplaced : Shaped cs → Shaped (map unplaced cs)
+  shaped-unplaced s =
+      record {
+        forks-once = rw teams (s .forks-once);
+        members-once = rw members (s .members-once);
+        members-low =
+            λ c m.
+            let w = Memᴰ·of-map unplaced cs m in
+            subst (λ (d : Chunk). leb (sizeOf (forksOf (map unplaced cs)) (d .team)) (d .member) ≡ false) (w .2) (low (w .0) ∙ s .members-low (w .0) (w .1));
+        root = lacking 0 1 ∙ s .root;
+        present = forks-there (λ t z. lacksChunk (map unplaced cs) t z ≡ false) (λ f m. lacking (f .team) (f .size) ∙ s .present f m);
+        shallow =
+            forks-there (λ t z. ltb 4 (depthOf (forksOf (map unplaced cs)) t) ≡ false)
+            (λ f m. rw (depth (f .team)) (s .shallow f m));
+        alike =
+            λ c m.
+            let w = Memᴰ·of-map unplaced cs m in
+            subst (λ (d : Chunk). unlikeFirst (map unplaced cs) d ≡ false) (w .2) (unlike-unplaced cs (w .0) ∙ s .alike (w .0) (w .1));
+      }
+
+  pub unplaced-shaped : Shaped (map unplaced cs) → Shaped cs
+  unplaced-shaped s =
+      record {
+        forks-once = rw teams at (s .forks-once);
+        members-once = rw members at (s .members-once);
+        members-low = λ c m. sym (low c) ∙ s .members-low (unplaced c) (Memᴰ·map unplaced m);
+        root = sym (lacking 0 1) ∙ s .root;
+        present = forks-back (λ t z. lacksChunk cs t z ≡ false) (λ f m. sym (lacking (f .team) (f .size)) ∙ s .present f m);
+        shallow = forks-back (λ t z. ltb 4 (depthOf (forksOf cs) t) ≡ false) (λ f m. rw (← depth (f .team)) (s .shallow f m));
+        alike = λ c m. sym (unlike-unplaced cs c) ∙ s .alike (unplaced c) (Memᴰ·map unplaced m);
+      }
