@@ -20,13 +20,13 @@ module _ {A : Type 0} where
   perm-distinct (List·Permᴰ·swap {a = a} {b = b} {a′ = c} {b′ = f} {l = l} e₁ e₂) d =
       distinct-cons
       (λ m.
-        ⊎-elim
-        (λ q. distinct-head d (List·Memᴰ·head (e₁ ∙ sym q ∙ sym e₂)))
-        (λ k. distinct-head (distinct-tail d) (Memᴰ·cast e₂ k))
-        (List·Memᴰ·cases-cons m))
+      ⊎-elim
+      (λ q. distinct-head d (List·Memᴰ·head (e₁ ∙ sym q ∙ sym e₂)))
+      (λ k. distinct-head (distinct-tail d) (Memᴰ·cast e₂ k))
+      (List·Memᴰ·cases-cons m))
       (distinct-cons
-        (λ m. distinct-head d (List·Memᴰ·tail (Memᴰ·cast e₁ m)))
-        (distinct-tail (distinct-tail d)))
+      (λ m. distinct-head d (List·Memᴰ·tail (Memᴰ·cast e₁ m)))
+      (distinct-tail (distinct-tail d)))
   perm-distinct (List·Permᴰ·trans p q) d = perm-distinct q (perm-distinct p d)
 
   -- whether some element passes does not depend on the order
@@ -38,10 +38,10 @@ module _ {A : Type 0} where
 
   -- nor does the first that passes, where at most one does
   pub perm-first :
-    (p : A → Bool) {xs ys : List A}
-    → List·Permᴰ xs ys
-    → ((x y : A) → List·Memᴰ x xs → List·Memᴰ y xs → p x ≡ true → p y ≡ true → x ≡ y)
-    → first p xs ≡ first p ys
+      (p : A → Bool) {xs ys : List A}
+      → List·Permᴰ xs ys
+      → ((x y : A) → List·Memᴰ x xs → List·Memᴰ y xs → p x ≡ true → p y ≡ true → x ≡ y)
+      → first p xs ≡ first p ys
   perm-first p {xs} {ys} d one = go (first p xs) (first p ys) refl refl
     where
       go : (u v : Option A) → first p xs ≡ u → first p ys ≡ v → u ≡ v
@@ -61,12 +61,12 @@ module _ {A : Type 0} where
   all-same p q (x ∷ xs) h = rw (h x, all-same p q xs h)
 
 pub distinct-key :
-  {A K : Type 0} (key : A → K) {xs : List A} {x y : A}
-  → Distinct (map key xs)
-  → List·Memᴰ x xs
-  → List·Memᴰ y xs
-  → key x ≡ key y
-  → x ≡ y
+    {A K : Type 0} (key : A → K) {xs : List A} {x y : A}
+    → Distinct (map key xs)
+    → List·Memᴰ x xs
+    → List·Memᴰ y xs
+    → key x ≡ key y
+    → x ≡ y
 distinct-key key d (List·Memᴰ·head e) (List·Memᴰ·head f) q = e ∙ sym f
 distinct-key key d (List·Memᴰ·head e) (List·Memᴰ·tail m) q =
     absurd (distinct-head d (Memᴰ·cast (ap key (sym e) ∙ q) (Memᴰ·map key m)))

@@ -18,3 +18,4 @@ pub mod Copying
 pub mod Keys
 pub mod Shape
 pub mod ShapeOrder
+pub mod Reorder

@@ -48,10 +48,10 @@ isOf-intro t m c e f = both (eq-eqb (c .team) t e) (eq-eqb (c .member) m f)
 
 pub isOf-elim : (t m : ℕ) (c : Chunk) → isOf t m c ≡ true → (c .team ≡ t) × (c .member ≡ m)
 unfolding isOf
-isOf-elim t m c e =
-    ( eqb-true (c .team) t (and-left (eqb (c .team) t) (eqb (c .member) m) e)
-    , eqb-true (c .member) m (and-right (eqb (c .team) t) (eqb (c .member) m) e)
-    )
+isOf-elim t m c e = (
+  eqb-true (c .team) t (and-left (eqb (c .team) t) (eqb (c .member) m) e),
+  eqb-true (c .member) m (and-right (eqb (c .team) t) (eqb (c .member) m) e),
+)
 
 first-of-key : (c d : Chunk) → memberKey c ≡ memberKey d → c .team ≡ d .team
 unfolding memberKey
@@ -94,8 +94,8 @@ shaped-elim cs e =
     let r11 = refused-none 11 _ _ (r10′ .1) in
     let r12 = refused-none 12 _ _ (r11 .1) in
     let forks =
-      once-elim (λ (f : Fork). f .team) (λ f. false) (λ (f g : Fork). eqb (g .team) (f .team)) team-is is-team
-      (failing-none atFork forkedBefore [] fs (r8 .0)) in
+    once-elim (λ (f : Fork). f .team) (λ f. false) (λ (f g : Fork). eqb (g .team) (f .team)) team-is is-team
+    (failing-none atFork forkedBefore [] fs (r8 .0)) in
     let members = once-elim memberKey (lowOf cs) sameMember is-key key-is (failing-none atChunk (stray fs) [] cs (r9 .0)) in
     record {
       forks-once = forks .distinct;

@@ -31,9 +31,9 @@ depth-same zero fs gs h t = refl
 depth-same (suc fuel) fs gs h t = rw (h t) (go (forkOf gs t) (λ u. depth-same fuel fs gs h u))
   where
     go :
-      (o : Option Fork)
-      → ((u : ℕ) → depthFrom fuel fs u ≡ depthFrom fuel gs u)
-      → fromOption 0 (λ (f : Fork). suc (depthFrom fuel fs (f .byTeam))) o
+        (o : Option Fork)
+        → ((u : ℕ) → depthFrom fuel fs u ≡ depthFrom fuel gs u)
+        → fromOption 0 (λ (f : Fork). suc (depthFrom fuel fs (f .byTeam))) o
         ≡ fromOption 0 (λ (f : Fork). suc (depthFrom fuel gs (f .byTeam))) o
     go none ih = refl
     go (some f) ih = ap suc (ih (f .byTeam))
@@ -78,12 +78,16 @@ shaped-perm {cs} {ds} p s =
   where
     fs : List Fork
     fs = forksOf cs
+
     gs : List Fork
     gs = forksOf ds
+
     q : List·Permᴰ fs gs
     q = unfold forksOf in (perm-concatMap forksIn p)
+
     same : SameFork fs gs
     same = fork-perm q (s .forks-once)
+
     lacks : (t size : ℕ) → lacksChunk cs t size ≡ lacksChunk ds t size
     lacks = lacks-same cs ds (λ t m. perm-any (isOf t m) p)
 
@@ -149,9 +153,9 @@ depth-unplaced (suc fuel) fs t =
     (go (first (λ (f : Fork). eqb (f .team) t) fs) (λ u. depth-unplaced fuel fs u))
   where
     go :
-      (o : Option Fork)
-      → ((u : ℕ) → depthFrom fuel (map unplacedFork fs) u ≡ depthFrom fuel fs u)
-      → fromOption 0 (λ (f : Fork). suc (depthFrom fuel (map unplacedFork fs) (f .byTeam))) (mapOption unplacedFork o)
+        (o : Option Fork)
+        → ((u : ℕ) → depthFrom fuel (map unplacedFork fs) u ≡ depthFrom fuel fs u)
+        → fromOption 0 (λ (f : Fork). suc (depthFrom fuel (map unplacedFork fs) (f .byTeam))) (mapOption unplacedFork o)
         ≡ fromOption 0 (λ (f : Fork). suc (depthFrom fuel fs (f .byTeam))) o
     go none ih = refl
     go (some f) ih = ap suc (ih (f .byTeam))
@@ -199,22 +203,22 @@ module _ (cs : List Chunk) where
 
   -- a property of the team and size of each fork, or of each chunk, with and without places
   forks-there :
-    (P : ℕ → ℕ → Type 0)
-    → ((f : Fork) → List·Memᴰ f (forksOf cs) → P (f .team) (f .size))
-    → (f : Fork)
-    → List·Memᴰ f (forksOf (map unplaced cs))
-    → P (f .team) (f .size)
+      (P : ℕ → ℕ → Type 0)
+      → ((f : Fork) → List·Memᴰ f (forksOf cs) → P (f .team) (f .size))
+      → (f : Fork)
+      → List·Memᴰ f (forksOf (map unplaced cs))
+      → P (f .team) (f .size)
   unfolding unplacedFork
   forks-there P h f m =
       let w = Memᴰ·of-map unplacedFork (forksOf cs) (rw (forks-unplaced cs) at m) in
       subst (λ (g : Fork). P (g .team) (g .size)) (w .2) (h (w .0) (w .1))
 
   forks-back :
-    (P : ℕ → ℕ → Type 0)
-    → ((f : Fork) → List·Memᴰ f (forksOf (map unplaced cs)) → P (f .team) (f .size))
-    → (f : Fork)
-    → List·Memᴰ f (forksOf cs)
-    → P (f .team) (f .size)
+      (P : ℕ → ℕ → Type 0)
+      → ((f : Fork) → List·Memᴰ f (forksOf (map unplaced cs)) → P (f .team) (f .size))
+      → (f : Fork)
+      → List·Memᴰ f (forksOf cs)
+      → P (f .team) (f .size)
   unfolding unplacedFork
   forks-back P h f m = h (unplacedFork f) (rw (forks-unplaced cs) (Memᴰ·map unplacedFork m))
 
