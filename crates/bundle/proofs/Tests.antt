@@ -42,6 +42,13 @@ pub false-of-not : (t : Bool) → not t ≡ true → t ≡ false
 false-of-not true e = sym e
 false-of-not false e = refl
 
+-- a test that fails is one that cannot hold
+pub refuted : {t : Bool} → t ≡ true → not t ≡ true → ⊥
+refuted {t} p h = not-both p (false-of-not t h)
+
+pub fails : (t : Bool) → (t ≡ true → ⊥) → not t ≡ true
+fails t h = not-of-false (is-false t h)
+
 -- a test is true or false, with the equation
 pub decide : (t : Bool) → (t ≡ true) ⊎ (t ≡ false)
 decide true = inl refl

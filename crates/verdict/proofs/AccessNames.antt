@@ -8,10 +8,9 @@ use Rattle.bundle.specs.Chunks.{Chunk, fresh, afterCommand, commandsOf}
 use Rattle.bundle.specs.declared.chunk.ChunkState.{ChunkState}
 use Rattle.bundle.specs.declared.command.Command.{Command}
 use Rattle.bundle.specs.declared.command.Command.the-variants as Com
-use Rattle.bundle.proofs.ListLaws.{Distinct, distinct-nil, distinct-cons}
+use Rattle.bundle.proofs.ListLaws.{Distinct, distinct-nil, distinct-cons, distinct-concatMap}
 use Rattle.bundle.proofs.Places.{memberKey}
 use Rattle.verdict.specs.Races.{NamedAccess, accessesFrom, accessesIn, accessesOf, nameKey}
-use Rattle.verdict.proofs.ListMore.{distinct-concatMap}
 
 -- the accesses of a chunk are numbered on
 pub data Run (t m : ℕ) : ℕ → List NamedAccess → Type 0 where

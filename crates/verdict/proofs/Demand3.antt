@@ -17,7 +17,7 @@ use Rattle.verdict.specs.Judge.{verdictOf, judgementOf, overWork, judged
 use Rattle.verdict.specs.Demand.{Ascending, Exact, Demand3}
 use Rattle.verdict.specs.declared.race.Race.{Race}
 use Rattle.verdict.specs.declared.race.Verdict.the-variants as Ver
-use Rattle.verdict.proofs.Given.{ExactTests, ChunkOrder}
+use Rattle.bundle.proofs.Reorder.{reordered, distinct-members}
 use Rattle.verdict.proofs.RaceList.{races-elim, races-intro, races-ascending}
 use Rattle.verdict.proofs.SameRaces.{same-judgement}
 
@@ -50,42 +50,43 @@ pub judges : (s work : List ℕ) → Accepted s → 16384 ≤ length work → ju
 unfolding judgeOf overWork judgedOf
 judges s work ok large = rw (le-ltb (length work) 16384 large, ok)
 
-module _ (tests : ExactTests) where
-  pub exactly : (b : List ℕ) → Distinct (map memberKey (chunksOf b)) → Exact b (judgementOf (chunksOf b))
-  unfolding judgementOf
-  exactly b members =
-      record {
-        race-free = (
-          λ e r i. free-elim rs e r (races-intro tests cs i),
-          λ h. free-intro rs (λ r m. h r (races-elim tests cs m)),
-        );
-        a-race = λ r e. races-elim tests cs (least-in rs r e);
-        the-least = λ r e q i. least-first (races-ascending cs members) r e q (races-intro tests cs i);
-        races = rs;
-        ascending = races-ascending cs members;
-        all-races = λ r. (races-elim tests cs, races-intro tests cs);
-        race-count = refl;
-        chunk-count = refl;
-        segment-count = refl;
-        access-count = refl;
-      }
-    where
-      cs : List Chunk
-      cs = chunksOf b
+-- what is judged of a bundle is exact
+pub exactly : (b : List ℕ) → Distinct (map memberKey (chunksOf b)) → Exact b (judgementOf (chunksOf b))
+unfolding judgementOf
+exactly b members =
+    record {
+      race-free = (
+        λ e r i. free-elim rs e r (races-intro cs i),
+        λ h. free-intro rs (λ r m. h r (races-elim cs m)),
+      );
+      a-race = λ r e. races-elim cs (least-in rs r e);
+      the-least = λ r e q i. least-first (races-ascending cs members) r e q (races-intro cs i);
+      races = rs;
+      ascending = races-ascending cs members;
+      all-races = λ r. (races-elim cs, races-intro cs);
+      race-count = refl;
+      chunk-count = refl;
+      segment-count = refl;
+      access-count = refl;
+    }
+  where
+    cs : List Chunk
+    cs = chunksOf b
 
-      rs : List Race
-      rs = racesOf cs
+    rs : List Race
+    rs = racesOf cs
 
-  pub demand3 : ChunkOrder → Demand3
-  demand3 order b c v w bytes ok re large large′ =
-      let r = order .reordered b c bytes ok re in
-      let members = order .distinct-members b ok in
-      record {
-        accepted-too = r .0;
-        judgement = judgementOf (chunksOf b);
-        answer = judges b v ok large;
-        same-answer =
-            rw (same-judgement tests (chunksOf b) (chunksOf c) (r .1) members (order .distinct-members c (r .0)))
-            (judges c w (r .0) large′);
-        exact = exactly b members;
-      }
+-- demand 3
+pub demand3 : Demand3
+demand3 b c v w bytes ok re large large′ =
+    let r = reordered b c bytes ok re in
+    let members = distinct-members b ok in
+    record {
+      accepted-too = r .0;
+      judgement = judgementOf (chunksOf b);
+      answer = judges b v ok large;
+      same-answer =
+          rw (same-judgement (chunksOf b) (chunksOf c) (r .1) members (distinct-members c (r .0)))
+          (judges c w (r .0) large′);
+      exact = exactly b members;
+    }

@@ -4,8 +4,6 @@ pub mod Examples
 pub mod Reachability
 pub mod Lexical
 pub mod Sorting
-pub mod ListMore
-pub mod Given
 pub mod AccessNames
 pub mod RaceList
 pub mod SameRaces

@@ -14,7 +14,7 @@ use Rattle.verdict.specs.Races.{IsRace, lexLess, raceKey, raceBelow, rac
 use Rattle.verdict.specs.Judge.{raceAbove, nextAbove}
 use Rattle.verdict.specs.Demand.{Ascending}
 use Rattle.verdict.specs.declared.race.Race.{Race}
-use Rattle.verdict.proofs.Given.{ExactTests, ChunkOrder}
+use Rattle.bundle.proofs.Reorder.{distinct-members}
 use Rattle.verdict.proofs.RaceList.{races-elim, races-intro, races-ascending}
 
 -- a race above the key
@@ -66,17 +66,17 @@ pub record NextRace (b key : List ℕ) : Type 0 where
       (r : Race) → found ≡ some r → (q : Race) → IsRace (chunksOf b) q → Above key q → (q ≡ r) ⊎ (raceBelow r q ≡ true)
   pub no-more : found ≡ none → (q : Race) → IsRace (chunksOf b) q → Above key q → ⊥
 
-pub next-race : ExactTests → ChunkOrder → (b key : List ℕ) → Accepted b → NextRace b key
+pub next-race : (b key : List ℕ) → Accepted b → NextRace b key
 unfolding nextAbove
-next-race tests order b key ok =
+next-race b key ok =
     record {
       found = raceAbove key rs;
       answer = rw ok;
-      a-race = λ r e. races-elim tests cs (above-found key rs e .0);
+      a-race = λ r e. races-elim cs (above-found key rs e .0);
       above = λ r e. above-found key rs e .1;
       the-least =
-          λ r e q i. above-least key (races-ascending cs (order .distinct-members b ok)) e q (races-intro tests cs i);
-      no-more = λ e q i. above-none key rs e q (races-intro tests cs i);
+          λ r e q i. above-least key (races-ascending cs (distinct-members b ok)) e q (races-intro cs i);
+      no-more = λ e q i. above-none key rs e q (races-intro cs i);
     }
   where
     cs : List Chunk

@@ -8,16 +8,16 @@ use mathlib.Core.Option.{Option, none, some}
 use Rattle.bundle.specs.Lists.{upTo, concatMap, fromOption}
 use Rattle.bundle.specs.Locks.{holds, commonLock}
 use Rattle.bundle.specs.Chunks.{Chunk}
-use Rattle.bundle.proofs.Tests.{both, and-left, and-right, or-cases, or-one, or-other, is-false, not-both, not-of-false, false-of-not}
-use Rattle.bundle.proofs.ListLaws.{any-elim, any-intro, upTo-elim, upTo-intro, concatMap-elim, concatMap-intro, Distinct, distinct-nil, distinct-cons}
+use Rattle.bundle.proofs.Tests.{both, and-left, and-right, or-cases, or-one, or-other, is-false, not-both, not-of-false, false-of-not, refuted, fails}
+use Rattle.bundle.proofs.ListLaws.{any-elim, any-intro, upTo-elim, upTo-intro, concatMap-elim, concatMap-intro, Distinct, distinct-nil, distinct-cons, distinct-concatMap}
 use Rattle.bundle.proofs.Places.{memberKey}
 use Rattle.order.specs.Ranges.{sharedByte}
 use Rattle.verdict.specs.Graph.{Pair, segmentsOf, closureOf, reaches}
 use Rattle.verdict.specs.Races.{NamedAccess, IsRace, accessesOf, nameKey, nameBelow, raceKey, writes, atomic, clashes, raceAt, raceOf, racesAmong, racesOf}
 use Rattle.verdict.specs.Demand.{Ascending}
 use Rattle.verdict.specs.declared.race.Race.{Race}
-use Rattle.verdict.proofs.ListMore.{distinct-concatMap}
-use Rattle.verdict.proofs.Given.{ExactTests}
+use Rattle.order.proofs.SharedByte.{shared-some, shared-is}
+use Rattle.verdict.proofs.Reachability.{reaches-path, path-reaches}
 use Rattle.verdict.proofs.AccessNames.{accessKey, accesses-distinct}
 use Rattle.verdict.proofs.Lexical.{raceKey-tells}
 use Rattle.verdict.proofs.Sorting.{order-intro, order-elim, order-ascending}
@@ -98,13 +98,6 @@ races-ascending cs d =
     order-ascending (racesAmong (closureOf (segmentsOf cs)) (accessesOf cs))
     (races-distinct (closureOf (segmentsOf cs)) (accessesOf cs) (accesses-distinct cs d))
 
--- a test that fails is one that cannot hold
-pub refuted : {t : Bool} → t ≡ true → not t ≡ true → ⊥
-refuted {t} p h = not-both p (false-of-not t h)
-
-pub fails : (t : Bool) → (t ≡ true → ⊥) → not t ≡ true
-fails t h = not-of-false (is-false t h)
-
 -- the test for a common lock is exact
 module _ (a b : ℕ) where
   pub common-lock-intro : (lock : ℕ) → lock < 64 → holds lock a ≡ true → holds lock b ≡ true → commonLock a b ≡ true
@@ -155,7 +148,7 @@ module _ (closure : List Pair) (x y : NamedAccess) where
   unfolding clashes
   clash-intro c = simp (c .lower, c .writing, c .not-atomic, c .no-lock, c .no-path, c .no-path-back)
 
-module _ (tests : ExactTests) (cs : List Chunk) where
+module _ (cs : List Chunk) where
   -- two accesses found make a race, and a race is made so
   pub found-race :
       {x y : NamedAccess} {r : Race}
@@ -167,7 +160,7 @@ module _ (tests : ExactTests) (cs : List Chunk) where
   found-race {x} {y} m l f =
       let ss = segmentsOf cs in
       let c = clash-elim (closureOf ss) x y (f .clash) in
-      let s = tests .shared-some (x .access .range) (y .access .range) (f .witness) (f .shared) in
+      let s = shared-some (x .access .range) (y .access .range) (f .witness) (f .shared) in
       rw (f .is)
       (record {
         one = x;
@@ -178,8 +171,8 @@ module _ (tests : ExactTests) (cs : List Chunk) where
         writing = or-cases (writes (x .access .kind)) (writes (y .access .kind)) (c .writing);
         not-atomic = λ p q. refuted (both p q) (c .not-atomic);
         no-lock = λ lock h p q. refuted (common-lock-intro (x .locks) (y .locks) lock h p q) (c .no-lock);
-        no-path = λ p. refuted (tests .reach-complete ss (x .node) (y .node) p) (c .no-path);
-        no-path-back = λ p. refuted (tests .reach-complete ss (y .node) (x .node) p) (c .no-path-back);
+        no-path = λ p. refuted (path-reaches ss (x .node) (y .node) p) (c .no-path);
+        no-path-back = λ p. refuted (path-reaches ss (y .node) (x .node) p) (c .no-path-back);
         one-touches = s .one;
         other-touches = s .other;
         lowest = s .lowest;
@@ -207,12 +200,12 @@ module _ (tests : ExactTests) (cs : List Chunk) where
               no-lock =
                   fails (commonLock (x .locks) (y .locks))
                   (λ h. let l = common-lock-elim (x .locks) (y .locks) h in i .no-lock (l .0) (l .1) (l .2) (l .3));
-              no-path = fails _ (λ h. i .no-path (tests .reach-sound ss (x .node) (y .node) h));
-              no-path-back = fails _ (λ h. i .no-path-back (tests .reach-sound ss (y .node) (x .node) h));
+              no-path = fails _ (λ h. i .no-path (reaches-path ss (x .node) (y .node) h));
+              no-path-back = fails _ (λ h. i .no-path-back (reaches-path ss (y .node) (x .node) h));
             });
         witness = r .witness;
         shared =
-            tests .shared-is (x .access .range) (y .access .range) (r .witness)
+            shared-is (x .access .range) (y .access .range) (r .witness)
             (record { one = i .one-touches; other = i .other-touches; lowest = i .lowest });
         is =
             λ j.

@@ -3,14 +3,12 @@ use mathlib.Core.Path.{_≡_, sym, _∙_, ap}
 use mathlib.Core.List.{List, map, List·Memᴰ, List·Permᴰ, Permᴰ·symm}
 use lib.ListN.{length, length-map}
 use Rattle.bundle.specs.Chunks.{Chunk, fresh}
-use Rattle.bundle.proofs.ListLaws.{perm-mem, perm-length, perm-concatMap, Distinct}
+use Rattle.bundle.proofs.ListLaws.{perm-mem, perm-length, perm-concatMap, Distinct, concatMap-map}
 use Rattle.bundle.proofs.Places.{unplaced, memberKey, commandsOf-unplaced}
 use Rattle.verdict.specs.Graph.{Node, Segment, Path, here, step, ofChunk, segmentsFrom, segmentsIn, segmentsOf}
 use Rattle.verdict.specs.Races.{IsRace, accessesFrom, accessesIn, accessesOf, racesOf}
 use Rattle.verdict.specs.Judge.{judgementOf}
 use Rattle.verdict.specs.declared.race.Race.{Race}
-use Rattle.verdict.proofs.ListMore.{concatMap-map}
-use Rattle.verdict.proofs.Given.{ExactTests}
 use Rattle.verdict.proofs.Sorting.{ascending-unique}
 use Rattle.verdict.proofs.RaceList.{races-elim, races-intro, races-ascending}
 
@@ -95,13 +93,13 @@ pub same-access-count : (cs ds : List Chunk) → SameChunks cs ds → length (ac
 same-access-count cs ds same = perm-length (accesses-perm cs ds same)
 
 module _
-    (tests : ExactTests) (cs ds : List Chunk) (same : SameChunks cs ds)
+    (cs ds : List Chunk) (same : SameChunks cs ds)
     (members : Distinct (map memberKey cs)) (members′ : Distinct (map memberKey ds)) where
   pub same-races : racesOf cs ≡ racesOf ds
   same-races =
       ascending-unique (races-ascending cs members) (races-ascending ds members′)
-      (λ r m. races-intro tests ds (same-race cs ds same (races-elim tests cs m)))
-      (λ r m. races-intro tests cs (same-race ds cs (Permᴰ·symm same) (races-elim tests ds m)))
+      (λ r m. races-intro ds (same-race cs ds same (races-elim cs m)))
+      (λ r m. races-intro cs (same-race ds cs (Permᴰ·symm same) (races-elim ds m)))
 
   pub same-judgement : judgementOf cs ≡ judgementOf ds
   unfolding judgementOf
