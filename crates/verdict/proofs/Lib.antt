@@ -1,6 +1,7 @@
 -- Laws over the definitions.
 pub mod Computing
 pub mod Examples
+pub mod SmallBundles
 pub mod Reachability
 pub mod Lexical
 pub mod Sorting
