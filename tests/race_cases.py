@@ -123,6 +123,13 @@ SORTED = [
             listing("4 5 3", "00000000 1.0.0 10 1.1.0 20", "00000000 1.0.0 10 1.2.0 30", "00000000 1.1.0 20 1.2.0 30")),
     Listing("witness before names", pair("write 1 16 0 1 1; write 2 15 0 1 1", "read 3 15 0 1 1; read 4 16 0 1 1"),
             listing("3 4 4", "0000000f 1.0.1 2 1.1.0 3", "00000010 1.0.0 1 1.1.1 4")),
+    Listing("first names before second names", """
+        member 0 0; region 1 4; end
+        member 1 0; acquire 1; acquire 2; write 10 64 0 1 1; release 1; release 2; end
+        member 1 1; acquire 1; acquire 3; write 20 64 0 1 1; release 1; release 3; end
+        member 1 2; acquire 2; acquire 4; write 30 64 0 1 1; release 2; release 4; end
+        member 1 3; acquire 3; acquire 4; write 40 64 0 1 1; release 3; release 4; end""",
+            listing("5 6 4", "00000040 1.0.0 10 1.3.0 40", "00000040 1.1.0 20 1.2.0 30")),
     Listing("names compared as numbers, low byte first in the log", """
         member 0 0; region 255 2; end
         member 255 0; region 256 1; end
