@@ -1,0 +1,11 @@
+use Rattle.order.proofs.label.span_ok.Statement.{statement}
+use Rattle.order.proofs.label.span_ok.Tie as tie
+use Rattle.order.proofs.label.span_ok.Reads as reads
+use Rattle.order.proofs.label.span_ok.Lts as lts
+
+-- src/label.rt:36:1
+returns : tie.Need-returns
+returns c = ?
+
+pub span-ok-spec : {M : Type 1} → statement M
+span-ok-spec = tie.close (tie.spec returns)

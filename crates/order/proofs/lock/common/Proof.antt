@@ -1,0 +1,11 @@
+use Rattle.order.proofs.lock.common.Statement.{statement}
+use Rattle.order.proofs.lock.common.Tie as tie
+use Rattle.order.proofs.lock.common.Reads as reads
+use Rattle.order.proofs.lock.common.Lts as lts
+
+-- src/lock.rt:16:1
+returns : tie.Need-returns
+returns c = ?
+
+pub common-spec : {M : Type 1} → statement M
+common-spec = tie.close (tie.spec returns)

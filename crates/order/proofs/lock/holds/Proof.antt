@@ -1,0 +1,20 @@
+use borrow.Author.Needs.{needs}
+use Rattle.order.proofs.lock.holds.Statement.{statement}
+use Rattle.order.proofs.lock.holds.Tie as tie
+use Rattle.order.proofs.lock.holds.Reads as reads
+use Rattle.order.proofs.lock.holds.Lts as lts
+
+-- src/lock.rt:10:9
+returns : tie.Need-returns
+returns c = ?
+
+-- src/lock.rt:12:6
+shr-result : tie.Need-shr-result
+shr-result c = search needs
+
+-- src/lock.rt:6:1
+returns-2 : tie.Need-returns-2
+returns-2 c = ?
+
+pub holds-spec : {M : Type 1} → statement M
+holds-spec = tie.close (tie.spec returns shr-result returns-2)
