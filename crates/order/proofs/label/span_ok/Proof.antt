@@ -1,3 +1,5 @@
+use borrow.Author.Needs.{needs}
+use Rattle.order.specs.Labels.{spanOk}
 use Rattle.order.proofs.label.span_ok.Statement.{statement}
 use Rattle.order.proofs.label.span_ok.Tie as tie
 use Rattle.order.proofs.label.span_ok.Reads as reads
@@ -5,7 +7,8 @@ use Rattle.order.proofs.label.span_ok.Lts as lts
 
 -- src/label.rt:36:1
 returns : tie.Need-returns
-returns c = ?
+unfolding spanOk
+returns c = search needs
 
 pub span-ok-spec : {M : Type 1} → statement M
 span-ok-spec = tie.close (tie.spec returns)

@@ -1,3 +1,13 @@
+-- `order::label::spans_ok` meets its contract: the spans from triple i on decide the answer. Assumes nothing.
+use Prim.Native.Nat.{_≤_, _-_}
+use mathlib.Core.Path.{_≡_, refl, sym, _∙_}
+use native.Mathlib.Omega.{arith}
+use borrow.Author.Needs.{needs}
+use borrow.Author.Tests.{not-true, not-false}
+use lib.ListN.{take}
+use Rattle.bundle.specs.Lists.{all}
+use Rattle.order.specs.Labels.{counted, spanOk}
+use Rattle.order.proofs.Comparing.{five, rest, rest-none, all-stops, all-goes-on}
 use Rattle.order.proofs.label.spans_ok.Statement.{statement}
 use Rattle.order.proofs.label.spans_ok.Tie as tie
 use Rattle.order.proofs.label.spans_ok.Reads as reads
@@ -5,50 +15,53 @@ use Rattle.order.proofs.label.spans_ok.Lts as lts
 use Rattle.order.proofs.label.span_ok.Reads as span-ok-reads
 
 abbrev Inv-loop : tie.InvT-loop
-Inv-loop count triples i₀ i = ?
+Inv-loop count triples i₀ i = (i ≤ count) × (all spanOk (rest i (record { count = count; triples = triples })) ≡ all spanOk (take count triples))
 
 abbrev μ-loop : tie.MeasureT-loop
-μ-loop count triples i₀ i = ?
+μ-loop count triples i₀ i = count - i
 
--- src/label.rt:47:17
 cast-count : tie.Need-cast-count Inv-loop μ-loop
-cast-count c = ?
+cast-count c = search needs
 
--- src/label.rt:50:5
 loop-holds : tie.Need-loop-holds Inv-loop μ-loop
-loop-holds c = ?
+loop-holds c = (search needs, refl)
 
--- src/label.rt:51:22
 mul-triple : tie.Need-mul-triple Inv-loop μ-loop
-mul-triple c = ?
+mul-triple c = search needs
 
--- src/label.rt:51:22
 array-copy-out-triple : tie.Need-array-copy-out-triple Inv-loop μ-loop
-array-copy-out-triple c = ?
+array-copy-out-triple c = search needs
 
--- src/label.rt:52:13
 span-ok-requires : tie.Need-span-ok-requires Inv-loop μ-loop
-span-ok-requires c κs = ?
+span-ok-requires c κs = search needs
 
--- src/label.rt:53:13
 returns : tie.Need-returns Inv-loop μ-loop
-returns c = ?
+unfolding counted
+returns c =
+    let label = c .before .before .before .before .before .before .before .args .label in
+    let fits = five label _ (c .before .before .before .before .before .before .before .good .0) in
+    sym (all-stops (c .before .before .before .before .loop .i) label (search needs) (omega arith) spanOk (sym (c .before .span-ok .ensures) ∙ not-true _ (c .if1 .taken)))
+    ∙ c .before .before .before .before .loop .inv .1
 
--- src/label.rt:55:9
 add-i : tie.Need-add-i Inv-loop μ-loop
-add-i c = ?
+add-i c = search needs
 
--- src/label.rt:50:5
 loop-less : tie.Need-loop-less Inv-loop μ-loop
-loop-less c = ?
+loop-less c = search needs
 
--- src/label.rt:50:5
 loop-again : tie.Need-loop-again Inv-loop μ-loop
-loop-again c = ?
+loop-again c =
+    let label = c .before .before .before .before .before .before .before .args .label in
+    let fits = five label _ (c .before .before .before .before .before .before .before .good .0) in
+    (
+      search needs,
+      all-goes-on (c .before .before .before .before .loop .i) label (search needs) (omega arith) spanOk (sym (c .before .span-ok .ensures) ∙ not-false _ (c .if1 .left))
+      ∙ c .before .before .before .before .loop .inv .1,
+    )
 
--- src/label.rt:43:1
 returns-2 : tie.Need-returns-2 Inv-loop μ-loop
-returns-2 c = ?
+unfolding counted
+returns-2 c = rw (rest-none (c .before .loop .i) (c .before .before .before .before .args .label) (c .loop-test .left)) at (c .before .loop .inv .1)
 
 pub spans-ok-spec : {M : Type 1} → statement M
 spans-ok-spec =

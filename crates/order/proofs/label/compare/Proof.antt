@@ -1,0 +1,42 @@
+use borrow.Author.Needs.{needs}
+use Rattle.order.proofs.label.compare.Statement.{statement}
+use Rattle.order.proofs.label.compare.Tie as tie
+use Rattle.order.proofs.label.compare.Reads as reads
+use Rattle.order.proofs.label.compare.Lts as lts
+use Rattle.order.proofs.label.compare_counted.Reads as compare-counted-reads
+use Rattle.order.proofs.label.label_ok.Reads as label-ok-reads
+
+-- src/label.rt:138:9
+label-ok-requires : tie.Need-label-ok-requires
+label-ok-requires c κs = search needs
+
+-- src/label.rt:139:9
+returns : tie.Need-returns
+returns c = ?
+
+-- src/label.rt:144:9
+label-ok-requires-2 : tie.Need-label-ok-requires-2
+label-ok-requires-2 c κs = search needs
+
+-- src/label.rt:145:9
+returns-2 : tie.Need-returns-2
+returns-2 c = ?
+
+-- src/label.rt:150:5
+compare-counted-requires : tie.Need-compare-counted-requires
+compare-counted-requires c κs = ?
+
+-- src/label.rt:135:1
+returns-3 : tie.Need-returns-3
+returns-3 c = ?
+
+pub compare-spec : {M : Type 1} → statement M
+compare-spec =
+    tie.close
+    (tie.spec
+    label-ok-requires
+    returns
+    label-ok-requires-2
+    returns-2
+    compare-counted-requires
+    returns-3)

@@ -1,0 +1,30 @@
+use borrow.Author.Needs.{needs}
+use Rattle.order.proofs.label.label_ok.Statement.{statement}
+use Rattle.order.proofs.label.label_ok.Tie as tie
+use Rattle.order.proofs.label.label_ok.Reads as reads
+use Rattle.order.proofs.label.label_ok.Lts as lts
+use Rattle.order.proofs.label.spans_ok.Reads as spans-ok-reads
+
+-- src/label.rt:65:9
+returns : tie.Need-returns
+returns c = ?
+
+-- src/label.rt:68:9
+returns-2 : tie.Need-returns-2
+returns-2 c = ?
+
+-- src/label.rt:71:16
+array-copy-out-root : tie.Need-array-copy-out-root
+array-copy-out-root c = search needs
+
+-- src/label.rt:72:5
+spans-ok-requires : tie.Need-spans-ok-requires
+spans-ok-requires c κs = search needs
+
+-- src/label.rt:60:1
+returns-3 : tie.Need-returns-3
+returns-3 c = ?
+
+pub label-ok-spec : {M : Type 1} → statement M
+label-ok-spec =
+    tie.close (tie.spec returns returns-2 array-copy-out-root spans-ok-requires returns-3)
