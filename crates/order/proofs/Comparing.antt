@@ -8,11 +8,11 @@ use native.Mathlib.Omega.{arith}
 use native.Mathlib.Nat.{le-of-suc-le-suc}
 use lib.ListN.{length, take, drop, getD, length-take, length-map, drop-of-length-le}
 use lib.Seq.{drop-cons, getD-take, length-take-le}
-use lib.Dec.{leb}
+use lib.Dec.{leb, eqb}
 use mir.Val.{Val}
 use denote.Laws.{Is}
 use denote.Struct.Declared.{row}
-use borrow.Author.Tests.{leb-true}
+use borrow.Author.Tests.{leb-true, le-leb}
 use Rattle.bundle.specs.Answer.{Answer, gives}
 use Rattle.bundle.specs.Lists.{all}
 use Rattle.bundle.proofs.Tests.{and-left, and-right}
@@ -66,11 +66,25 @@ module _ (l : Label) (ok : labelOk l ≡ true) where
   unfolding labelOk
   few = leb-true (l .count) 5 (and-right (leb 1 (l .count)) _ (and-left _ _ (and-left _ _ ok)))
 
+  pub spans : all spanOk (counted l) ≡ true
+  unfolding labelOk
+  spans =
+      and-right (leb 1 (l .count) && leb (l .count) 5) (all spanOk (counted l)) (and-left _ (rootSpan (counted l)) ok)
+
   pub span-positive : (k : ℕ) → k < l .count → l .count ≤ length (l .triples) → 1 ≤ triple k l .span
-  unfolding labelOk counted spanOk
+  unfolding counted spanOk
   span-positive k h fits =
       leb-true 1 (triple k l .span)
-      (and-left _ _ (all-at spanOk k (l .count) (l .triples) pastEnd (and-right _ _ (and-left _ _ ok)) h fits))
+      (and-left _ (leb (triple k l .span) 64) (all-at spanOk k (l .count) (l .triples) pastEnd spans h fits))
+
+pub label-ok-is :
+  (l : Label)
+  → 1 ≤ l .count
+  → l .count ≤ 5
+  → l .count ≤ length (l .triples)
+  → (all spanOk (counted l) && eqb (triple 0 l .span) 1) ≡ labelOk l
+unfolding labelOk counted rootSpan
+label-ok-is l h few′ fits = rw (le-leb 1 (l .count) h, le-leb (l .count) 5 few′, rest-cons 0 l h fits)
 
 -- two labels compared from the k-th triple on
 abbrev pub compareRest : ℕ → Label → Label → Answer Order

@@ -1,8 +1,12 @@
+-- `order::label::compare_counted` meets its contract: the triples from `number` on decide the answer. Assumes nothing.
 use Prim.Native.Nat.{_≤_, _-_}
-use mathlib.Core.Path.{_≡_}
+use mathlib.Core.Path.{_≡_, refl, sym, _∙_}
+use native.Mathlib.Omega.{arith}
 use borrow.Author.Needs.{needs}
-use lib.ListN.{take, drop}
-use Rattle.order.specs.Labels.{compareFrom}
+use borrow.Author.Tests.{not-true, not-false}
+use lib.ListN.{take}
+use Rattle.order.specs.Labels.{counted, compareFrom}
+use Rattle.order.proofs.Comparing.{five, few, span-positive, compareRest, both-end, first-ends, second-ends, alike, unlike}
 use Rattle.order.proofs.label.compare_counted.Statement.{statement}
 use Rattle.order.proofs.label.compare_counted.Tie as tie
 use Rattle.order.proofs.label.compare_counted.Reads as reads
@@ -12,7 +16,9 @@ use Rattle.order.proofs.label.same_triple.Reads as same-triple-reads
 
 abbrev Inv-loop : tie.InvT-loop
 Inv-loop first-count second-count firsts seconds number₀ number =
-    (number ≤ first-count) × (compareFrom number (drop number (take first-count firsts)) (drop number (take second-count seconds)) ≡ compareFrom 0 (take first-count firsts) (take second-count seconds))
+    (number ≤ first-count)
+    × (compareRest number (record { count = first-count; triples = firsts }) (record { count = second-count; triples = seconds })
+    ≡ compareFrom 0 (take first-count firsts) (take second-count seconds))
 
 abbrev μ-loop : tie.MeasureT-loop
 μ-loop first-count second-count firsts seconds number₀ number = first-count - number
@@ -27,11 +33,19 @@ cast-second-count c = search needs
 
 -- src/label.rt:117:5
 loop-holds : tie.Need-loop-holds Inv-loop μ-loop
-loop-holds c = ?
+loop-holds c = (search needs, refl)
 
 -- src/label.rt:119:13
 returns : tie.Need-returns Inv-loop μ-loop
-returns c = ?
+unfolding counted
+returns c =
+    let a = c .before .before .before .before .before .before .before .args .first in
+    let b = c .before .before .before .before .before .before .before .args .second in
+    let fits = five a _ (c .before .before .before .before .before .before .before .good .0) in
+    let fits′ = five b _ (c .before .before .before .before .before .before .before .good .1 .0) in
+    let few-a = few a (c .before .before .before .before .before .before .before .pre .0) in
+    let few-b = few b (c .before .before .before .before .before .before .before .pre .1) in
+    sym (second-ends (c .before .before .loop .number) a b (search needs) (omega arith) (search needs)) ∙ c .before .before .loop .inv .1
 
 -- src/label.rt:121:17
 mul-a : tie.Need-mul-a Inv-loop μ-loop
@@ -39,7 +53,8 @@ mul-a c = search needs
 
 -- src/label.rt:121:17
 array-copy-out-a : tie.Need-array-copy-out-a Inv-loop μ-loop
-array-copy-out-a c = search needs
+array-copy-out-a c =
+    let few-a = few (c .before .before .before .before .before .before .before .args .first) (c .before .before .before .before .before .before .before .pre .0) in search needs
 
 -- src/label.rt:122:17
 mul-b : tie.Need-mul-b Inv-loop μ-loop
@@ -47,7 +62,8 @@ mul-b c = search needs
 
 -- src/label.rt:122:17
 array-copy-out-b : tie.Need-array-copy-out-b Inv-loop μ-loop
-array-copy-out-b c = search needs
+array-copy-out-b c =
+    let few-b = few (c .before .before .before .before .before .before .before .before .args .second) (c .before .before .before .before .before .before .before .before .pre .1) in search needs
 
 -- src/label.rt:123:13
 same-triple-requires : tie.Need-same-triple-requires Inv-loop μ-loop
@@ -55,11 +71,28 @@ same-triple-requires c κs = search needs
 
 -- src/label.rt:124:13
 compare-triples-requires : tie.Need-compare-triples-requires Inv-loop μ-loop
-compare-triples-requires c κs = ?
+compare-triples-requires c κs =
+    let a = c .before .before .before .before .before .before .before .before .before .before .before .args .first in
+    let b = c .before .before .before .before .before .before .before .before .before .before .before .args .second in
+    let fits = five a _ (c .before .before .before .before .before .before .before .before .before .before .before .good .0) in
+    let fits′ = five b _ (c .before .before .before .before .before .before .before .before .before .before .before .good .1 .0) in
+    let few-a = few a (c .before .before .before .before .before .before .before .before .before .before .before .pre .0) in
+    let few-b = few b (c .before .before .before .before .before .before .before .before .before .before .before .pre .1) in
+    span-positive a (c .before .before .before .before .before .before .before .before .before .before .before .pre .0) (c .before .before .before .before .before .before .loop .number) (search needs) (omega arith)
 
 -- src/label.rt:124:13
 returns-2 : tie.Need-returns-2 Inv-loop μ-loop
-returns-2 c = ?
+unfolding counted
+returns-2 c =
+    let a = c .before .before .before .before .before .before .before .before .before .before .before .before .args .first in
+    let b = c .before .before .before .before .before .before .before .before .before .before .before .before .args .second in
+    let fits = five a _ (c .before .before .before .before .before .before .before .before .before .before .before .before .good .0) in
+    let fits′ = five b _ (c .before .before .before .before .before .before .before .before .before .before .before .before .good .1 .0) in
+    let few-a = few a (c .before .before .before .before .before .before .before .before .before .before .before .before .pre .0) in
+    let few-b = few b (c .before .before .before .before .before .before .before .before .before .before .before .before .pre .1) in
+    c .compare-triples .ensures
+    ∙ unlike (c .before .before .before .before .before .before .before .loop .number) a b (search needs) (omega arith) (search needs) (omega arith) (sym (c .before .before .same-triple .ensures) ∙ not-true _ (c .before .if2 .taken))
+    ∙ c .before .before .before .before .before .before .before .loop .inv .1
 
 -- src/label.rt:126:9
 add-number : tie.Need-add-number Inv-loop μ-loop
@@ -71,15 +104,36 @@ loop-less c = search needs
 
 -- src/label.rt:117:5
 loop-again : tie.Need-loop-again Inv-loop μ-loop
-loop-again c = ?
+loop-again c =
+    let a = c .before .before .before .before .before .before .before .before .before .before .before .args .first in
+    let b = c .before .before .before .before .before .before .before .before .before .before .before .args .second in
+    let fits = five a _ (c .before .before .before .before .before .before .before .before .before .before .before .good .0) in
+    let fits′ = five b _ (c .before .before .before .before .before .before .before .before .before .before .before .good .1 .0) in
+    let few-a = few a (c .before .before .before .before .before .before .before .before .before .before .before .pre .0) in
+    let few-b = few b (c .before .before .before .before .before .before .before .before .before .before .before .pre .1) in
+    (
+      search needs,
+      alike (c .before .before .before .before .before .before .loop .number) a b (search needs) (omega arith) (search needs) (omega arith) (sym (c .before .same-triple .ensures) ∙ not-false _ (c .if2 .left))
+      ∙ c .before .before .before .before .before .before .loop .inv .1,
+    )
 
 -- src/label.rt:129:9
 returns-3 : tie.Need-returns-3 Inv-loop μ-loop
-returns-3 c = ?
+unfolding counted
+returns-3 c =
+    let a = c .before .before .before .before .before .before .before .args .first in
+    let b = c .before .before .before .before .before .before .before .args .second in
+    let fits = five a _ (c .before .before .before .before .before .before .before .good .0) in
+    let fits′ = five b _ (c .before .before .before .before .before .before .before .good .1 .0) in
+    let few-a = few a (c .before .before .before .before .before .before .before .pre .0) in
+    let few-b = few b (c .before .before .before .before .before .before .before .pre .1) in
+    sym (first-ends (c .before .before .loop .number) a b (search needs) (search needs) (omega arith)) ∙ c .before .before .loop .inv .1
 
 -- src/label.rt:108:1
 returns-4 : tie.Need-returns-4 Inv-loop μ-loop
-returns-4 c = ?
+unfolding counted
+returns-4 c =
+    sym (both-end (c .before .before .loop .number) (c .before .before .before .before .before .before .before .args .first) (c .before .before .before .before .before .before .before .args .second) (search needs) (search needs)) ∙ c .before .before .loop .inv .1
 
 pub compare-counted-spec : {M : Type 1} → statement M
 compare-counted-spec =

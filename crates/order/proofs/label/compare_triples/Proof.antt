@@ -1,4 +1,7 @@
+-- `order::label::compare_triples` meets its contract: each test that was left is one of `compareTriples`'. Assumes nothing.
 use borrow.Author.Needs.{needs}
+use borrow.Author.Tests.{lt-ltb, le-ltb, eq-eqb, ne-eqb}
+use Rattle.order.specs.Labels.{compareTriples}
 use Rattle.order.proofs.label.compare_triples.Statement.{statement}
 use Rattle.order.proofs.label.compare_triples.Tie as tie
 use Rattle.order.proofs.label.compare_triples.Reads as reads
@@ -6,15 +9,18 @@ use Rattle.order.proofs.label.compare_triples.Lts as lts
 
 -- src/label.rt:88:9
 returns : tie.Need-returns
-returns c = ?
+unfolding compareTriples
+returns c = simp (ne-eqb _ _ (c .if1 .taken))
 
 -- src/label.rt:94:9
 returns-2 : tie.Need-returns-2
-returns-2 c = ?
+unfolding compareTriples
+returns-2 c = simp (eq-eqb _ _ (c .before .before .before .if1 .left), lt-ltb _ _ (c .if2 .taken))
 
 -- src/label.rt:97:9
 returns-3 : tie.Need-returns-3
-returns-3 c = ?
+unfolding compareTriples
+returns-3 c = simp (eq-eqb _ _ (c .before .before .before .before .before .before .if1 .left), le-ltb _ _ (c .before .before .before .if2 .left), lt-ltb _ _ (c .if3 .taken))
 
 -- src/label.rt:99:8
 rem-if4 : tie.Need-rem-if4
@@ -26,15 +32,18 @@ rem-if4-2 c = search needs
 
 -- src/label.rt:100:9
 returns-4 : tie.Need-returns-4
-returns-4 c = ?
+unfolding compareTriples
+returns-4 c = simp (eq-eqb _ _ (c .before .before .before .before .before .before .before .before .before .if1 .left), le-ltb _ _ (c .before .before .before .before .before .before .if2 .left), le-ltb _ _ (c .before .before .before .if3 .left), ne-eqb _ _ (c .if4 .taken))
 
 -- src/label.rt:103:9
 returns-5 : tie.Need-returns-5
-returns-5 c = ?
+unfolding compareTriples
+returns-5 c = simp (eq-eqb _ _ (c .before .before .before .before .before .before .before .before .before .before .before .before .if1 .left), le-ltb _ _ (c .before .before .before .before .before .before .before .before .before .if2 .left), le-ltb _ _ (c .before .before .before .before .before .before .if3 .left), eq-eqb _ _ (c .before .before .before .if4 .left), lt-ltb _ _ (c .if5 .taken))
 
 -- src/label.rt:82:1
 returns-6 : tie.Need-returns-6
-returns-6 c = ?
+unfolding compareTriples
+returns-6 c = simp (eq-eqb _ _ (c .before .before .before .before .before .before .before .before .before .before .before .before .if1 .left), le-ltb _ _ (c .before .before .before .before .before .before .before .before .before .if2 .left), le-ltb _ _ (c .before .before .before .before .before .before .if3 .left), eq-eqb _ _ (c .before .before .before .if4 .left), le-ltb _ _ (c .if5 .left))
 
 pub compare-triples-spec : {M : Type 1} → statement M
 compare-triples-spec =

@@ -1,4 +1,9 @@
+-- `order::label::label_ok` meets its contract: each test that failed is one of `labelOk`'s. Assumes nothing.
+use native.Mathlib.Omega.{arith}
 use borrow.Author.Needs.{needs}
+use borrow.Author.Tests.{le-leb, lt-leb}
+use Rattle.order.specs.Labels.{labelOk}
+use Rattle.order.proofs.Comparing.{five, label-ok-is}
 use Rattle.order.proofs.label.label_ok.Statement.{statement}
 use Rattle.order.proofs.label.label_ok.Tie as tie
 use Rattle.order.proofs.label.label_ok.Reads as reads
@@ -7,11 +12,13 @@ use Rattle.order.proofs.label.spans_ok.Reads as spans-ok-reads
 
 -- src/label.rt:65:9
 returns : tie.Need-returns
-returns c = ?
+unfolding labelOk
+returns c = simp (lt-leb _ _ (c .if1 .taken))
 
 -- src/label.rt:68:9
 returns-2 : tie.Need-returns-2
-returns-2 c = ?
+unfolding labelOk
+returns-2 c = simp (le-leb _ _ (c .before .if1 .left), lt-leb _ _ (c .if2 .taken))
 
 -- src/label.rt:71:16
 array-copy-out-root : tie.Need-array-copy-out-root
