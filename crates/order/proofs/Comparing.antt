@@ -66,7 +66,10 @@ module _ (l : Label) (ok : labelOk l ≡ true) where
   unfolding labelOk
   few = leb-true (l .count) 5 (and-right (leb 1 (l .count)) _ (and-left _ _ (and-left _ _ ok)))
 
-  pub spans : all spanOk (counted l) ≡ true
+  pub room : (vs : List Val) → Is (row the-type) l vs → l .count ≤ length (l .triples)
+  room vs owned = omega (arith, few, five l vs owned)
+
+  spans : all spanOk (counted l) ≡ true
   unfolding labelOk
   spans =
       and-right (leb 1 (l .count) && leb (l .count) 5) (all spanOk (counted l)) (and-left _ (rootSpan (counted l)) ok)
@@ -78,11 +81,11 @@ module _ (l : Label) (ok : labelOk l ≡ true) where
       (and-left _ (leb (triple k l .span) 64) (all-at spanOk k (l .count) (l .triples) pastEnd spans h fits))
 
 pub label-ok-is :
-  (l : Label)
-  → 1 ≤ l .count
-  → l .count ≤ 5
-  → l .count ≤ length (l .triples)
-  → (all spanOk (counted l) && eqb (triple 0 l .span) 1) ≡ labelOk l
+    (l : Label)
+    → 1 ≤ l .count
+    → l .count ≤ 5
+    → l .count ≤ length (l .triples)
+    → (all spanOk (counted l) && eqb (triple 0 l .span) 1) ≡ labelOk l
 unfolding labelOk counted rootSpan
 label-ok-is l h few′ fits = rw (le-leb 1 (l .count) h, le-leb (l .count) 5 few′, rest-cons 0 l h fits)
 
@@ -105,8 +108,8 @@ module _ (k : ℕ) (a b : Label) where
 
 module _ (k : ℕ) (a b : Label) (h : k < a .count) (fits : a .count ≤ length (a .triples)) (h′ : k < b .count) (fits′ : b .count ≤ length (b .triples)) where
   both-go-on :
-    compareRest k a b
-    ≡ cond (sameTriple (triple k a) (triple k b)) (compareRest (k + 1) a b) (compareTriples k (triple k a) (triple k b))
+      compareRest k a b
+      ≡ cond (sameTriple (triple k a) (triple k b)) (compareRest (k + 1) a b) (compareTriples k (triple k a) (triple k b))
   unfolding compareFrom
   both-go-on = rw (rest-cons k a, rest-cons k b, add-one)
 

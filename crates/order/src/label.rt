@@ -75,7 +75,9 @@ fn label_ok(label: Label) -> bool
 fn same_triple(first: Triple, second: Triple) -> bool
     ensures { λ r. ⌜ r ≡ sameTriple first second ⌝ }
 {
-    (first.offset == second.offset) & (first.span == second.span) & (first.interval == second.interval)
+    (first.offset == second.offset)
+        & (first.span == second.span)
+        & (first.interval == second.interval)
 }
 
 // The first triples in which two labels differ, at their number.

@@ -4,43 +4,27 @@ use borrow.Author.Tests.{lt-ltb, le-ltb, eq-eqb, ne-eqb}
 use Rattle.order.specs.Labels.{compareTriples}
 use Rattle.order.proofs.label.compare_triples.Statement.{statement}
 use Rattle.order.proofs.label.compare_triples.Tie as tie
-use Rattle.order.proofs.label.compare_triples.Reads as reads
-use Rattle.order.proofs.label.compare_triples.Lts as lts
 
--- src/label.rt:88:9
 returns : tie.Need-returns
 unfolding compareTriples
 returns c = simp (ne-eqb _ _ (c .if1 .taken))
 
--- src/label.rt:94:9
 returns-2 : tie.Need-returns-2
 unfolding compareTriples
 returns-2 c = simp (eq-eqb _ _ (c .before .before .before .if1 .left), lt-ltb _ _ (c .if2 .taken))
 
--- src/label.rt:97:9
 returns-3 : tie.Need-returns-3
 unfolding compareTriples
 returns-3 c = simp (eq-eqb _ _ (c .before .before .before .before .before .before .if1 .left), le-ltb _ _ (c .before .before .before .if2 .left), lt-ltb _ _ (c .if3 .taken))
 
--- src/label.rt:99:8
-rem-if4 : tie.Need-rem-if4
-rem-if4 c = search needs
-
--- src/label.rt:99:31
-rem-if4-2 : tie.Need-rem-if4-2
-rem-if4-2 c = search needs
-
--- src/label.rt:100:9
 returns-4 : tie.Need-returns-4
 unfolding compareTriples
 returns-4 c = simp (eq-eqb _ _ (c .before .before .before .before .before .before .before .before .before .if1 .left), le-ltb _ _ (c .before .before .before .before .before .before .if2 .left), le-ltb _ _ (c .before .before .before .if3 .left), ne-eqb _ _ (c .if4 .taken))
 
--- src/label.rt:103:9
 returns-5 : tie.Need-returns-5
 unfolding compareTriples
 returns-5 c = simp (eq-eqb _ _ (c .before .before .before .before .before .before .before .before .before .before .before .before .if1 .left), le-ltb _ _ (c .before .before .before .before .before .before .before .before .before .if2 .left), le-ltb _ _ (c .before .before .before .before .before .before .if3 .left), eq-eqb _ _ (c .before .before .before .if4 .left), lt-ltb _ _ (c .if5 .taken))
 
--- src/label.rt:82:1
 returns-6 : tie.Need-returns-6
 unfolding compareTriples
 returns-6 c = simp (eq-eqb _ _ (c .before .before .before .before .before .before .before .before .before .before .before .before .if1 .left), le-ltb _ _ (c .before .before .before .before .before .before .before .before .before .if2 .left), le-ltb _ _ (c .before .before .before .before .before .before .if3 .left), eq-eqb _ _ (c .before .before .before .if4 .left), le-ltb _ _ (c .if5 .left))
@@ -48,4 +32,4 @@ returns-6 c = simp (eq-eqb _ _ (c .before .before .before .before .before .befor
 pub compare-triples-spec : {M : Type 1} → statement M
 compare-triples-spec =
     tie.close
-    (tie.spec returns returns-2 returns-3 rem-if4 rem-if4-2 returns-4 returns-5 returns-6)
+    (tie.spec returns returns-2 returns-3 (λ c. search needs) (λ c. search needs) returns-4 returns-5 returns-6)

@@ -9,29 +9,15 @@ use Rattle.order.specs.Labels.{labelOk}
 use Rattle.order.proofs.Comparing.{five, triple, label-ok-is}
 use Rattle.order.proofs.label.label_ok.Statement.{statement}
 use Rattle.order.proofs.label.label_ok.Tie as tie
-use Rattle.order.proofs.label.label_ok.Reads as reads
-use Rattle.order.proofs.label.label_ok.Lts as lts
-use Rattle.order.proofs.label.spans_ok.Reads as spans-ok-reads
 
--- src/label.rt:65:9
 returns : tie.Need-returns
 unfolding labelOk
 returns c = simp (lt-leb _ _ (c .if1 .taken))
 
--- src/label.rt:68:9
 returns-2 : tie.Need-returns-2
 unfolding labelOk
 returns-2 c = simp (le-leb _ _ (c .before .if1 .left), lt-leb _ _ (c .if2 .taken))
 
--- src/label.rt:71:16
-array-copy-out-root : tie.Need-array-copy-out-root
-array-copy-out-root c = search needs
-
--- src/label.rt:72:5
-spans-ok-requires : tie.Need-spans-ok-requires
-spans-ok-requires c κs = search needs
-
--- src/label.rt:60:1
 returns-3 : tie.Need-returns-3
 returns-3 c =
     let label = c .before .before .before .before .before .before .args .label in
@@ -41,4 +27,4 @@ returns-3 c =
 
 pub label-ok-spec : {M : Type 1} → statement M
 label-ok-spec =
-    tie.close (tie.spec returns returns-2 array-copy-out-root spans-ok-requires returns-3)
+    tie.close (tie.spec returns returns-2 (λ c. search needs) (λ c κs. search needs) returns-3)

@@ -1,11 +1,9 @@
+-- `order::label::same_triple` meets its contract. Assumes nothing.
 use borrow.Author.Needs.{needs}
 use Rattle.order.specs.Labels.{sameTriple}
 use Rattle.order.proofs.label.same_triple.Statement.{statement}
 use Rattle.order.proofs.label.same_triple.Tie as tie
-use Rattle.order.proofs.label.same_triple.Reads as reads
-use Rattle.order.proofs.label.same_triple.Lts as lts
 
--- src/label.rt:75:1
 returns : tie.Need-returns
 unfolding sameTriple
 returns c = search needs

@@ -1,11 +1,9 @@
+-- `order::label::span_ok` meets its contract. Assumes nothing.
 use borrow.Author.Needs.{needs}
 use Rattle.order.specs.Labels.{spanOk}
 use Rattle.order.proofs.label.span_ok.Statement.{statement}
 use Rattle.order.proofs.label.span_ok.Tie as tie
-use Rattle.order.proofs.label.span_ok.Reads as reads
-use Rattle.order.proofs.label.span_ok.Lts as lts
 
--- src/label.rt:36:1
 returns : tie.Need-returns
 unfolding spanOk
 returns c = search needs
