@@ -1,8 +1,7 @@
 -- Two lock sets have a lock in common exactly when the bits that both have set make a number other than 0.
-use Prim.Native.Nat.{ℕ, zero, suc, _+_, _*_, _/_, _%_, _^_, _<_, _≤_, min}
-use mathlib.Core.Path.{_≡_, refl, sym, ap, ap₂, _∙_}
-use mathlib.Core.Logic.{_⊎_, inl, inr}
-use mathlib.Core.Bool.{Bool, true, false, not, _&&_}
+use Prim.Native.Nat.{ℕ, zero, suc, _+_, _/_, _%_, _^_, _<_, min}
+use mathlib.Core.Path.{_≡_, sym, ap, _∙_}
+use mathlib.Core.Bool.{true, false, not, _&&_}
 use native.Mathlib.Nat.{zero-div, div-one, div-eq-of-lt}
 use native.Mathlib.Decide.{ℕ-discrete}
 use native.Mathlib.Numerals.{add-one}
@@ -14,8 +13,8 @@ use lib.Dec.{eqb}
 use borrow.Author.Tests.{eqb-true, eq-eqb, ne-eqb}
 use Rattle.bundle.specs.Lists.{upTo, any}
 use Rattle.bundle.specs.Locks.{holds, commonLock}
-use Rattle.bundle.proofs.Tests.{both, and-left, and-right, same-test, false-of-not, not-of-false, not-both, decide}
-use Rattle.bundle.proofs.ListLaws.{any-elim, any-intro, upTo-elim, upTo-intro}
+use Rattle.bundle.proofs.Tests.{both, and-left, and-right, same-test, false-of-not, not-of-false, not-both}
+use Rattle.bundle.proofs.ListLaws.{any-elim, any-intro, upTo-intro}
 
 -- a bit of what both have set
 bit-of-both : (a b k : ℕ) → bitAnd a b / 2 ^ k % 2 ≡ min (a / 2 ^ k % 2) (b / 2 ^ k % 2)

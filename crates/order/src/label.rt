@@ -33,6 +33,7 @@ pub enum Comparison {
     Refused { cause: Cause, place: usize },
 }
 
+// Whether a span is 1 to 64.
 fn span_ok(triple: Triple) -> bool
     ensures { λ r. ⌜ r ≡ spanOk triple ⌝ }
 {
@@ -40,6 +41,7 @@ fn span_ok(triple: Triple) -> bool
     (1 <= span) & (span <= 64)
 }
 
+// Whether every counted span is 1 to 64.
 fn spans_ok(label: Label) -> bool
     requires { ⌜ label .count ≤ 5 ⌝ }
     ensures { λ r. ⌜ r ≡ all spanOk (counted label) ⌝ }
@@ -57,6 +59,7 @@ fn spans_ok(label: Label) -> bool
     true
 }
 
+// Whether a label has 1 to 5 triples, each span in its range, and the first span 1.
 fn label_ok(label: Label) -> bool
     ensures { λ r. ⌜ r ≡ labelOk label ⌝ }
 {
@@ -80,7 +83,7 @@ fn same_triple(first: Triple, second: Triple) -> bool
         & (first.interval == second.interval)
 }
 
-// The first triples in which two labels differ, at their number.
+// Two labels by the first triples in which they differ, which have this number.
 fn compare_triples(number: usize, first: Triple, second: Triple) -> Comparison
     requires { ⌜ 1 ≤ first .span ⌝ }
     ensures { λ r. ⌜ comparisonOf r ≡ compareTriples number first second ⌝ }
@@ -107,6 +110,7 @@ fn compare_triples(number: usize, first: Triple, second: Triple) -> Comparison
     Comparison::Compared(Order::After)
 }
 
+// Two labels that are not refused, triple by triple.
 fn compare_counted(first: Label, second: Label) -> Comparison
     requires { ⌜ (labelOk first ≡ true) × (labelOk second ≡ true) ⌝ }
     ensures { λ r. ⌜ comparisonOf r ≡ compareFrom 0 (counted first) (counted second) ⌝ }
@@ -128,12 +132,13 @@ fn compare_counted(first: Label, second: Label) -> Comparison
         number += 1;
     }
     if number < second_count {
-        return Comparison::Compared(Order::Before);
+        Comparison::Compared(Order::Before)
+    } else {
+        Comparison::Compared(Order::Same)
     }
-    Comparison::Compared(Order::Same)
 }
 
-// How the first label stands to the second.
+// How the first label stands to the second: 15 for a bad label, at 1 or 2; then 16 for unequal spans, at the triple's number.
 pub fn compare(first: Label, second: Label) -> Comparison
     ensures { λ r. ⌜ comparisonOf r ≡ compareOf first second ⌝ }
 {

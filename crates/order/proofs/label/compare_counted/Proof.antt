@@ -57,8 +57,7 @@ returns-2 c =
 loop-again : tie.Need-loop-again Inv-loop μ-loop
 loop-again c =
     let start = c .before .before .before .before .before .before .before .before .before .before .before in
-    let turn = c .before .before .before .before .before .before .loop in
-    (
+    let turn = c .before .before .before .before .before .before .loop in (
       search needs,
       alike (turn .number) (start .args .first) (start .args .second) (search needs) (room (start .args .first) (start .pre .0) _ (start .good .0)) (search needs) (room (start .args .second) (start .pre .1) _ (start .good .1 .0)) (sym (c .before .same-triple .ensures) ∙ not-false _ (c .if2 .left)) ∙ turn .inv .1,
     )

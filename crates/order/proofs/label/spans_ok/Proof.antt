@@ -32,8 +32,7 @@ loop-again : tie.Need-loop-again Inv-loop μ-loop
 loop-again c =
     let start = c .before .before .before .before .before .before .before in
     let turn = c .before .before .before .before .loop in
-    let fits = five (start .args .label) _ (start .good .0) in
-    (
+    let fits = five (start .args .label) _ (start .good .0) in (
       search needs,
       all-goes-on (turn .i) (start .args .label) (search needs) (omega arith) spanOk (sym (c .before .span-ok .ensures) ∙ not-false _ (c .if1 .left)) ∙ turn .inv .1,
     )
