@@ -1,3 +1,5 @@
 -- Laws over the definitions.
+pub mod CommonLocks
+pub mod Comparing
 pub mod Computing
 pub mod SharedByte

@@ -1,3 +1,4 @@
-// The order of segments by labels, and the bytes that two ranges share.
+// The order of segments by labels, the bytes that two ranges share, and the locks that two sets share.
 pub mod label;
+pub mod lock;
 pub mod range;
