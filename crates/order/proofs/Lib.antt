@@ -1,3 +1,4 @@
 -- Laws over the definitions.
 pub mod Computing
 pub mod SharedByte
+pub mod Euclid
