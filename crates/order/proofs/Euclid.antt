@@ -1,12 +1,12 @@
 -- The first pair of near elements by Euclid's algorithm on the strides, over plain numbers.
 -- `q` and `rest` are quotient and remainder of the pace by the stride, `z` the first element at or past low.
 use Prim.Native.Nat.{ℕ, zero, suc, _+_, _*_, _-_, _/_, _%_, _<_, _≤_}
-use mathlib.Core.Path.{_≡_, refl, sym, ap, subst}
+use mathlib.Core.Path.{_≡_, refl, sym, ap, subst, _∙_}
 use mathlib.Core.Bool.{Bool, true, false}
 use native.Mathlib.Nat.{div-add-mod', div-le-self, mod-lt, mul-zero, mul-le-mul, mul-le-mul-left, mul-le-mul-right, lt-of-mul-lt-mul-right}
 use native.Mathlib.Omega.{arith}
 use lib.Dec.{ltb}
-use borrow.Author.Tests.{ltb-true, ltb-false}
+use borrow.Author.Tests.{lt-ltb, le-ltb, ltb-true, ltb-false}
 use Rattle.bundle.proofs.Tests.{cond-elim}
 use Rattle.order.specs.Pairs.{FirstFrom, Near, Least, FirstPair, PairGiven, PairFits, onwardOf}
 use Rattle.order.specs.declared.range.Pair.{Pair}
@@ -124,16 +124,59 @@ multiple-some : (n stride low : ℕ) → 1 ≤ low → low ≤ n * stride → 1 
 multiple-some n zero low some long = omega (arith, mul-zero n)
 multiple-some n (suc s) low some long = omega arith
 
+pub product-fits : (x y : ℕ) → x < 65536 → y < 65536 → x * y < 4294967296
+product-fits x y hx hy =
+    let x′ : x ≤ 65535 = omega arith in
+    let y′ : y ≤ 65535 = omega arith in
+    omega (arith, mul-le-mul x′ y′)
+
+-- the two elements of a pair that fits
+module _ {pair : Pair} {one other : ℕ} (e : pair ≡ Pr.Elements one other) where
+  pub elements-fit : PairFits pair → (one < 65536) × (other < 65536)
+  elements-fit h = subst PairFits e h
+
+  pub sum-fits : (element quotient : ℕ) → PairFits pair × (element < 65536) × (quotient < 65536)
+      → (element + other < 4294967296) × (quotient * one < 4294967296)
+  sum-fits element quotient h =
+      let f = elements-fit (h .0) in
+      (omega arith, product-fits quotient one (h .2) (f .0))
+
+  pub starts-fit : (stride pace : ℕ) → stride < 65536 → pace < 65536 → PairFits pair
+      → (one * stride < 4294967296) × (other * pace < 4294967296)
+  starts-fit stride pace hs hp h =
+      let f = elements-fit h in
+      (product-fits one stride (f .0) hs, product-fits other pace (f .1) hp)
+
+  module _ (element quotient count : ℕ) where
+    pub onward-some : element + other + quotient * one < count
+        → Pr.Elements (element + other + quotient * one) one ≡ onwardOf pair element quotient count
+    unfolding onwardOf
+    onward-some below =
+        sym (ap (λ p. onwardOf p element quotient count) e
+        ∙ simp (lt-ltb (element + other + quotient * one) count below))
+
+    pub onward-none : count ≤ element + other + quotient * one → Pr.Nothing ≡ onwardOf pair element quotient count
+    unfolding onwardOf
+    onward-none over =
+        sym (ap (λ p. onwardOf p element quotient count) e
+        ∙ simp (le-ltb (element + other + quotient * one) count over))
+
+pub onward-nothing : {pair : Pair} (element quotient count : ℕ) → pair ≡ Pr.Nothing
+    → Pr.Nothing ≡ onwardOf pair element quotient count
+unfolding onwardOf
+onward-nothing element quotient count e = sym (ap (λ p. onwardOf p element quotient count) e)
+
 module _ {stride pace low high count limit : ℕ} (g : PairGiven stride pace low high count limit) where
   pub reach-fits : (count - 1) * stride < 4294967296
-  reach-fits =
-      let n : count - 1 ≤ 65535 = omega arith in
-      let s : stride ≤ 65535 = omega arith in
-      omega (arith, mul-le-mul n s)
+  reach-fits = product-fits (count - 1) stride (omega arith) (g .stride-fits)
 
   module _ (long : low ≤ (count - 1) * stride) where
     pub stride-some : 1 ≤ stride
     stride-some = multiple-some (count - 1) stride low (g .low-some) long
+
+    -- the measure falls
+    pub rest-below : (t : ℕ) → stride ≡ t → pace % stride < t
+    rest-below t e = omega (arith, mod-lt pace stride-some)
 
     module _ {z : ℕ} (f : FirstFrom stride low z) where
       pub element-below : z < count

@@ -2,3 +2,4 @@
 pub mod Computing
 pub mod SharedByte
 pub mod Euclid
+pub mod PairBytes

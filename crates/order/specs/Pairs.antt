@@ -62,8 +62,10 @@ onwardOf Pr.Nothing element quotient count = Pr.Nothing
 
 -- two ranges that touch some byte, the one with the lower base first
 pub record InOrder (lower upper : Range) : Type 0 where
-  pub lower-some : touchesSome lower ≡ true
-  pub upper-some : touchesSome upper ≡ true
+  pub lower-counted : 1 ≤ lower .count
+  pub lower-sized : 1 ≤ lower .size
+  pub upper-counted : 1 ≤ upper .count
+  pub upper-sized : 1 ≤ upper .size
   pub bases : lower .base ≤ upper .base
 
 -- the first pair of elements of two ranges that share a byte

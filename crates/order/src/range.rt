@@ -2,7 +2,7 @@
 use bundle::command::{Range, range_ok};
 use bundle::refusal::Cause;
 ghost use mathlib.Core.Path.{_≡_};
-ghost use Prim.Native.Nat.{_-_, _≤_, _<_};
+ghost use Prim.Native.Nat.{_+_, _-_, _*_, _≤_, _<_, max};
 ghost use Rattle.order.specs.Ranges.{sharedByte, sharedOf, sharingOf};
 ghost use Rattle.order.specs.Pairs.{
   touchesSome,
@@ -81,20 +81,27 @@ fn first_pair(stride: u64, pace: u64, low: u64, high: u64, count: u64, limit: u6
     onward(pair, element, pace / stride, count)
 }
 
+// Where an element of a range starts.
+fn start_of(range: Range, element: u64) -> u64
+    requires { ⌜ element < 65536 ⌝ }
+    ensures { λ r. ⌜ r ≡ range .base + element * range .stride ⌝ }
+{
+    range.base as u64 + element * (range.stride as u64)
+}
+
+fn larger(one: u64, other: u64) -> u64
+    ensures { λ r. ⌜ r ≡ max one other ⌝ }
+{
+    if one < other { other } else { one }
+}
+
 // The lowest byte that both elements of a pair touch.
 fn byte_of_pair(pair: Pair, lower: Range, upper: Range) -> Lowest
     requires { ⌜ PairFits pair ⌝ }
     ensures { λ r. ⌜ r ≡ byteOf pair lower upper ⌝ }
 {
     match pair {
-        Pair::Elements { one, other } => {
-            let start = lower.base as u64 + one * (lower.stride as u64);
-            let upper_start = upper.base as u64 + other * (upper.stride as u64);
-            if start < upper_start {
-                return Lowest::Byte(upper_start);
-            }
-            Lowest::Byte(start)
-        }
+        Pair::Elements { one, other } => Lowest::Byte(larger(start_of(lower, one), start_of(upper, other))),
         Pair::Nothing => Lowest::Nothing,
     }
 }

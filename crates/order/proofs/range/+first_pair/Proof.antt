@@ -1,6 +1,21 @@
+-- `order::range::first_pair` meets its contract: each step of Euclid's algorithm is a law. The measure is the stride. Assumes nothing.
 use Prim.Native.Nat.{ℕ, _<_}
+use native.Mathlib.Omega.{arith}
+use borrow.Author.Needs.{needs}
 use borrow.Fn.Kinds.{In}
 use borrow.Fn.PlainCycle.{Measures, is, falls, and}
+use Rattle.order.proofs.Euclid.{
+  reach-fits,
+  none-reaches,
+  stride-some,
+  rest-below,
+  start-fits,
+  element-below,
+  pair-at-once,
+  given-below,
+  pair-fits,
+  pair-onward,
+}
 use Rattle.order.proofs.range.first_pair.Reads as first-pair
 use Rattle.order.proofs.range.first_pair.Kinds as first-pair-kinds
 use Rattle.order.proofs.range.+first_pair.Lts-first_pair as first-pair-lts
@@ -10,169 +25,13 @@ use Rattle.order.proofs.range.+first_pair.{statement}
 use Rattle.order.proofs.range.+first_pair.Tie.{close}
 
 abbrev μ-first-pair : Measures 0 first-pair-kinds.ps ℕ
-μ-first-pair κs a = ?
+μ-first-pair κs a = a .0
 
 abbrev first-pair-at : ℕ → In 0 first-pair-kinds.ps
-first-pair-at t =
-    and 0 first-pair-kinds.ps (is 0 first-pair-kinds.ps μ-first-pair t) first-pair.Pre
+first-pair-at t = and 0 first-pair-kinds.ps (is 0 first-pair-kinds.ps μ-first-pair t) first-pair.Pre
 
 abbrev first-pair-below : ℕ → In 0 first-pair-kinds.ps
-first-pair-below t =
-    and 0 first-pair-kinds.ps (falls 0 first-pair-kinds.ps _<_ μ-first-pair t) first-pair.Pre
-
--- src/range.rt:72:9
-first-pair-sub-if1 : (t : ℕ) → first-pair-lts.Need-sub-if1 (
-  first-from-reads.Asked,
-  first-from-reads.Learnt,
-  first-pair-below t,
-  first-pair.Post,
-  onward-reads.Asked,
-  onward-reads.Learnt,
-) (first-pair-at t) first-pair.Post
-first-pair-sub-if1 t c = ?
-
--- src/range.rt:72:8
-first-pair-mul-if1 : (t : ℕ) → first-pair-lts.Need-mul-if1 (
-  first-from-reads.Asked,
-  first-from-reads.Learnt,
-  first-pair-below t,
-  first-pair.Post,
-  onward-reads.Asked,
-  onward-reads.Learnt,
-) (first-pair-at t) first-pair.Post
-first-pair-mul-if1 t c = ?
-
--- src/range.rt:73:9
-first-pair-returns : (t : ℕ) → first-pair-lts.Need-returns (
-  first-from-reads.Asked,
-  first-from-reads.Learnt,
-  first-pair-below t,
-  first-pair.Post,
-  onward-reads.Asked,
-  onward-reads.Learnt,
-) (first-pair-at t) first-pair.Post
-first-pair-returns t c = ?
-
--- src/range.rt:75:9
-first-pair-first-from-requires : (t : ℕ) → first-pair-lts.Need-first-from-requires (
-  first-from-reads.Asked,
-  first-from-reads.Learnt,
-  first-pair-below t,
-  first-pair.Post,
-  onward-reads.Asked,
-  onward-reads.Learnt,
-) (first-pair-at t) first-pair.Post
-first-pair-first-from-requires t c κs = ?
-
--- src/range.rt:76:17
-first-pair-mul-start : (t : ℕ) → first-pair-lts.Need-mul-start (
-  first-from-reads.Asked,
-  first-from-reads.Learnt,
-  first-pair-below t,
-  first-pair.Post,
-  onward-reads.Asked,
-  onward-reads.Learnt,
-) (first-pair-at t) first-pair.Post
-first-pair-mul-start t c = ?
-
--- src/range.rt:78:9
-first-pair-returns-2 : (t : ℕ) → first-pair-lts.Need-returns-2 (
-  first-from-reads.Asked,
-  first-from-reads.Learnt,
-  first-pair-below t,
-  first-pair.Post,
-  onward-reads.Asked,
-  onward-reads.Learnt,
-) (first-pair-at t) first-pair.Post
-first-pair-returns-2 t c = ?
-
--- src/range.rt:80:27
-first-pair-rem-first-pair : (t : ℕ) → first-pair-lts.Need-rem-first-pair (
-  first-from-reads.Asked,
-  first-from-reads.Learnt,
-  first-pair-below t,
-  first-pair.Post,
-  onward-reads.Asked,
-  onward-reads.Learnt,
-) (first-pair-at t) first-pair.Post
-first-pair-rem-first-pair t c = ?
-
--- src/range.rt:80:50
-first-pair-sub-first-pair : (t : ℕ) → first-pair-lts.Need-sub-first-pair (
-  first-from-reads.Asked,
-  first-from-reads.Learnt,
-  first-pair-below t,
-  first-pair.Post,
-  onward-reads.Asked,
-  onward-reads.Learnt,
-) (first-pair-at t) first-pair.Post
-first-pair-sub-first-pair t c = ?
-
--- src/range.rt:80:64
-first-pair-sub-first-pair-2 : (t : ℕ) → first-pair-lts.Need-sub-first-pair-2 (
-  first-from-reads.Asked,
-  first-from-reads.Learnt,
-  first-pair-below t,
-  first-pair.Post,
-  onward-reads.Asked,
-  onward-reads.Learnt,
-) (first-pair-at t) first-pair.Post
-first-pair-sub-first-pair-2 t c = ?
-
--- src/range.rt:80:84
-first-pair-sub-first-pair-3 : (t : ℕ) → first-pair-lts.Need-sub-first-pair-3 (
-  first-from-reads.Asked,
-  first-from-reads.Learnt,
-  first-pair-below t,
-  first-pair.Post,
-  onward-reads.Asked,
-  onward-reads.Learnt,
-) (first-pair-at t) first-pair.Post
-first-pair-sub-first-pair-3 t c = ?
-
--- src/range.rt:80:9
-first-pair-first-pair-requires : (t : ℕ) → first-pair-lts.Need-first-pair-requires (
-  first-from-reads.Asked,
-  first-from-reads.Learnt,
-  first-pair-below t,
-  first-pair.Post,
-  onward-reads.Asked,
-  onward-reads.Learnt,
-) (first-pair-at t) first-pair.Post
-first-pair-first-pair-requires t c κs = ?
-
--- src/range.rt:81:27
-first-pair-div-onward : (t : ℕ) → first-pair-lts.Need-div-onward (
-  first-from-reads.Asked,
-  first-from-reads.Learnt,
-  first-pair-below t,
-  first-pair.Post,
-  onward-reads.Asked,
-  onward-reads.Learnt,
-) (first-pair-at t) first-pair.Post
-first-pair-div-onward t c = ?
-
--- src/range.rt:81:5
-first-pair-onward-requires : (t : ℕ) → first-pair-lts.Need-onward-requires (
-  first-from-reads.Asked,
-  first-from-reads.Learnt,
-  first-pair-below t,
-  first-pair.Post,
-  onward-reads.Asked,
-  onward-reads.Learnt,
-) (first-pair-at t) first-pair.Post
-first-pair-onward-requires t c κs = ?
-
--- src/range.rt:68:1
-first-pair-returns-3 : (t : ℕ) → first-pair-lts.Need-returns-3 (
-  first-from-reads.Asked,
-  first-from-reads.Learnt,
-  first-pair-below t,
-  first-pair.Post,
-  onward-reads.Asked,
-  onward-reads.Learnt,
-) (first-pair-at t) first-pair.Post
-first-pair-returns-3 t c = ?
+first-pair-below t = and 0 first-pair-kinds.ps (falls 0 first-pair-kinds.ps _<_ μ-first-pair t) first-pair.Pre
 
 pub +first-pair-spec : {M : Type 1} → statement M
 +first-pair-spec = close μ-first-pair λ t. first-pair-lts.spec (
@@ -185,17 +44,17 @@ pub +first-pair-spec : {M : Type 1} → statement M
 )
     (first-pair-at t)
     first-pair.Post
-    (first-pair-sub-if1 t)
-    (first-pair-mul-if1 t)
-    (first-pair-returns t)
-    (first-pair-first-from-requires t)
-    (first-pair-mul-start t)
-    (first-pair-returns-2 t)
-    (first-pair-rem-first-pair t)
-    (first-pair-sub-first-pair t)
-    (first-pair-sub-first-pair-2 t)
-    (first-pair-sub-first-pair-3 t)
-    (first-pair-first-pair-requires t)
-    (first-pair-div-onward t)
-    (first-pair-onward-requires t)
-    (first-pair-returns-3 t)
+    (λ c. c .pre .1 .counted)
+    (λ c. record { fits = omega (arith, reach-fits (c .pre .1)) })
+    (λ c. none-reaches _ _ _ _ _ _ (c .if1 .taken))
+    (λ c κs. (stride-some (c .before .pre .1) (c .if1 .left), c .before .pre .1 .stride-fits, c .before .pre .1 .low-fits))
+    (λ c. record { fits = omega (arith, start-fits (c .before .before .pre .1) (c .before .if1 .left) (c .first-from .ensures)) })
+    (λ c. pair-at-once (c .before .before .before .pre .1) (c .before .before .if1 .left) (c .before .first-from .ensures) (c .if2 .taken))
+    (λ c. search needs)
+    (λ c. search needs)
+    (λ c. omega (arith, c .before .first-from .ensures .reaches))
+    (λ c. omega (arith, element-below (c .before .before .before .pre .1) (c .before .before .if1 .left) (c .before .first-from .ensures)))
+    (λ c κs. (rest-below (c .before .before .before .pre .1) (c .before .before .if1 .left) t (c .before .before .before .pre .0), given-below (c .before .before .before .pre .1) (c .before .before .if1 .left) (c .before .first-from .ensures) (c .if2 .left)))
+    (λ c. search needs)
+    (λ c κs. pair-fits (c .before .before .before .before .pre .1) (c .before .before .before .if1 .left) (c .before .before .first-from .ensures) (c .before .if2 .left) (c .first-pair .result) (c .first-pair .ensures))
+    (λ c. pair-onward (c .before .before .before .before .before .pre .1) (c .before .before .before .before .if1 .left) (c .before .before .before .first-from .ensures) (c .before .before .if2 .left) (c .before .first-pair .result) (c .before .first-pair .ensures) (c .onward .ensures))

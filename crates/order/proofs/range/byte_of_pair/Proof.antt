@@ -1,75 +1,21 @@
+-- `order::range::byte_of_pair` meets its contract. Assumes nothing.
 use borrow.Author.Needs.{needs}
+use Rattle.order.proofs.Euclid.{elements-fit}
+use Rattle.order.proofs.PairBytes.{byte-some, byte-nothing}
 use Rattle.order.proofs.range.byte_of_pair.Statement.{statement}
 use Rattle.order.proofs.range.byte_of_pair.Tie as tie
-use Rattle.order.proofs.range.byte_of_pair.Reads as reads
-use Rattle.order.proofs.range.byte_of_pair.Lts as lts
 
--- src/range.rt:90:26
-enum-known-pair : tie.Need-enum-known-pair
-enum-known-pair c = search needs
+start-of-requires : tie.Need-start-of-requires
+start-of-requires c κs = elements-fit (c .before .pair .given .1) (c .before .before .before .pre) .0
 
--- src/range.rt:91:25
-cast-start : tie.Need-cast-start
-cast-start c = search needs
+start-of-requires-2 : tie.Need-start-of-requires-2
+start-of-requires-2 c κs = elements-fit (c .before .before .pair .given .1) (c .before .before .before .before .pre) .1
 
--- src/range.rt:91:52
-cast-start-2 : tie.Need-cast-start-2
-cast-start-2 c = search needs
-
--- src/range.rt:91:45
-mul-start : tie.Need-mul-start
-mul-start c = ?
-
--- src/range.rt:91:25
-add-start : tie.Need-add-start
-add-start c = ?
-
--- src/range.rt:92:31
-cast-upper-start : tie.Need-cast-upper-start
-cast-upper-start c = search needs
-
--- src/range.rt:92:60
-cast-upper-start-2 : tie.Need-cast-upper-start-2
-cast-upper-start-2 c = search needs
-
--- src/range.rt:92:51
-mul-upper-start : tie.Need-mul-upper-start
-mul-upper-start c = ?
-
--- src/range.rt:92:31
-add-upper-start : tie.Need-add-upper-start
-add-upper-start c = ?
-
--- src/range.rt:94:17
 returns : tie.Need-returns
-returns c = ?
+returns c = byte-some _ _ (c .before .before .before .before .pair .given .1) (c .before .before .start-of .ensures) (c .before .start-of2 .ensures) (c .larger .ensures)
 
--- src/range.rt:98:26
-enum-told : tie.Need-enum-told
-enum-told c = search needs
-
--- src/range.rt:85:1
 returns-2 : tie.Need-returns-2
-returns-2 c = ?
-
--- src/range.rt:85:1
-returns-3 : tie.Need-returns-3
-returns-3 c = ?
+returns-2 c = byte-nothing _ _ (c .enum-told .given .1)
 
 pub byte-of-pair-spec : {M : Type 1} → statement M
-byte-of-pair-spec =
-    tie.close
-    (tie.spec
-    enum-known-pair
-    cast-start
-    cast-start-2
-    mul-start
-    add-start
-    cast-upper-start
-    cast-upper-start-2
-    mul-upper-start
-    add-upper-start
-    returns
-    enum-told
-    returns-2
-    returns-3)
+byte-of-pair-spec = tie.close (tie.spec (λ c. search needs) start-of-requires start-of-requires-2 (λ c κs. search needs) (λ c. search needs) returns returns-2)
