@@ -1,5 +1,6 @@
 // The lowest byte that two ranges share.
-use bundle::command::{Range, range_ok};
+use bundle::command::Range;
+use bundle::command::range_ok;
 use bundle::refusal::Cause;
 ghost use mathlib.Core.Path.{_≡_};
 ghost use Prim.Native.Nat.{_+_, _-_, _*_, _≤_, _<_, max};
@@ -45,7 +46,10 @@ fn onward(pair: Pair, element: u64, quotient: u64, count: u64) -> Pair
         Pair::Elements { one, other } => {
             let sum = element + other + quotient * one;
             if sum < count {
-                return Pair::Elements { one: sum, other: one };
+                return Pair::Elements {
+                    one: sum,
+                    other: one,
+                };
             }
             Pair::Nothing
         }
@@ -75,9 +79,19 @@ fn first_pair(stride: u64, pace: u64, low: u64, high: u64, count: u64, limit: u6
     let element = first_from(stride, low);
     let start = element * stride;
     if start <= high {
-        return Pair::Elements { one: element, other: 0 };
+        return Pair::Elements {
+            one: element,
+            other: 0,
+        };
     }
-    let pair = first_pair(pace % stride, stride, start - high, start - low, limit, count - element);
+    let pair = first_pair(
+        pace % stride,
+        stride,
+        start - high,
+        start - low,
+        limit,
+        count - element,
+    );
     onward(pair, element, pace / stride, count)
 }
 
@@ -101,7 +115,10 @@ fn byte_of_pair(pair: Pair, lower: Range, upper: Range) -> Lowest
     ensures { λ r. ⌜ r ≡ byteOf pair lower upper ⌝ }
 {
     match pair {
-        Pair::Elements { one, other } => Lowest::Byte(larger(start_of(lower, one), start_of(upper, other))),
+        Pair::Elements { one, other } => Lowest::Byte(larger(
+            start_of(lower, one),
+            start_of(upper, other),
+        )),
         Pair::Nothing => Lowest::Nothing,
     }
 }
@@ -115,7 +132,14 @@ fn pair_of(lower: Range, upper: Range) -> Pair
     let distance = (upper.base - lower.base) as u64;
     let low = distance - (lower.size as u64 - 1);
     let high = distance + (upper.size as u64 - 1);
-    first_pair(lower.stride as u64, upper.stride as u64, low, high, lower.count as u64, upper.count as u64)
+    first_pair(
+        lower.stride as u64,
+        upper.stride as u64,
+        low,
+        high,
+        lower.count as u64,
+        upper.count as u64,
+    )
 }
 
 fn shared_in_order(lower: Range, upper: Range) -> Lowest
@@ -159,10 +183,16 @@ pub fn lowest_shared_byte(first: Range, second: Range) -> Shared
     ensures { λ r. ⌜ sharingOf r ≡ sharedOf first second ⌝ }
 {
     if !range_ok(first) {
-        return Shared::Refused { cause: Cause::OutOfRange, place: 1 };
+        return Shared::Refused {
+            cause: Cause::OutOfRange,
+            place: 1,
+        };
     }
     if !range_ok(second) {
-        return Shared::Refused { cause: Cause::OutOfRange, place: 2 };
+        return Shared::Refused {
+            cause: Cause::OutOfRange,
+            place: 2,
+        };
     }
     let lowest = shared_byte(first, second);
     match lowest {
