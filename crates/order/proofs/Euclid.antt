@@ -1,8 +1,7 @@
 -- The first pair of near elements by Euclid's algorithm on the strides, over plain numbers.
--- `q` and `rest` are quotient and remainder of the pace by the stride, `z` the first element at or past low.
+-- `quotient` and `rest` are those of the pace by the stride, and `element` is the first element at or past low.
 use Prim.Native.Nat.{ℕ, zero, suc, _+_, _*_, _-_, _/_, _%_, _<_, _≤_}
-use mathlib.Core.Path.{_≡_, refl, sym, ap, subst, _∙_}
-use mathlib.Core.Bool.{Bool, true, false}
+use mathlib.Core.Path.{_≡_, sym, ap, subst, _∙_}
 use native.Mathlib.Nat.{div-add-mod', div-le-self, mod-lt, mul-zero, mul-le-mul, mul-le-mul-left, mul-le-mul-right, lt-of-mul-lt-mul-right}
 use native.Mathlib.Omega.{arith}
 use lib.Dec.{ltb}
@@ -20,9 +19,9 @@ first-from stride low some =
     let below = mod-lt x some in
     record { reaches = omega arith; closest = omega arith }
 
-pub first-least : (stride low z k : ℕ) → FirstFrom stride low z → low ≤ k * stride → z ≤ k
-first-least stride low z k c past =
-    let below : z * stride < suc k * stride = omega (arith, c .closest) in
+pub first-least : (stride low element k : ℕ) → FirstFrom stride low element → low ≤ k * stride → element ≤ k
+first-least stride low element k c past =
+    let below : element * stride < suc k * stride = omega (arith, c .closest) in
     omega (arith, lt-of-mul-lt-mul-right stride below)
 
 -- no element below the count is at or past low
@@ -33,64 +32,68 @@ none-reaches stride pace low high count limit short i j hi hj near =
     omega (arith, mul-le-mul-right stride last, near .from)
 
 -- the first element at or past low is at or before high
-pub found-at-once : (stride pace low high count limit z : ℕ) → FirstFrom stride low z → low ≤ (count - 1) * stride → 1 ≤ count
-    → 1 ≤ limit → z * stride ≤ high → Least stride pace low high count limit z 0
-found-at-once stride pace low high count limit z c long counted limited within =
+pub found-at-once : (stride pace low high count limit element : ℕ) → FirstFrom stride low element → low ≤ (count - 1) * stride → 1 ≤ count
+    → 1 ≤ limit → element * stride ≤ high → Least stride pace low high count limit element 0
+found-at-once stride pace low high count limit element c long counted limited within =
     record {
-      one-below = omega (arith, first-least stride low z (count - 1) c long);
+      one-below = omega (arith, first-least stride low element (count - 1) c long);
       other-below = limited;
       near = record { from = omega (arith, c .reaches); to = omega arith };
       least =
-          λ i j hi hj near. (first-least stride low z i c (omega (arith, near .from)), omega arith);
+          λ i j hi hj near. (first-least stride low element i c (omega (arith, near .from)), omega arith);
     }
 
--- one step of Euclid's algorithm
-module _ (stride pace low high q rest z : ℕ)
-    (whole : q * stride + rest ≡ pace)
-    (c : FirstFrom stride low z)
-    (past : high < z * stride)
+-- one step of Euclid's algorithm: what the first pair of the step below is, and that it makes the first pair
+abbrev pub FirstBelow : (stride rest low high count limit element : ℕ) → Pair → Type 0
+FirstBelow stride rest low high count limit element =
+    FirstPair rest stride (element * stride - high) (element * stride - low) limit (count - element)
+
+module _ (stride pace low high quotient rest element : ℕ)
+    (whole : quotient * stride + rest ≡ pace)
+    (c : FirstFrom stride low element)
+    (past : high < element * stride)
     (ordered : low ≤ high) where
-  times : (j : ℕ) → j * (q * stride + rest) ≡ j * pace
+  times : (j : ℕ) → j * (quotient * stride + rest) ≡ j * pace
   times j = ap (λ x. j * x) whole
 
-  step-down : (i j : ℕ) → Near stride pace low high (z + i + q * j) j → Near rest stride (z * stride - high) (z * stride - low) j i
+  step-down : (i j : ℕ) → Near stride pace low high (element + i + quotient * j) j → Near rest stride (element * stride - high) (element * stride - low) j i
   step-down i j near =
       record { from = omega (arith, times j, near .to, c .reaches); to = omega (arith, times j, near .from, c .reaches) }
 
-  step-up : (i j : ℕ) → Near rest stride (z * stride - high) (z * stride - low) j i → Near stride pace low high (z + i + q * j) j
+  step-up : (i j : ℕ) → Near rest stride (element * stride - high) (element * stride - low) j i → Near stride pace low high (element + i + quotient * j) j
   step-up i j near =
       record { from = omega (arith, times j, near .to, c .reaches); to = omega (arith, times j, near .from, c .reaches) }
 
-  far : (i j : ℕ) → Near stride pace low high i j → z + q * j ≤ i
+  far : (i j : ℕ) → Near stride pace low high i j → element + quotient * j ≤ i
   far i j near =
-      let below : (z + q * j) * stride < suc i * stride = omega (arith, times j, near .from, c .closest) in
+      let below : (element + quotient * j) * stride < suc i * stride = omega (arith, times j, near .from, c .closest) in
       omega (arith, lt-of-mul-lt-mul-right stride below)
 
   -- each near pair is made of one of the step below
   pub record Made (i j : ℕ) : Type 0 where
     pub inner : ℕ
-    pub same : i ≡ z + inner + q * j
-    pub near : Near rest stride (z * stride - high) (z * stride - low) j inner
+    pub same : i ≡ element + inner + quotient * j
+    pub near : Near rest stride (element * stride - high) (element * stride - low) j inner
 
   made : (i j : ℕ) → Near stride pace low high i j → Made i j
   made i j near =
-      let h : z + q * j ≤ i = far i j near in
-      let x : ℕ = i - (z + q * j) in
-      let e : i ≡ z + x + q * j = omega arith in
+      let h : element + quotient * j ≤ i = far i j near in
+      let x : ℕ = i - (element + quotient * j) in
+      let e : i ≡ element + x + quotient * j = omega arith in
       record { inner = x; same = e; near = step-down x j (subst (λ k. Near stride pace low high k j) e near) }
 
   module _ (count limit : ℕ) where
     abbrev Inner : Pair → Type 0
-    Inner = FirstPair rest stride (z * stride - high) (z * stride - low) limit (count - z)
+    Inner = FirstBelow stride rest low high count limit element
 
     made-least : (one other i j : ℕ) → Inner (Pr.Elements one other) → i < count → j < limit → Made i j
-        → (z + other + q * one ≤ i) × (one ≤ j)
+        → (element + other + quotient * one ≤ i) × (one ≤ j)
     made-least one other i j l hi hj w =
         let h = l .least j (w .inner) hj (omega (arith, w .same)) (w .near) in
-        (omega (arith, w .same, mul-le-mul-left q (h .0)), h .0)
+        (omega (arith, w .same, mul-le-mul-left quotient (h .0)), h .0)
 
-    up-least : (one other : ℕ) → Inner (Pr.Elements one other) → z + other + q * one < count
-        → Least stride pace low high count limit (z + other + q * one) one
+    up-least : (one other : ℕ) → Inner (Pr.Elements one other) → element + other + quotient * one < count
+        → Least stride pace low high count limit (element + other + quotient * one) one
     up-least one other l below =
         record {
           one-below = below;
@@ -99,21 +102,20 @@ module _ (stride pace low high q rest z : ℕ)
           least = λ i j hi hj near. made-least one other i j l hi hj (made i j near);
         }
 
-    up-none : (one other : ℕ) → Inner (Pr.Elements one other) → count ≤ z + other + q * one
+    up-none : (one other : ℕ) → Inner (Pr.Elements one other) → count ≤ element + other + quotient * one
         → FirstPair stride pace low high count limit Pr.Nothing
     up-none one other l over i j hi hj near = omega (arith, made-least one other i j l hi hj (made i j near) .0)
 
-    -- the first pair of the step below makes the first pair
-    pub step-first : (pair : Pair) → Inner pair → FirstPair stride pace low high count limit (onwardOf pair z q count)
+    pub step-first : (pair : Pair) → Inner pair → FirstPair stride pace low high count limit (onwardOf pair element quotient count)
     unfolding onwardOf
     step-first (Pr.Elements one other) l =
         cond-elim
         (FirstPair stride pace low high count limit)
-        (ltb (z + other + q * one) count)
-        (Pr.Elements (z + other + q * one) one)
+        (ltb (element + other + quotient * one) count)
+        (Pr.Elements (element + other + quotient * one) one)
         Pr.Nothing
-        (λ t. up-least one other l (ltb-true (z + other + q * one) count t))
-        (λ t. up-none one other l (ltb-false (z + other + q * one) count t))
+        (λ t. up-least one other l (ltb-true (element + other + quotient * one) count t))
+        (λ t. up-none one other l (ltb-false (element + other + quotient * one) count t))
     step-first Pr.Nothing none = λ i j hi hj near. nothing i j hi hj (made i j near)
       where
         nothing : (i j : ℕ) → i < count → j < limit → Made i j → ⊥
@@ -140,12 +142,6 @@ module _ {pair : Pair} {one other : ℕ} (e : pair ≡ Pr.Elements one other) wh
   sum-fits element quotient h =
       let f = elements-fit (h .0) in
       (omega arith, product-fits quotient one (h .2) (f .0))
-
-  pub starts-fit : (stride pace : ℕ) → stride < 65536 → pace < 65536 → PairFits pair
-      → (one * stride < 4294967296) × (other * pace < 4294967296)
-  starts-fit stride pace hs hp h =
-      let f = elements-fit h in
-      (product-fits one stride (f .0) hs, product-fits other pace (f .1) hp)
 
   module _ (element quotient count : ℕ) where
     pub onward-some : element + other + quotient * one < count
@@ -178,18 +174,18 @@ module _ {stride pace low high count limit : ℕ} (g : PairGiven stride pace low
     pub rest-below : (t : ℕ) → stride ≡ t → pace % stride < t
     rest-below t e = omega (arith, mod-lt pace stride-some)
 
-    module _ {z : ℕ} (f : FirstFrom stride low z) where
-      pub element-below : z < count
-      element-below = omega (arith, first-least stride low z (count - 1) f long)
+    module _ {element : ℕ} (f : FirstFrom stride low element) where
+      pub element-below : element < count
+      element-below = omega (arith, first-least stride low element (count - 1) f long)
 
-      pub start-fits : z * stride < 8590000128
+      pub start-fits : element * stride < 8590000128
       start-fits = omega (arith, f .closest)
 
-      pub pair-at-once : z * stride ≤ high → Least stride pace low high count limit z 0
-      pair-at-once = found-at-once stride pace low high count limit z f long (g .counted) (g .limited)
+      pub pair-at-once : element * stride ≤ high → Least stride pace low high count limit element 0
+      pair-at-once = found-at-once stride pace low high count limit element f long (g .counted) (g .limited)
 
-      module _ (past : high < z * stride) where
-        pub given-below : PairGiven (pace % stride) stride (z * stride - high) (z * stride - low) limit (count - z)
+      module _ (past : high < element * stride) where
+        pub given-below : PairGiven (pace % stride) stride (element * stride - high) (element * stride - low) limit (count - element)
         given-below =
             record {
               stride-fits = omega (arith, mod-lt pace stride-some);
@@ -203,20 +199,20 @@ module _ {stride pace low high count limit : ℕ} (g : PairGiven stride pace low
               limit-fits = omega arith;
             }
 
-        pub pair-fits : (pair : Pair) → FirstPair (pace % stride) stride (z * stride - high) (z * stride - low) limit (count - z) pair
-            → PairFits pair × (z < 65536) × (pace / stride < 65536)
+        pub pair-fits : (pair : Pair) → FirstBelow stride (pace % stride) low high count limit element pair
+            → PairFits pair × (element < 65536) × (pace / stride < 65536)
         pair-fits pair h = (fits pair h, omega (arith, element-below), omega (arith, div-le-self pace stride))
           where
-            fits : (pair : Pair) → FirstPair (pace % stride) stride (z * stride - high) (z * stride - low) limit (count - z) pair → PairFits pair
+            fits : (pair : Pair) → FirstBelow stride (pace % stride) low high count limit element pair → PairFits pair
             fits (Pr.Elements one other) l = (omega (arith, l .one-below), omega (arith, l .other-below))
             fits Pr.Nothing h = tt
 
         pub pair-onward : {r : Pair} (pair : Pair)
-            → FirstPair (pace % stride) stride (z * stride - high) (z * stride - low) limit (count - z) pair
-            → r ≡ onwardOf pair z (pace / stride) count
+            → FirstBelow stride (pace % stride) low high count limit element pair
+            → r ≡ onwardOf pair element (pace / stride) count
             → FirstPair stride pace low high count limit r
         pair-onward pair h e =
             subst
             (FirstPair stride pace low high count limit)
             (sym e)
-            (step-first stride pace low high (pace / stride) (pace % stride) z (div-add-mod' pace stride) f past (g .ordered) count limit pair h)
+            (step-first stride pace low high (pace / stride) (pace % stride) element (div-add-mod' pace stride) f past (g .ordered) count limit pair h)

@@ -1,25 +1,24 @@
 -- The first pair of near elements of two ranges gives the lowest byte that both touch.
 use Prim.Native.Nat.{ℕ, _+_, _*_, _-_, _<_, _≤_, max}
-use mathlib.Core.Path.{_≡_, refl, sym, ap, subst, _∙_}
+use mathlib.Core.Path.{_≡_, sym, ap, _∙_}
 use mathlib.Core.Bool.{true, false}
-use mathlib.Core.Option.{Option, none, some}
+use mathlib.Core.Option.{none, some}
 use native.Mathlib.Nat.{mul-le-mul-right}
 use native.Mathlib.Omega.{arith}
 use lib.Dec.{leb}
 use borrow.Author.Tests.{le-leb, leb-true}
-use Rattle.bundle.specs.Answer.{Answer, gives, refuses}
+use Rattle.bundle.specs.Answer.{gives}
 use Rattle.bundle.specs.Commands.{rangeOk, lastByte}
 use Rattle.bundle.specs.declared.command.Range.{Range}
 use Rattle.bundle.proofs.Tests.{both, and-left, and-right, not-both}
 use Rattle.bundle.proofs.Ranges.{range-parts}
-use Rattle.order.specs.Ranges.{Touches, LeastShared, sharedByte, sharedOf}
-use Rattle.order.specs.Pairs.{touchesSome, Near, FirstPair, PairFits, PairGiven, InOrder, PairOf, byteOf, lowestOf}
+use Rattle.order.specs.Ranges.{Touches, sharedByte, sharedOf}
+use Rattle.order.specs.Pairs.{touchesSome, Near, PairFits, InOrder, PairOf, byteOf, lowestOf}
 use Rattle.order.specs.declared.range.Pair.{Pair}
 use Rattle.order.specs.declared.range.Pair.the-variants as Pr
 use Rattle.order.specs.declared.range.Lowest.{Lowest}
 use Rattle.order.specs.declared.range.Lowest.the-variants as Lo
-use Rattle.order.proofs.Euclid.{elements-fit}
-use Rattle.order.proofs.SharedByte.{SharedIs, shared-unique, shared-some, shared-swap}
+use Rattle.order.proofs.SharedByte.{SharedIs, shared-unique, shared-some}
 
 module _ (lower upper : Range) (o : InOrder lower upper) where
   -- the upper range's first byte lies in the lower range's first element
@@ -139,14 +138,14 @@ unfolding lastByte
 touch-fits r byte e t =
     omega (arith, range-parts r e .last, t .at, t .within-below, element-within (r .count) (t .element) (r .stride) (t .element-below))
 
-module _ (a b : Range) (p : rangeOk a ≡ true) (q : rangeOk b ≡ true) where
+module _ (a b : Range) (ok : (rangeOk a ≡ true) × (rangeOk b ≡ true)) where
   pub shared-given : sharedOf a b ≡ gives (sharedByte a b)
   unfolding sharedOf
-  shared-given = simp (p, q)
+  shared-given = simp (ok .0, ok .1)
 
   module _ {lowest : Lowest} (e : lowestOf lowest ≡ sharedByte a b) where
     pub shared-fits : {byte : ℕ} → lowest ≡ Lo.Byte byte → byte < 4294967296
-    shared-fits {byte} h = touch-fits a byte p (shared-some a b byte (sym e ∙ ap lowestOf h) .one)
+    shared-fits {byte} h = touch-fits a byte (ok .0) (shared-some a b byte (sym e ∙ ap lowestOf h) .one)
 
     pub shared-answer : (l : Lowest) → lowest ≡ l → gives (lowestOf l) ≡ sharedOf a b
     shared-answer l h = ap (λ x. gives (lowestOf x)) (sym h) ∙ ap gives e ∙ sym shared-given

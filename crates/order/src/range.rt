@@ -3,7 +3,9 @@ use bundle::command::Range;
 use bundle::command::range_ok;
 use bundle::refusal::Cause;
 ghost use mathlib.Core.Path.{_≡_};
+ghost use mathlib.Core.Bool.{true};
 ghost use Prim.Native.Nat.{_+_, _-_, _*_, _≤_, _<_, max};
+ghost use Rattle.bundle.specs.Commands.{rangeOk};
 ghost use Rattle.order.specs.Ranges.{sharedByte, sharedOf, sharingOf};
 ghost use Rattle.order.specs.Pairs.{
   touchesSome,
@@ -178,6 +180,18 @@ pub fn shared_byte(first: Range, second: Range) -> Lowest
     shared_in_order(second, first)
 }
 
+// The lowest byte that two ranges that are in range share.
+fn shared_of_valid(first: Range, second: Range) -> Shared
+    requires { ⌜ (rangeOk first ≡ true) × (rangeOk second ≡ true) ⌝ }
+    ensures { λ r. ⌜ sharingOf r ≡ sharedOf first second ⌝ }
+{
+    let lowest = shared_byte(first, second);
+    match lowest {
+        Lowest::Byte(byte) => Shared::Byte(byte as u32),
+        Lowest::Nothing => Shared::Nothing,
+    }
+}
+
 // The lowest byte that both ranges touch, or that there is none; 5 at 1 or 2 for the first bad range.
 pub fn lowest_shared_byte(first: Range, second: Range) -> Shared
     ensures { λ r. ⌜ sharingOf r ≡ sharedOf first second ⌝ }
@@ -194,9 +208,5 @@ pub fn lowest_shared_byte(first: Range, second: Range) -> Shared
             place: 2,
         };
     }
-    let lowest = shared_byte(first, second);
-    match lowest {
-        Lowest::Byte(byte) => Shared::Byte(byte as u32),
-        Lowest::Nothing => Shared::Nothing,
-    }
+    shared_of_valid(first, second)
 }
