@@ -3,3 +3,5 @@ pub mod CommonLocks
 pub mod Comparing
 pub mod Computing
 pub mod SharedByte
+pub mod Euclid
+pub mod PairBytes

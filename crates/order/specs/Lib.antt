@@ -1,3 +1,4 @@
 -- Document 01's definitions for labels, their comparison and shared bytes.
 pub mod Labels
 pub mod Ranges
+pub mod Pairs

@@ -1,9 +1,212 @@
 // The lowest byte that two ranges share.
+use bundle::command::Range;
+use bundle::command::range_ok;
 use bundle::refusal::Cause;
+ghost use mathlib.Core.Path.{_≡_};
+ghost use mathlib.Core.Bool.{true};
+ghost use Prim.Native.Nat.{_+_, _-_, _*_, _≤_, _<_, max};
+ghost use Rattle.bundle.specs.Commands.{rangeOk};
+ghost use Rattle.order.specs.Ranges.{sharedByte, sharedOf, sharingOf};
+ghost use Rattle.order.specs.Pairs.{
+  touchesSome,
+  FirstFrom,
+  FirstPair,
+  PairGiven,
+  PairFits,
+  InOrder,
+  PairOf,
+  onwardOf,
+  byteOf,
+  lowestOf,
+};
 
 // What the lowest shared byte of two ranges is.
 pub enum Shared {
     Byte(u32),
     Nothing,
     Refused { cause: Cause, place: usize },
+}
+
+// The lowest byte that two ranges of any field values share.
+pub enum Lowest {
+    Byte(u64),
+    Nothing,
+}
+
+// An element of each of two ranges.
+enum Pair {
+    Elements { one: u64, other: u64 },
+    Nothing,
+}
+
+// The first pair, made of that of the step below it, where the two ranges have changed places.
+fn onward(pair: Pair, element: u64, quotient: u64, count: u64) -> Pair
+    requires { ⌜ PairFits pair × (element < 65536) × (quotient < 65536) ⌝ }
+    ensures { λ r. ⌜ r ≡ onwardOf pair element quotient count ⌝ }
+{
+    match pair {
+        Pair::Elements { one, other } => {
+            let sum = element + other + quotient * one;
+            if sum < count {
+                return Pair::Elements {
+                    one: sum,
+                    other: one,
+                };
+            }
+            Pair::Nothing
+        }
+        Pair::Nothing => Pair::Nothing,
+    }
+}
+
+// The first element that starts at or past low.
+fn first_from(stride: u64, low: u64) -> u64
+    requires { ⌜ (1 ≤ stride) × (stride < 65536) × (low < 8589934592) ⌝ }
+    ensures { λ r. ⌜ FirstFrom stride low r ⌝ }
+{
+    (low + (stride - 1)) / stride
+}
+
+// The least elements, `one` below count and `other` below limit, whose starts lie near each other:
+// `other * pace + low <= one * stride <= other * pace + high`. Where no multiple of the stride lies from low to high,
+// the pace counts only by its remainder, and the two ranges change places: Euclid's algorithm, which stops once an
+// element passes its count.
+fn first_pair(stride: u64, pace: u64, low: u64, high: u64, count: u64, limit: u64) -> Pair
+    requires { ⌜ PairGiven stride pace low high count limit ⌝ }
+    ensures { λ r. ⌜ FirstPair stride pace low high count limit r ⌝ }
+{
+    if (count - 1) * stride < low {
+        return Pair::Nothing;
+    }
+    let element = first_from(stride, low);
+    let start = element * stride;
+    if start <= high {
+        return Pair::Elements {
+            one: element,
+            other: 0,
+        };
+    }
+    let pair = first_pair(
+        pace % stride,
+        stride,
+        start - high,
+        start - low,
+        limit,
+        count - element,
+    );
+    onward(pair, element, pace / stride, count)
+}
+
+// Where an element of a range starts.
+fn start_of(range: Range, element: u64) -> u64
+    requires { ⌜ element < 65536 ⌝ }
+    ensures { λ r. ⌜ r ≡ range .base + element * range .stride ⌝ }
+{
+    range.base as u64 + element * (range.stride as u64)
+}
+
+fn larger(one: u64, other: u64) -> u64
+    ensures { λ r. ⌜ r ≡ max one other ⌝ }
+{
+    if one < other { other } else { one }
+}
+
+// The lowest byte that both elements of a pair touch.
+fn byte_of_pair(pair: Pair, lower: Range, upper: Range) -> Lowest
+    requires { ⌜ PairFits pair ⌝ }
+    ensures { λ r. ⌜ r ≡ byteOf pair lower upper ⌝ }
+{
+    match pair {
+        Pair::Elements { one, other } => Lowest::Byte(larger(
+            start_of(lower, one),
+            start_of(upper, other),
+        )),
+        Pair::Nothing => Lowest::Nothing,
+    }
+}
+
+// The first pair of elements of two ranges that share a byte, where the lower range's first element ends at or below the
+// upper range's base.
+fn pair_of(lower: Range, upper: Range) -> Pair
+    requires { ⌜ InOrder lower upper × (lower .size ≤ upper .base - lower .base) ⌝ }
+    ensures { λ r. ⌜ PairOf lower upper r ⌝ }
+{
+    let distance = (upper.base - lower.base) as u64;
+    let low = distance - (lower.size as u64 - 1);
+    let high = distance + (upper.size as u64 - 1);
+    first_pair(
+        lower.stride as u64,
+        upper.stride as u64,
+        low,
+        high,
+        lower.count as u64,
+        upper.count as u64,
+    )
+}
+
+fn shared_in_order(lower: Range, upper: Range) -> Lowest
+    requires { ⌜ InOrder lower upper ⌝ }
+    ensures { λ r. ⌜ lowestOf r ≡ sharedByte lower upper ⌝ }
+{
+    let distance = upper.base - lower.base;
+    if distance < lower.size as u32 {
+        return Lowest::Byte(upper.base as u64);
+    }
+    let pair = pair_of(lower, upper);
+    byte_of_pair(pair, lower, upper)
+}
+
+fn touches_some(range: Range) -> bool
+    ensures { λ r. ⌜ r ≡ touchesSome range ⌝ }
+{
+    (1 <= range.count) & (1 <= range.size)
+}
+
+// The lowest byte that both ranges touch, whether or not document 01 allows the ranges.
+pub fn shared_byte(first: Range, second: Range) -> Lowest
+    ensures { λ r. ⌜ lowestOf r ≡ sharedByte first second ⌝ }
+{
+    if !touches_some(first) {
+        return Lowest::Nothing;
+    }
+    if !touches_some(second) {
+        return Lowest::Nothing;
+    }
+    let base = first.base;
+    let other = second.base;
+    if base <= other {
+        return shared_in_order(first, second);
+    }
+    shared_in_order(second, first)
+}
+
+// The lowest byte that two ranges that are in range share.
+fn shared_of_valid(first: Range, second: Range) -> Shared
+    requires { ⌜ (rangeOk first ≡ true) × (rangeOk second ≡ true) ⌝ }
+    ensures { λ r. ⌜ sharingOf r ≡ sharedOf first second ⌝ }
+{
+    let lowest = shared_byte(first, second);
+    match lowest {
+        Lowest::Byte(byte) => Shared::Byte(byte as u32),
+        Lowest::Nothing => Shared::Nothing,
+    }
+}
+
+// The lowest byte that both ranges touch, or that there is none; 5 at 1 or 2 for the first bad range.
+pub fn lowest_shared_byte(first: Range, second: Range) -> Shared
+    ensures { λ r. ⌜ sharingOf r ≡ sharedOf first second ⌝ }
+{
+    if !range_ok(first) {
+        return Shared::Refused {
+            cause: Cause::OutOfRange,
+            place: 1,
+        };
+    }
+    if !range_ok(second) {
+        return Shared::Refused {
+            cause: Cause::OutOfRange,
+            place: 2,
+        };
+    }
+    shared_of_valid(first, second)
 }

@@ -1,0 +1,60 @@
+-- `order::range::first_pair` meets its contract: each step of Euclid's algorithm is a law. The measure is the stride. Assumes nothing.
+use Prim.Native.Nat.{ℕ, _<_}
+use native.Mathlib.Omega.{arith}
+use borrow.Author.Needs.{needs}
+use borrow.Fn.Kinds.{In}
+use borrow.Fn.PlainCycle.{Measures, is, falls, and}
+use Rattle.order.proofs.Euclid.{
+  reach-fits,
+  none-reaches,
+  stride-some,
+  rest-below,
+  start-fits,
+  element-below,
+  pair-at-once,
+  given-below,
+  pair-fits,
+  pair-onward,
+}
+use Rattle.order.proofs.range.first_pair.Reads as first-pair
+use Rattle.order.proofs.range.first_pair.Kinds as first-pair-kinds
+use Rattle.order.proofs.range.+first_pair.Lts-first_pair as first-pair-lts
+use Rattle.order.proofs.range.first_from.Reads as first-from-reads
+use Rattle.order.proofs.range.onward.Reads as onward-reads
+use Rattle.order.proofs.range.+first_pair.{statement}
+use Rattle.order.proofs.range.+first_pair.Tie.{close}
+
+abbrev μ-first-pair : Measures 0 first-pair-kinds.ps ℕ
+μ-first-pair κs a = a .0
+
+abbrev first-pair-at : ℕ → In 0 first-pair-kinds.ps
+first-pair-at t = and 0 first-pair-kinds.ps (is 0 first-pair-kinds.ps μ-first-pair t) first-pair.Pre
+
+abbrev first-pair-below : ℕ → In 0 first-pair-kinds.ps
+first-pair-below t = and 0 first-pair-kinds.ps (falls 0 first-pair-kinds.ps _<_ μ-first-pair t) first-pair.Pre
+
+pub +first-pair-spec : {M : Type 1} → statement M
++first-pair-spec = close μ-first-pair λ t. first-pair-lts.spec (
+  first-from-reads.Asked,
+  first-from-reads.Learnt,
+  first-pair-below t,
+  first-pair.Post,
+  onward-reads.Asked,
+  onward-reads.Learnt,
+)
+    (first-pair-at t)
+    first-pair.Post
+    (λ c. c .pre .1 .counted)
+    (λ c. record { fits = omega (arith, reach-fits (c .pre .1)) })
+    (λ c. none-reaches _ _ _ _ _ _ (c .if1 .taken))
+    (λ c κs. (stride-some (c .before .pre .1) (c .if1 .left), c .before .pre .1 .stride-fits, c .before .pre .1 .low-fits))
+    (λ c. record { fits = omega (arith, start-fits (c .before .before .pre .1) (c .before .if1 .left) (c .first-from .ensures)) })
+    (λ c. pair-at-once (c .before .before .before .pre .1) (c .before .before .if1 .left) (c .before .first-from .ensures) (c .if2 .taken))
+    (λ c. search needs)
+    (λ c. search needs)
+    (λ c. omega (arith, c .before .first-from .ensures .reaches))
+    (λ c. omega (arith, element-below (c .before .before .before .pre .1) (c .before .before .if1 .left) (c .before .first-from .ensures)))
+    (λ c κs. (rest-below (c .before .before .before .pre .1) (c .before .before .if1 .left) t (c .before .before .before .pre .0), given-below (c .before .before .before .pre .1) (c .before .before .if1 .left) (c .before .first-from .ensures) (c .if2 .left)))
+    (λ c. search needs)
+    (λ c κs. pair-fits (c .before .before .before .before .pre .1) (c .before .before .before .if1 .left) (c .before .before .first-from .ensures) (c .before .if2 .left) (c .first-pair .result) (c .first-pair .ensures))
+    (λ c. pair-onward (c .before .before .before .before .before .pre .1) (c .before .before .before .before .if1 .left) (c .before .before .before .first-from .ensures) (c .before .before .if2 .left) (c .before .first-pair .result) (c .before .first-pair .ensures) (c .onward .ensures))

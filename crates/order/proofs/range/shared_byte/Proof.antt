@@ -1,0 +1,34 @@
+-- `order::range::shared_byte` meets its contract. Assumes nothing.
+use mathlib.Core.Path.{sym, _∙_}
+use borrow.Author.Needs.{needs}
+use borrow.Author.Tests.{not-true, not-false}
+use Rattle.order.proofs.PairBytes.{none-first, none-second, in-order}
+use Rattle.order.proofs.SharedByte.{shared-swap}
+use Rattle.order.proofs.range.shared_byte.Statement.{statement}
+use Rattle.order.proofs.range.shared_byte.Tie as tie
+
+returns : tie.Need-returns
+returns c = none-first _ _ (sym (c .before .touches-some .ensures) ∙ not-true _ (c .if1 .taken))
+
+returns-2 : tie.Need-returns-2
+returns-2 c = none-second _ _ (sym (c .before .touches-some2 .ensures) ∙ not-true _ (c .if2 .taken))
+
+shared-in-order-requires : tie.Need-shared-in-order-requires
+shared-in-order-requires c κs =
+    in-order _ _
+    (sym (c .before .before .before .before .touches-some .ensures) ∙ not-false _ (c .before .before .before .if1 .left))
+    (sym (c .before .before .touches-some2 .ensures) ∙ not-false _ (c .before .if2 .left))
+    (c .if3 .taken)
+
+shared-in-order-requires-2 : tie.Need-shared-in-order-requires-2
+shared-in-order-requires-2 c κs =
+    in-order _ _
+    (sym (c .before .before .touches-some2 .ensures) ∙ not-false _ (c .before .if2 .left))
+    (sym (c .before .before .before .before .touches-some .ensures) ∙ not-false _ (c .before .before .before .if1 .left))
+    (search needs)
+
+returns-4 : tie.Need-returns-4
+returns-4 c = c .shared-in-order2 .ensures ∙ shared-swap _ _
+
+pub shared-byte-spec : {M : Type 1} → statement M
+shared-byte-spec = tie.close (tie.spec (λ c κs. search needs) returns (λ c κs. search needs) returns-2 shared-in-order-requires (λ c. search needs) shared-in-order-requires-2 returns-4)

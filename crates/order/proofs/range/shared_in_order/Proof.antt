@@ -1,0 +1,17 @@
+-- `order::range::shared_in_order` meets its contract. Assumes nothing.
+use borrow.Author.Needs.{needs}
+use Rattle.order.proofs.PairBytes.{base-shared, pair-of-fits, pair-shared}
+use Rattle.order.proofs.range.shared_in_order.Statement.{statement}
+use Rattle.order.proofs.range.shared_in_order.Tie as tie
+
+returns : tie.Need-returns
+returns c = base-shared _ _ (c .before .before .before .before .before .pre) (c .before .if1 .taken)
+
+byte-of-pair-requires : tie.Need-byte-of-pair-requires
+byte-of-pair-requires c κs = pair-of-fits (c .before .before .before .before .before .args .lower) (c .before .before .before .before .before .args .upper) (c .pair-of .result) (c .pair-of .ensures) (search needs) (search needs)
+
+returns-2 : tie.Need-returns-2
+returns-2 c = pair-shared _ _ (c .before .before .before .before .before .before .pre) (c .before .before .if1 .left) (c .before .pair-of .result) (c .before .pair-of .ensures) (c .byte-of-pair .ensures)
+
+pub shared-in-order-spec : {M : Type 1} → statement M
+shared-in-order-spec = tie.close (tie.spec (λ c. search needs) (λ c. search needs) (λ c. search needs) returns (λ c κs. search needs) byte-of-pair-requires returns-2)

@@ -1,0 +1,91 @@
+-- Pairs of elements, one of each of two ranges, that share a byte: what the inner functions promise.
+use Prim.Native.Nat.{ℕ, _+_, _-_, _*_, _<_, _≤_, max}
+use mathlib.Core.Path.{_≡_}
+use mathlib.Core.Bool.{Bool, true, cond, _&&_}
+use mathlib.Core.Option.{Option, none, some}
+use lib.Dec.{leb, ltb}
+use Rattle.bundle.specs.declared.command.Range.{Range}
+use Rattle.order.specs.declared.range.Pair.{Pair}
+use Rattle.order.specs.declared.range.Pair.the-variants as Pr
+use Rattle.order.specs.declared.range.Lowest.{Lowest}
+use Rattle.order.specs.declared.range.Lowest.the-variants as Lo
+
+-- whether a range touches any byte
+unfoldable pub touchesSome : Range → Bool
+touchesSome r = leb 1 (r .count) && leb 1 (r .size)
+
+-- the first element of a stride that starts at or past low
+pub record FirstFrom (stride low element : ℕ) : Type 0 where
+  pub reaches : low ≤ element * stride
+  pub closest : element * stride < low + stride
+
+-- the start of the one element lies between the bounds, seen from the start of the other;
+-- `pace` is the stride of the other range, and `limit` its count
+pub record Near (stride pace low high one other : ℕ) : Type 0 where
+  pub from : other * pace + low ≤ one * stride
+  pub to : one * stride ≤ other * pace + high
+
+-- the near pair within the counts that is least in both elements
+pub record Least (stride pace low high count limit one other : ℕ) : Type 0 where
+  pub one-below : one < count
+  pub other-below : other < limit
+  pub near : Near stride pace low high one other
+  pub least : (i j : ℕ) → i < count → j < limit → Near stride pace low high i j → (one ≤ i) × (other ≤ j)
+
+-- what it is to be the first pair, or that there is none
+abbrev pub FirstPair : (stride pace low high count limit : ℕ) → Pair → Type 0
+FirstPair stride pace low high count limit (Pr.Elements one other) = Least stride pace low high count limit one other
+FirstPair stride pace low high count limit Pr.Nothing =
+    (i j : ℕ) → i < count → j < limit → Near stride pace low high i j → ⊥
+
+-- the numbers for which the first pair is looked for
+pub record PairGiven (stride pace low high count limit : ℕ) : Type 0 where
+  pub stride-fits : stride < 65536
+  pub pace-fits : pace < 65536
+  pub low-some : 1 ≤ low
+  pub low-fits : low < 8589934592
+  pub ordered : low ≤ high
+  pub counted : 1 ≤ count
+  pub count-fits : count < 65536
+  pub limited : 1 ≤ limit
+  pub limit-fits : limit < 65536
+
+abbrev pub PairFits : Pair → Type 0
+PairFits (Pr.Elements one other) = (one < 65536) × (other < 65536)
+PairFits Pr.Nothing = Unit
+
+-- the first pair, made of the first pair that Euclid's step leaves, whose two elements have changed places
+unfoldable pub onwardOf : Pair → ℕ → ℕ → ℕ → Pair
+onwardOf (Pr.Elements one other) element quotient count =
+    cond (ltb (element + other + quotient * one) count) (Pr.Elements (element + other + quotient * one) one) Pr.Nothing
+onwardOf Pr.Nothing element quotient count = Pr.Nothing
+
+-- two ranges that touch some byte, the one with the lower base first
+pub record InOrder (lower upper : Range) : Type 0 where
+  pub lower-counted : 1 ≤ lower .count
+  pub lower-sized : 1 ≤ lower .size
+  pub upper-counted : 1 ≤ upper .count
+  pub upper-sized : 1 ≤ upper .size
+  pub bases : lower .base ≤ upper .base
+
+-- the first pair of elements of two ranges that share a byte
+abbrev pub PairOf : Range → Range → Pair → Type 0
+PairOf lower upper =
+    FirstPair
+    (lower .stride)
+    (upper .stride)
+    (upper .base - lower .base - (lower .size - 1))
+    (upper .base - lower .base + (upper .size - 1))
+    (lower .count)
+    (upper .count)
+
+-- the lowest byte that both elements of a pair touch
+unfoldable pub byteOf : Pair → Range → Range → Lowest
+byteOf (Pr.Elements one other) lower upper =
+    Lo.Byte (max (lower .base + one * lower .stride) (upper .base + other * upper .stride))
+byteOf Pr.Nothing lower upper = Lo.Nothing
+
+-- what the code's answer says
+abbrev pub lowestOf : Lowest → Option ℕ
+lowestOf (Lo.Byte n) = some n
+lowestOf Lo.Nothing = none
