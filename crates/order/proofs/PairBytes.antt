@@ -133,7 +133,7 @@ in-order lower upper l u h =
 element-within : (n k t : ℕ) → k < n → k * t ≤ (n - 1) * t
 element-within n k t h = mul-le-mul-right t (omega arith)
 
-touch-fits : (r : Range) (byte : ℕ) → rangeOk r ≡ true → Touches r byte → byte < 4294967296
+pub touch-fits : (r : Range) (byte : ℕ) → rangeOk r ≡ true → Touches r byte → byte < 4294967296
 unfolding lastByte
 touch-fits r byte e t =
     omega (arith, range-parts r e .last, t .at, t .within-below, element-within (r .count) (t .element) (r .stride) (t .element-below))

@@ -8,19 +8,19 @@ use Rattle.order.proofs.Euclid.{
   reach-fits,
   none-reaches,
   stride-some,
-  rest-below,
+  rest-falls,
   start-fits,
   element-below,
   pair-at-once,
-  given-below,
+  given-inner,
   pair-fits,
-  pair-onward,
+  pair-outer,
 }
 use Rattle.order.proofs.range.first_pair.Reads as first-pair
 use Rattle.order.proofs.range.first_pair.Kinds as first-pair-kinds
 use Rattle.order.proofs.range.+first_pair.Lts-first_pair as first-pair-lts
 use Rattle.order.proofs.range.first_from.Reads as first-from-reads
-use Rattle.order.proofs.range.onward.Reads as onward-reads
+use Rattle.order.proofs.range.outer_pair.Reads as outer-pair-reads
 use Rattle.order.proofs.range.+first_pair.{statement}
 use Rattle.order.proofs.range.+first_pair.Tie.{close}
 
@@ -39,8 +39,8 @@ pub +first-pair-spec : {M : Type 1} → statement M
   first-from-reads.Learnt,
   first-pair-below t,
   first-pair.Post,
-  onward-reads.Asked,
-  onward-reads.Learnt,
+  outer-pair-reads.Asked,
+  outer-pair-reads.Learnt,
 )
     (first-pair-at t)
     first-pair.Post
@@ -54,7 +54,7 @@ pub +first-pair-spec : {M : Type 1} → statement M
     (λ c. search needs)
     (λ c. omega (arith, c .before .first-from .ensures .reaches))
     (λ c. omega (arith, element-below (c .before .before .before .pre .1) (c .before .before .if1 .left) (c .before .first-from .ensures)))
-    (λ c κs. (rest-below (c .before .before .before .pre .1) (c .before .before .if1 .left) t (c .before .before .before .pre .0), given-below (c .before .before .before .pre .1) (c .before .before .if1 .left) (c .before .first-from .ensures) (c .if2 .left)))
+    (λ c κs. (rest-falls (c .before .before .before .pre .1) (c .before .before .if1 .left) t (c .before .before .before .pre .0), given-inner (c .before .before .before .pre .1) (c .before .before .if1 .left) (c .before .first-from .ensures) (c .if2 .left)))
     (λ c. search needs)
     (λ c κs. pair-fits (c .before .before .before .before .pre .1) (c .before .before .before .if1 .left) (c .before .before .first-from .ensures) (c .before .if2 .left) (c .first-pair .result) (c .first-pair .ensures))
-    (λ c. pair-onward (c .before .before .before .before .before .pre .1) (c .before .before .before .before .if1 .left) (c .before .before .before .first-from .ensures) (c .before .before .if2 .left) (c .before .first-pair .result) (c .before .first-pair .ensures) (c .onward .ensures))
+    (λ c. pair-outer (c .before .before .before .before .before .pre .1) (c .before .before .before .before .if1 .left) (c .before .before .before .first-from .ensures) (c .before .before .if2 .left) (c .before .first-pair .result) (c .before .first-pair .ensures) (c .outer-pair .ensures))
