@@ -68,12 +68,18 @@ module _ (stride spacing low high quotient rest element : ℕ)
   step-down : (i j : ℕ) → Near stride spacing low high (element + i + quotient * j) j
       → Near rest stride (element * stride - high) (element * stride - low) j i
   step-down i j near =
-      record { from = omega (arith, times j, near .to, c .reaches); to = omega (arith, times j, near .from, c .reaches) }
+      record {
+        from = omega (arith, times j, near .to, c .reaches);
+        to = omega (arith, times j, near .from, c .reaches);
+      }
 
   step-up : (i j : ℕ) → Near rest stride (element * stride - high) (element * stride - low) j i
       → Near stride spacing low high (element + i + quotient * j) j
   step-up i j near =
-      record { from = omega (arith, times j, near .to, c .reaches); to = omega (arith, times j, near .from, c .reaches) }
+      record {
+        from = omega (arith, times j, near .to, c .reaches);
+        to = omega (arith, times j, near .from, c .reaches);
+      }
 
   far : (i j : ℕ) → Near stride spacing low high i j → element + quotient * j ≤ i
   far i j near =

@@ -1,4 +1,5 @@
--- `order::range::first_pair` meets its contract: each step of Euclid's algorithm is a law. The measure is the stride. Assumes nothing.
+-- `order::range::first_pair` meets its contract: each step of Euclid's algorithm is a law. The measure is the stride.
+-- Assumes nothing.
 use Prim.Native.Nat.{ℕ, _<_}
 use native.Mathlib.Omega.{arith}
 use borrow.Author.Needs.{needs}
@@ -47,14 +48,29 @@ pub +first-pair-spec : {M : Type 1} → statement M
     (λ c. c .pre .1 .counted)
     (λ c. record { fits = omega (arith, reach-fits (c .pre .1)) })
     (λ c. none-reaches _ _ _ _ _ _ (c .if1 .taken))
-    (λ c κs. (stride-some (c .before .pre .1) (c .if1 .left), c .before .pre .1 .stride-fits, c .before .pre .1 .low-fits))
-    (λ c. record { fits = omega (arith, start-fits (c .before .before .pre .1) (c .before .if1 .left) (c .first-from .ensures)) })
-    (λ c. pair-at-once (c .before .before .before .pre .1) (c .before .before .if1 .left) (c .before .first-from .ensures) (c .if2 .taken))
+    (λ c κs. let g = c .before .pre .1 in (stride-some g (c .if1 .left), g .stride-fits, g .low-fits))
+    (λ c.
+    record {
+      fits = omega (arith, start-fits (c .before .before .pre .1) (c .before .if1 .left) (c .first-from .ensures));
+    })
+    (λ c. let b = c .before .before in
+    pair-at-once (b .before .pre .1) (b .if1 .left) (c .before .first-from .ensures) (c .if2 .taken))
     (λ c. search needs)
     (λ c. search needs)
     (λ c. omega (arith, c .before .first-from .ensures .reaches))
-    (λ c. omega (arith, element-below (c .before .before .before .pre .1) (c .before .before .if1 .left) (c .before .first-from .ensures)))
-    (λ c κs. (rest-falls (c .before .before .before .pre .1) (c .before .before .if1 .left) t (c .before .before .before .pre .0), given-inner (c .before .before .before .pre .1) (c .before .before .if1 .left) (c .before .first-from .ensures) (c .if2 .left)))
+    (λ c. let b = c .before .before in
+    omega (arith, element-below (b .before .pre .1) (b .if1 .left) (c .before .first-from .ensures)))
+    (λ c κs. let b = c .before .before in (
+      rest-falls (b .before .pre .1) (b .if1 .left) t (b .before .pre .0),
+      given-inner (b .before .pre .1) (b .if1 .left) (c .before .first-from .ensures) (c .if2 .left),
+    ))
     (λ c. search needs)
-    (λ c κs. pair-fits (c .before .before .before .before .pre .1) (c .before .before .before .if1 .left) (c .before .before .first-from .ensures) (c .before .if2 .left) (c .first-pair .result) (c .first-pair .ensures))
-    (λ c. pair-outer (c .before .before .before .before .before .pre .1) (c .before .before .before .before .if1 .left) (c .before .before .before .first-from .ensures) (c .before .before .if2 .left) (c .before .first-pair .result) (c .before .first-pair .ensures) (c .outer-pair .ensures))
+    (λ c κs. let b = c .before .before .before in
+    pair-fits (b .before .pre .1) (b .if1 .left) (c .before .before .first-from .ensures) (c .before .if2 .left)
+    (c .first-pair .result)
+    (c .first-pair .ensures))
+    (λ c. let b = c .before .before .before .before in
+    pair-outer (b .before .pre .1) (b .if1 .left) (c .before .before .before .first-from .ensures) (c .before .before .if2 .left)
+    (c .before .first-pair .result)
+    (c .before .first-pair .ensures)
+    (c .outer-pair .ensures))
