@@ -1,13 +1,22 @@
 -- The first pair of near elements by Euclid's algorithm on the strides, over plain numbers.
--- `quotient` and `rest` are those of the pace by the stride, and `element` is the first element at or past low.
+-- `quotient` and `rest` are those of the spacing by the stride, and `element` is the first element at or past low.
 use Prim.Native.Nat.{ℕ, zero, suc, _+_, _*_, _-_, _/_, _%_, _<_, _≤_}
 use mathlib.Core.Path.{_≡_, sym, ap, subst, _∙_}
-use native.Mathlib.Nat.{div-add-mod', div-le-self, mod-lt, mul-zero, mul-le-mul, mul-le-mul-left, mul-le-mul-right, lt-of-mul-lt-mul-right}
+use native.Mathlib.Nat.{
+  div-add-mod',
+  div-le-self,
+  mod-lt,
+  mul-zero,
+  mul-le-mul,
+  mul-le-mul-left,
+  mul-le-mul-right,
+  lt-of-mul-lt-mul-right,
+}
 use native.Mathlib.Omega.{arith}
 use lib.Dec.{ltb}
 use borrow.Author.Tests.{lt-ltb, le-ltb, ltb-true, ltb-false}
 use Rattle.bundle.proofs.Tests.{cond-elim}
-use Rattle.order.specs.Pairs.{FirstFrom, Near, Least, FirstPair, PairGiven, PairFits, onwardOf}
+use Rattle.order.specs.Pairs.{FirstFrom, Near, Least, FirstPair, PairGiven, PairFits, outerOf}
 use Rattle.order.specs.declared.range.Pair.{Pair}
 use Rattle.order.specs.declared.range.Pair.the-variants as Pr
 
@@ -25,16 +34,16 @@ first-least stride low element k c past =
     omega (arith, lt-of-mul-lt-mul-right stride below)
 
 -- no element below the count is at or past low
-pub none-reaches : (stride pace low high count limit : ℕ) → (count - 1) * stride < low
-    → FirstPair stride pace low high count limit Pr.Nothing
-none-reaches stride pace low high count limit short i j hi hj near =
+pub none-reaches : (stride spacing low high count limit : ℕ) → (count - 1) * stride < low
+    → FirstPair stride spacing low high count limit Pr.Nothing
+none-reaches stride spacing low high count limit short i j hi hj near =
     let last : i ≤ count - 1 = omega arith in
     omega (arith, mul-le-mul-right stride last, near .from)
 
 -- the first element at or past low is at or before high
-pub found-at-once : (stride pace low high count limit element : ℕ) → FirstFrom stride low element → low ≤ (count - 1) * stride → 1 ≤ count
-    → 1 ≤ limit → element * stride ≤ high → Least stride pace low high count limit element 0
-found-at-once stride pace low high count limit element c long counted limited within =
+pub found-at-once : (stride spacing low high count limit element : ℕ) → FirstFrom stride low element
+    → low ≤ (count - 1) * stride → 1 ≤ count → 1 ≤ limit → element * stride ≤ high → Least stride spacing low high count limit element 0
+found-at-once stride spacing low high count limit element c long counted limited within =
     record {
       one-below = omega (arith, first-least stride low element (count - 1) c long);
       other-below = limited;
@@ -43,48 +52,56 @@ found-at-once stride pace low high count limit element c long counted limited wi
           λ i j hi hj near. (first-least stride low element i c (omega (arith, near .from)), omega arith);
     }
 
--- one step of Euclid's algorithm: what the first pair of the step below is, and that it makes the first pair
-abbrev pub FirstBelow : (stride rest low high count limit element : ℕ) → Pair → Type 0
-FirstBelow stride rest low high count limit element =
+-- one step of Euclid's algorithm: the first pair of the inner step makes the first pair
+abbrev pub FirstInner : (stride rest low high count limit element : ℕ) → Pair → Type 0
+FirstInner stride rest low high count limit element =
     FirstPair rest stride (element * stride - high) (element * stride - low) limit (count - element)
 
-module _ (stride pace low high quotient rest element : ℕ)
-    (whole : quotient * stride + rest ≡ pace)
+module _ (stride spacing low high quotient rest element : ℕ)
+    (whole : quotient * stride + rest ≡ spacing)
     (c : FirstFrom stride low element)
     (past : high < element * stride)
     (ordered : low ≤ high) where
-  times : (j : ℕ) → j * (quotient * stride + rest) ≡ j * pace
+  times : (j : ℕ) → j * (quotient * stride + rest) ≡ j * spacing
   times j = ap (λ x. j * x) whole
 
-  step-down : (i j : ℕ) → Near stride pace low high (element + i + quotient * j) j → Near rest stride (element * stride - high) (element * stride - low) j i
+  step-down : (i j : ℕ) → Near stride spacing low high (element + i + quotient * j) j
+      → Near rest stride (element * stride - high) (element * stride - low) j i
   step-down i j near =
-      record { from = omega (arith, times j, near .to, c .reaches); to = omega (arith, times j, near .from, c .reaches) }
+      record {
+        from = omega (arith, times j, near .to, c .reaches);
+        to = omega (arith, times j, near .from, c .reaches);
+      }
 
-  step-up : (i j : ℕ) → Near rest stride (element * stride - high) (element * stride - low) j i → Near stride pace low high (element + i + quotient * j) j
+  step-up : (i j : ℕ) → Near rest stride (element * stride - high) (element * stride - low) j i
+      → Near stride spacing low high (element + i + quotient * j) j
   step-up i j near =
-      record { from = omega (arith, times j, near .to, c .reaches); to = omega (arith, times j, near .from, c .reaches) }
+      record {
+        from = omega (arith, times j, near .to, c .reaches);
+        to = omega (arith, times j, near .from, c .reaches);
+      }
 
-  far : (i j : ℕ) → Near stride pace low high i j → element + quotient * j ≤ i
+  far : (i j : ℕ) → Near stride spacing low high i j → element + quotient * j ≤ i
   far i j near =
       let below : (element + quotient * j) * stride < suc i * stride = omega (arith, times j, near .from, c .closest) in
       omega (arith, lt-of-mul-lt-mul-right stride below)
 
-  -- each near pair is made of one of the step below
+  -- each near pair is made of one of the inner step
   pub record Made (i j : ℕ) : Type 0 where
     pub inner : ℕ
     pub same : i ≡ element + inner + quotient * j
     pub near : Near rest stride (element * stride - high) (element * stride - low) j inner
 
-  made : (i j : ℕ) → Near stride pace low high i j → Made i j
+  made : (i j : ℕ) → Near stride spacing low high i j → Made i j
   made i j near =
       let h : element + quotient * j ≤ i = far i j near in
       let x : ℕ = i - (element + quotient * j) in
       let e : i ≡ element + x + quotient * j = omega arith in
-      record { inner = x; same = e; near = step-down x j (subst (λ k. Near stride pace low high k j) e near) }
+      record { inner = x; same = e; near = step-down x j (subst (λ k. Near stride spacing low high k j) e near) }
 
   module _ (count limit : ℕ) where
     abbrev Inner : Pair → Type 0
-    Inner = FirstBelow stride rest low high count limit element
+    Inner = FirstInner stride rest low high count limit element
 
     made-least : (one other i j : ℕ) → Inner (Pr.Elements one other) → i < count → j < limit → Made i j
         → (element + other + quotient * one ≤ i) × (one ≤ j)
@@ -93,7 +110,7 @@ module _ (stride pace low high quotient rest element : ℕ)
         (omega (arith, w .same, mul-le-mul-left quotient (h .0)), h .0)
 
     up-least : (one other : ℕ) → Inner (Pr.Elements one other) → element + other + quotient * one < count
-        → Least stride pace low high count limit (element + other + quotient * one) one
+        → Least stride spacing low high count limit (element + other + quotient * one) one
     up-least one other l below =
         record {
           one-below = below;
@@ -103,14 +120,14 @@ module _ (stride pace low high quotient rest element : ℕ)
         }
 
     up-none : (one other : ℕ) → Inner (Pr.Elements one other) → count ≤ element + other + quotient * one
-        → FirstPair stride pace low high count limit Pr.Nothing
+        → FirstPair stride spacing low high count limit Pr.Nothing
     up-none one other l over i j hi hj near = omega (arith, made-least one other i j l hi hj (made i j near) .0)
 
-    pub step-first : (pair : Pair) → Inner pair → FirstPair stride pace low high count limit (onwardOf pair element quotient count)
-    unfolding onwardOf
+    pub step-first : (pair : Pair) → Inner pair → FirstPair stride spacing low high count limit (outerOf pair element quotient count)
+    unfolding outerOf
     step-first (Pr.Elements one other) l =
         cond-elim
-        (FirstPair stride pace low high count limit)
+        (FirstPair stride spacing low high count limit)
         (ltb (element + other + quotient * one) count)
         (Pr.Elements (element + other + quotient * one) one)
         Pr.Nothing
@@ -144,25 +161,25 @@ module _ {pair : Pair} {one other : ℕ} (e : pair ≡ Pr.Elements one other) wh
       (omega arith, product-fits quotient one (h .2) (f .0))
 
   module _ (element quotient count : ℕ) where
-    pub onward-some : element + other + quotient * one < count
-        → Pr.Elements (element + other + quotient * one) one ≡ onwardOf pair element quotient count
-    unfolding onwardOf
-    onward-some below =
-        sym (ap (λ p. onwardOf p element quotient count) e
+    pub outer-some : element + other + quotient * one < count
+        → Pr.Elements (element + other + quotient * one) one ≡ outerOf pair element quotient count
+    unfolding outerOf
+    outer-some below =
+        sym (ap (λ p. outerOf p element quotient count) e
         ∙ simp (lt-ltb (element + other + quotient * one) count below))
 
-    pub onward-none : count ≤ element + other + quotient * one → Pr.Nothing ≡ onwardOf pair element quotient count
-    unfolding onwardOf
-    onward-none over =
-        sym (ap (λ p. onwardOf p element quotient count) e
+    pub outer-none : count ≤ element + other + quotient * one → Pr.Nothing ≡ outerOf pair element quotient count
+    unfolding outerOf
+    outer-none over =
+        sym (ap (λ p. outerOf p element quotient count) e
         ∙ simp (le-ltb (element + other + quotient * one) count over))
 
-pub onward-nothing : {pair : Pair} (element quotient count : ℕ) → pair ≡ Pr.Nothing
-    → Pr.Nothing ≡ onwardOf pair element quotient count
-unfolding onwardOf
-onward-nothing element quotient count e = sym (ap (λ p. onwardOf p element quotient count) e)
+pub outer-nothing : {pair : Pair} (element quotient count : ℕ) → pair ≡ Pr.Nothing
+    → Pr.Nothing ≡ outerOf pair element quotient count
+unfolding outerOf
+outer-nothing element quotient count e = sym (ap (λ p. outerOf p element quotient count) e)
 
-module _ {stride pace low high count limit : ℕ} (g : PairGiven stride pace low high count limit) where
+module _ {stride spacing low high count limit : ℕ} (g : PairGiven stride spacing low high count limit) where
   pub reach-fits : (count - 1) * stride < 4294967296
   reach-fits = product-fits (count - 1) stride (omega arith) (g .stride-fits)
 
@@ -171,8 +188,8 @@ module _ {stride pace low high count limit : ℕ} (g : PairGiven stride pace low
     stride-some = multiple-some (count - 1) stride low (g .low-some) long
 
     -- the measure falls
-    pub rest-below : (t : ℕ) → stride ≡ t → pace % stride < t
-    rest-below t e = omega (arith, mod-lt pace stride-some)
+    pub rest-falls : (t : ℕ) → stride ≡ t → spacing % stride < t
+    rest-falls t e = omega (arith, mod-lt spacing stride-some)
 
     module _ {element : ℕ} (f : FirstFrom stride low element) where
       pub element-below : element < count
@@ -181,15 +198,15 @@ module _ {stride pace low high count limit : ℕ} (g : PairGiven stride pace low
       pub start-fits : element * stride < 8590000128
       start-fits = omega (arith, f .closest)
 
-      pub pair-at-once : element * stride ≤ high → Least stride pace low high count limit element 0
-      pair-at-once = found-at-once stride pace low high count limit element f long (g .counted) (g .limited)
+      pub pair-at-once : element * stride ≤ high → Least stride spacing low high count limit element 0
+      pair-at-once = found-at-once stride spacing low high count limit element f long (g .counted) (g .limited)
 
       module _ (past : high < element * stride) where
-        pub given-below : PairGiven (pace % stride) stride (element * stride - high) (element * stride - low) limit (count - element)
-        given-below =
+        pub given-inner : PairGiven (spacing % stride) stride (element * stride - high) (element * stride - low) limit (count - element)
+        given-inner =
             record {
-              stride-fits = omega (arith, mod-lt pace stride-some);
-              pace-fits = g .stride-fits;
+              stride-fits = omega (arith, mod-lt spacing stride-some);
+              spacing-fits = g .stride-fits;
               low-some = omega arith;
               low-fits = omega (arith, f .closest);
               ordered = omega arith;
@@ -199,20 +216,22 @@ module _ {stride pace low high count limit : ℕ} (g : PairGiven stride pace low
               limit-fits = omega arith;
             }
 
-        pub pair-fits : (pair : Pair) → FirstBelow stride (pace % stride) low high count limit element pair
-            → PairFits pair × (element < 65536) × (pace / stride < 65536)
-        pair-fits pair h = (fits pair h, omega (arith, element-below), omega (arith, div-le-self pace stride))
+        pub pair-fits : (pair : Pair) → FirstInner stride (spacing % stride) low high count limit element pair
+            → PairFits pair × (element < 65536) × (spacing / stride < 65536)
+        pair-fits pair h = (fits pair h, omega (arith, element-below), omega (arith, div-le-self spacing stride))
           where
-            fits : (pair : Pair) → FirstBelow stride (pace % stride) low high count limit element pair → PairFits pair
+            fits : (pair : Pair) → FirstInner stride (spacing % stride) low high count limit element pair → PairFits pair
             fits (Pr.Elements one other) l = (omega (arith, l .one-below), omega (arith, l .other-below))
             fits Pr.Nothing h = tt
 
-        pub pair-onward : {r : Pair} (pair : Pair)
-            → FirstBelow stride (pace % stride) low high count limit element pair
-            → r ≡ onwardOf pair element (pace / stride) count
-            → FirstPair stride pace low high count limit r
-        pair-onward pair h e =
+        pub pair-outer : {r : Pair} (pair : Pair)
+            → FirstInner stride (spacing % stride) low high count limit element pair
+            → r ≡ outerOf pair element (spacing / stride) count
+            → FirstPair stride spacing low high count limit r
+        pair-outer pair h e =
             subst
-            (FirstPair stride pace low high count limit)
+            (FirstPair stride spacing low high count limit)
             (sym e)
-            (step-first stride pace low high (pace / stride) (pace % stride) element (div-add-mod' pace stride) f past (g .ordered) count limit pair h)
+            (step-first
+            stride spacing low high (spacing / stride) (spacing % stride) element
+            (div-add-mod' spacing stride) f past (g .ordered) count limit pair h)

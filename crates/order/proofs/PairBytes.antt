@@ -34,14 +34,24 @@ module _ (lower upper : Range) (o : InOrder lower upper) where
               at = omega (arith, o .bases);
             };
         other =
-            record { element = 0; within = 0; element-below = o .upper-counted; within-below = o .upper-sized; at = omega arith };
+            record {
+              element = 0;
+              within = 0;
+              element-below = o .upper-counted;
+              within-below = o .upper-sized;
+              at = omega arith;
+            };
         lowest = λ byte below s t. omega (arith, t .at);
       })
 
   module _ (apart : lower .size ≤ upper .base - lower .base) where
     abbrev NearElements : ℕ → ℕ → Type 0
     NearElements =
-        Near (lower .stride) (upper .stride) (upper .base - lower .base - (lower .size - 1)) (upper .base - lower .base + (upper .size - 1))
+        Near
+        (lower .stride)
+        (upper .stride)
+        (upper .base - lower .base - (lower .size - 1))
+        (upper .base - lower .base + (upper .size - 1))
 
     -- elements that share a byte are near
     near-elements : (byte : ℕ) (s : Touches lower byte) (t : Touches upper byte) → NearElements (s .element) (t .element)
@@ -73,7 +83,9 @@ module _ (lower upper : Range) (o : InOrder lower upper) where
                 within-below = omega (arith, l .near .to, o .upper-sized, o .bases);
                 at = omega arith;
               };
-          lowest = λ byte below s t. not-lower byte below s t (l .least (s .element) (t .element) (s .element-below) (t .element-below) (near-elements byte s t));
+          lowest =
+              λ byte below s t. not-lower byte below s t
+              (l .least (s .element) (t .element) (s .element-below) (t .element-below) (near-elements byte s t));
         }
       where
         not-lower : (byte : ℕ) → byte < max (lower .base + i * lower .stride) (upper .base + j * upper .stride)
@@ -96,8 +108,11 @@ pair-of-fits lower upper Pr.Nothing h hl hu = tt
 
 -- the byte of a pair
 module _ {pair : Pair} (lower upper : Range) where
-  pub byte-some : {one other start upper-start byte : ℕ} → pair ≡ Pr.Elements one other → start ≡ lower .base + one * lower .stride
-      → upper-start ≡ upper .base + other * upper .stride → byte ≡ max start upper-start → Lo.Byte byte ≡ byteOf pair lower upper
+  pub byte-some : {one other start upper-start byte : ℕ} → pair ≡ Pr.Elements one other
+      → start ≡ lower .base + one * lower .stride
+      → upper-start ≡ upper .base + other * upper .stride
+      → byte ≡ max start upper-start
+      → Lo.Byte byte ≡ byteOf pair lower upper
   unfolding byteOf
   byte-some e s t m = cc
 
@@ -133,10 +148,11 @@ in-order lower upper l u h =
 element-within : (n k t : ℕ) → k < n → k * t ≤ (n - 1) * t
 element-within n k t h = mul-le-mul-right t (omega arith)
 
-touch-fits : (r : Range) (byte : ℕ) → rangeOk r ≡ true → Touches r byte → byte < 4294967296
+pub touch-fits : (r : Range) (byte : ℕ) → rangeOk r ≡ true → Touches r byte → byte < 4294967296
 unfolding lastByte
 touch-fits r byte e t =
-    omega (arith, range-parts r e .last, t .at, t .within-below, element-within (r .count) (t .element) (r .stride) (t .element-below))
+    let steps = element-within (r .count) (t .element) (r .stride) (t .element-below) in
+    omega (arith, range-parts r e .last, t .at, t .within-below)
 
 module _ (a b : Range) (ok : (rangeOk a ≡ true) × (rangeOk b ≡ true)) where
   pub shared-given : sharedOf a b ≡ gives (sharedByte a b)

@@ -20,28 +20,28 @@ pub record FirstFrom (stride low element : ℕ) : Type 0 where
   pub closest : element * stride < low + stride
 
 -- the start of the one element lies between the bounds, seen from the start of the other;
--- `pace` is the stride of the other range, and `limit` its count
-pub record Near (stride pace low high one other : ℕ) : Type 0 where
-  pub from : other * pace + low ≤ one * stride
-  pub to : one * stride ≤ other * pace + high
+-- `spacing` is the stride of the other range, and `limit` its count
+pub record Near (stride spacing low high one other : ℕ) : Type 0 where
+  pub from : other * spacing + low ≤ one * stride
+  pub to : one * stride ≤ other * spacing + high
 
 -- the near pair within the counts that is least in both elements
-pub record Least (stride pace low high count limit one other : ℕ) : Type 0 where
+pub record Least (stride spacing low high count limit one other : ℕ) : Type 0 where
   pub one-below : one < count
   pub other-below : other < limit
-  pub near : Near stride pace low high one other
-  pub least : (i j : ℕ) → i < count → j < limit → Near stride pace low high i j → (one ≤ i) × (other ≤ j)
+  pub near : Near stride spacing low high one other
+  pub least : (i j : ℕ) → i < count → j < limit → Near stride spacing low high i j → (one ≤ i) × (other ≤ j)
 
 -- what it is to be the first pair, or that there is none
-abbrev pub FirstPair : (stride pace low high count limit : ℕ) → Pair → Type 0
-FirstPair stride pace low high count limit (Pr.Elements one other) = Least stride pace low high count limit one other
-FirstPair stride pace low high count limit Pr.Nothing =
-    (i j : ℕ) → i < count → j < limit → Near stride pace low high i j → ⊥
+abbrev pub FirstPair : (stride spacing low high count limit : ℕ) → Pair → Type 0
+FirstPair stride spacing low high count limit (Pr.Elements one other) = Least stride spacing low high count limit one other
+FirstPair stride spacing low high count limit Pr.Nothing =
+    (i j : ℕ) → i < count → j < limit → Near stride spacing low high i j → ⊥
 
 -- the numbers for which the first pair is looked for
-pub record PairGiven (stride pace low high count limit : ℕ) : Type 0 where
+pub record PairGiven (stride spacing low high count limit : ℕ) : Type 0 where
   pub stride-fits : stride < 65536
-  pub pace-fits : pace < 65536
+  pub spacing-fits : spacing < 65536
   pub low-some : 1 ≤ low
   pub low-fits : low < 8589934592
   pub ordered : low ≤ high
@@ -50,15 +50,16 @@ pub record PairGiven (stride pace low high count limit : ℕ) : Type 0 where
   pub limited : 1 ≤ limit
   pub limit-fits : limit < 65536
 
+-- the elements of a pair are below every count
 abbrev pub PairFits : Pair → Type 0
 PairFits (Pr.Elements one other) = (one < 65536) × (other < 65536)
 PairFits Pr.Nothing = Unit
 
--- the first pair, made of the first pair that Euclid's step leaves, whose two elements have changed places
-unfoldable pub onwardOf : Pair → ℕ → ℕ → ℕ → Pair
-onwardOf (Pr.Elements one other) element quotient count =
+-- the first pair, made of the inner step's, where the two ranges have changed places
+unfoldable pub outerOf : Pair → ℕ → ℕ → ℕ → Pair
+outerOf (Pr.Elements one other) element quotient count =
     cond (ltb (element + other + quotient * one) count) (Pr.Elements (element + other + quotient * one) one) Pr.Nothing
-onwardOf Pr.Nothing element quotient count = Pr.Nothing
+outerOf Pr.Nothing element quotient count = Pr.Nothing
 
 -- two ranges that touch some byte, the one with the lower base first
 pub record InOrder (lower upper : Range) : Type 0 where

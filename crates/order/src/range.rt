@@ -15,7 +15,7 @@ ghost use Rattle.order.specs.Pairs.{
   PairFits,
   InOrder,
   PairOf,
-  onwardOf,
+  outerOf,
   byteOf,
   lowestOf,
 };
@@ -39,10 +39,10 @@ enum Pair {
     Nothing,
 }
 
-// The first pair, made of that of the step below it, where the two ranges have changed places.
-fn onward(pair: Pair, element: u64, quotient: u64, count: u64) -> Pair
+// The first pair, made of the inner step's, where the two ranges have changed places.
+fn outer_pair(pair: Pair, element: u64, quotient: u64, count: u64) -> Pair
     requires { ⌜ PairFits pair × (element < 65536) × (quotient < 65536) ⌝ }
-    ensures { λ r. ⌜ r ≡ onwardOf pair element quotient count ⌝ }
+    ensures { λ r. ⌜ r ≡ outerOf pair element quotient count ⌝ }
 {
     match pair {
         Pair::Elements { one, other } => {
@@ -68,12 +68,12 @@ fn first_from(stride: u64, low: u64) -> u64
 }
 
 // The least elements, `one` below count and `other` below limit, whose starts lie near each other:
-// `other * pace + low <= one * stride <= other * pace + high`. Where no multiple of the stride lies from low to high,
-// the pace counts only by its remainder, and the two ranges change places: Euclid's algorithm, which stops once an
-// element passes its count.
-fn first_pair(stride: u64, pace: u64, low: u64, high: u64, count: u64, limit: u64) -> Pair
-    requires { ⌜ PairGiven stride pace low high count limit ⌝ }
-    ensures { λ r. ⌜ FirstPair stride pace low high count limit r ⌝ }
+// `other * spacing + low <= one * stride <= other * spacing + high`. Spacing and limit are the other range's stride and
+// count. Where no multiple of the stride lies from low to high, only the spacing's remainder counts, and the two ranges
+// change places: Euclid's algorithm, which stops once an element passes its count.
+fn first_pair(stride: u64, spacing: u64, low: u64, high: u64, count: u64, limit: u64) -> Pair
+    requires { ⌜ PairGiven stride spacing low high count limit ⌝ }
+    ensures { λ r. ⌜ FirstPair stride spacing low high count limit r ⌝ }
 {
     if (count - 1) * stride < low {
         return Pair::Nothing;
@@ -87,14 +87,14 @@ fn first_pair(stride: u64, pace: u64, low: u64, high: u64, count: u64, limit: u6
         };
     }
     let pair = first_pair(
-        pace % stride,
+        spacing % stride,
         stride,
         start - high,
         start - low,
         limit,
         count - element,
     );
-    onward(pair, element, pace / stride, count)
+    outer_pair(pair, element, spacing / stride, count)
 }
 
 // Where an element of a range starts.
@@ -105,6 +105,7 @@ fn start_of(range: Range, element: u64) -> u64
     range.base as u64 + element * (range.stride as u64)
 }
 
+// The larger of two numbers.
 fn larger(one: u64, other: u64) -> u64
     ensures { λ r. ⌜ r ≡ max one other ⌝ }
 {
@@ -144,6 +145,7 @@ fn pair_of(lower: Range, upper: Range) -> Pair
     )
 }
 
+// The lowest byte that both ranges touch, the one with the lower base first.
 fn shared_in_order(lower: Range, upper: Range) -> Lowest
     requires { ⌜ InOrder lower upper ⌝ }
     ensures { λ r. ⌜ lowestOf r ≡ sharedByte lower upper ⌝ }
@@ -156,6 +158,7 @@ fn shared_in_order(lower: Range, upper: Range) -> Lowest
     byte_of_pair(pair, lower, upper)
 }
 
+// Whether a range touches any byte.
 fn touches_some(range: Range) -> bool
     ensures { λ r. ⌜ r ≡ touchesSome range ⌝ }
 {

@@ -12,10 +12,24 @@ start-of-requires-2 : tie.Need-start-of-requires-2
 start-of-requires-2 c κs = elements-fit (c .before .before .pair .given .1) (c .before .before .before .before .pre) .1
 
 returns : tie.Need-returns
-returns c = byte-some _ _ (c .before .before .before .before .pair .given .1) (c .before .before .start-of .ensures) (c .before .start-of2 .ensures) (c .larger .ensures)
+returns c =
+    byte-some _ _
+    (c .before .before .before .before .pair .given .1)
+    (c .before .before .start-of .ensures)
+    (c .before .start-of2 .ensures)
+    (c .larger .ensures)
 
 returns-2 : tie.Need-returns-2
 returns-2 c = byte-nothing _ _ (c .enum-told .given .1)
 
 pub byte-of-pair-spec : {M : Type 1} → statement M
-byte-of-pair-spec = tie.close (tie.spec (λ c. search needs) start-of-requires start-of-requires-2 (λ c κs. search needs) (λ c. search needs) returns returns-2)
+byte-of-pair-spec =
+    tie.close
+    (tie.spec
+    (λ c. search needs)
+    start-of-requires
+    start-of-requires-2
+    (λ c κs. search needs)
+    (λ c. search needs)
+    returns
+    returns-2)

@@ -31,4 +31,14 @@ returns-4 : tie.Need-returns-4
 returns-4 c = c .shared-in-order2 .ensures ∙ shared-swap _ _
 
 pub shared-byte-spec : {M : Type 1} → statement M
-shared-byte-spec = tie.close (tie.spec (λ c κs. search needs) returns (λ c κs. search needs) returns-2 shared-in-order-requires (λ c. search needs) shared-in-order-requires-2 returns-4)
+shared-byte-spec =
+    tie.close
+    (tie.spec
+    (λ c κs. search needs)
+    returns
+    (λ c κs. search needs)
+    returns-2
+    shared-in-order-requires
+    (λ c. search needs)
+    shared-in-order-requires-2
+    returns-4)

@@ -8,10 +8,27 @@ returns : tie.Need-returns
 returns c = base-shared _ _ (c .before .before .before .before .before .pre) (c .before .if1 .taken)
 
 byte-of-pair-requires : tie.Need-byte-of-pair-requires
-byte-of-pair-requires c κs = pair-of-fits (c .before .before .before .before .before .args .lower) (c .before .before .before .before .before .args .upper) (c .pair-of .result) (c .pair-of .ensures) (search needs) (search needs)
+byte-of-pair-requires c κs =
+    let start = c .before .before .before .before .before in
+    pair-of-fits (start .args .lower) (start .args .upper) (c .pair-of .result) (c .pair-of .ensures) (search needs) (search needs)
 
 returns-2 : tie.Need-returns-2
-returns-2 c = pair-shared _ _ (c .before .before .before .before .before .before .pre) (c .before .before .if1 .left) (c .before .pair-of .result) (c .before .pair-of .ensures) (c .byte-of-pair .ensures)
+returns-2 c =
+    pair-shared _ _
+    (c .before .before .before .before .before .before .pre)
+    (c .before .before .if1 .left)
+    (c .before .pair-of .result)
+    (c .before .pair-of .ensures)
+    (c .byte-of-pair .ensures)
 
 pub shared-in-order-spec : {M : Type 1} → statement M
-shared-in-order-spec = tie.close (tie.spec (λ c. search needs) (λ c. search needs) (λ c. search needs) returns (λ c κs. search needs) byte-of-pair-requires returns-2)
+shared-in-order-spec =
+    tie.close
+    (tie.spec
+    (λ c. search needs)
+    (λ c. search needs)
+    (λ c. search needs)
+    returns
+    (λ c κs. search needs)
+    byte-of-pair-requires
+    returns-2)

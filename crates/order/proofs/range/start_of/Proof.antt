@@ -6,10 +6,14 @@ use Rattle.order.proofs.range.start_of.Statement.{statement}
 use Rattle.order.proofs.range.start_of.Tie as tie
 
 mul-result : tie.Need-mul-result
-mul-result c = record { fits = omega (arith, product-fits (c .before .before .args .element) (c .before .before .args .range .stride) (c .before .before .pre) (search needs)) }
+mul-result c =
+    let a = c .before .before .args in
+    record { fits = omega (arith, product-fits (a .element) (a .range .stride) (c .before .before .pre) (search needs)) }
 
 add-result : tie.Need-add-result
-add-result c = record { fits = omega (arith, product-fits (c .before .before .args .element) (c .before .before .args .range .stride) (c .before .before .pre) (search needs)) }
+add-result c =
+    let a = c .before .before .args in
+    record { fits = omega (arith, product-fits (a .element) (a .range .stride) (c .before .before .pre) (search needs)) }
 
 pub start-of-spec : {M : Type 1} → statement M
 start-of-spec = tie.close (tie.spec (λ c. search needs) (λ c. search needs) mul-result add-result (λ c. search needs))

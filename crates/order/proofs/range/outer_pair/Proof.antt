@@ -1,9 +1,9 @@
--- `order::range::onward` meets its contract. Assumes nothing.
+-- `order::range::outer_pair` meets its contract. Assumes nothing.
 use native.Mathlib.Omega.{arith}
 use borrow.Author.Needs.{needs}
-use Rattle.order.proofs.Euclid.{sum-fits, onward-some, onward-none, onward-nothing}
-use Rattle.order.proofs.range.onward.Statement.{statement}
-use Rattle.order.proofs.range.onward.Tie as tie
+use Rattle.order.proofs.Euclid.{sum-fits, outer-some, outer-none, outer-nothing}
+use Rattle.order.proofs.range.outer_pair.Statement.{statement}
+use Rattle.order.proofs.range.outer_pair.Tie as tie
 
 add-sum : tie.Need-add-sum
 add-sum c = record { fits = omega (arith, sum-fits (c .before .pair .given .1) _ _ (c .before .before .before .pre)) }
@@ -15,15 +15,15 @@ add-sum-2 : tie.Need-add-sum-2
 add-sum-2 c = record { fits = omega (arith, sum-fits (c .before .pair .given .1) _ _ (c .before .before .before .pre)) }
 
 returns : tie.Need-returns
-returns c = onward-some (c .before .before .pair .given .1) _ _ _ (c .if1 .taken)
+returns c = outer-some (c .before .before .pair .given .1) _ _ _ (c .if1 .taken)
 
 returns-2 : tie.Need-returns-2
-returns-2 c = onward-none (c .before .before .pair .given .1) _ _ _ (c .if1 .left)
+returns-2 c = outer-none (c .before .before .pair .given .1) _ _ _ (c .if1 .left)
 
 returns-3 : tie.Need-returns-3
-returns-3 c = onward-nothing _ _ _ (c .enum-told .given .1)
+returns-3 c = outer-nothing _ _ _ (c .enum-told .given .1)
 
-pub onward-spec : {M : Type 1} → statement M
-onward-spec =
+pub outer-pair-spec : {M : Type 1} → statement M
+outer-pair-spec =
     tie.close
     (tie.spec (λ c. search needs) add-sum mul-sum add-sum-2 returns (λ c. search needs) returns-2 returns-3)
