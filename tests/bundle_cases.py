@@ -163,6 +163,8 @@ def shared_frames(seed):
     ):
         yield shared_frame(Range(*first), Range(*second))
         yield shared_frame(Range(*second), Range(*first))
+    yield from shared_small()
+    yield from shared_coprime(rng)
     for _ in range(1000):
         yield shared_frame(generators.small_range(rng), generators.small_range(rng))
     for _ in range(300):
@@ -170,6 +172,34 @@ def shared_frames(seed):
         yield shared_frame(generators.far_range(rng), generators.far_range(rng))
         yield shared_frame(generators.any_range(rng), generators.any_range(rng))
     yield from shared_bad()
+
+
+def shared_small():
+    """All pairs of small ranges: single elements, and 2 or 3 elements with strides 1 to 5, at distances 0 to 18."""
+    shapes = [(0, 1, size) for size in (1, 2, 4)]
+    shapes += [(stride, count, size) for stride, count, size in product((1, 2, 3, 5), (2, 3), (1, 2))]
+    for first, second, distance in product(shapes, shapes, range(19)):
+        yield shared_frame(Range(20, *first), Range(20 + distance, *second))
+    for first, second in product(shapes, shapes):
+        yield shared_frame(Range(27, *first), Range(20, *second))
+
+
+def shared_coprime(rng):
+    """Long ranges with strides that have no common factor, and ranges that end at the last address."""
+    for stride, other in ((997, 1009), (1000, 999), (64, 65), (65521, 65519), (3, 65534), (4096, 4095), (8, 12)):
+        for _ in range(60):
+            count, limit = rng.randint(2, 65000), rng.randint(2, 65000)
+            first = Range(rng.randrange(4000), stride, count, rng.choice((1, 2, 4, 8)))
+            second = Range(rng.randrange(70000), other, limit, rng.choice((1, 2, 4, 8)))
+            yield shared_frame(first, second)
+            yield shared_frame(second, first)
+    for _ in range(200):
+        ranges = []
+        for _ in range(2):
+            stride, count, size = rng.randint(1, 900), rng.randint(2, 900), rng.choice((1, 2, 4, 8))
+            last = sr.LAST_ADDRESS - rng.choice((0, 0, 1, rng.randrange(9000)))
+            ranges.append(Range(last - (count - 1) * stride - (size - 1), stride, count, size))
+        yield shared_frame(*ranges)
 
 
 def shared_bad():
