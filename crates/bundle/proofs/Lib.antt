@@ -1,5 +1,6 @@
 -- Laws over the definitions.
 pub mod Computing
+pub mod Examples
 pub mod Tests
 pub mod ListLaws
 pub mod Digits
