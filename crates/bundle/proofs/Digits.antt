@@ -9,11 +9,7 @@ use native.Mathlib.Omega.{arith}
 use lib.Dec.{lit<}
 use lib.ListN.{length, getD, take, drop, List·getD-append}
 use lib.Seq.{getD-append-add, drop-cons, take-add, drop-drop}
-use Rattle.bundle.specs.Commands.{lowFirst, numberAt}
-
--- every element is a byte
-abbrev pub Bytes : List ℕ → Type 0
-Bytes s = (i : ℕ) → i < length s → getD s i 0 < 256
+use Rattle.bundle.specs.Commands.{Bytes, lowFirst, numberAt}
 
 pub length-lowFirst : (k x : ℕ) → length (lowFirst k x) ≡ k
 unfolding lowFirst

@@ -12,9 +12,8 @@ use lib.Dec.{leb}
 use borrow.Author.Tests.{leb-true, leb-false, le-leb, lt-leb}
 use Rattle.bundle.specs.Answer.{Answer, gives, refuses}
 use Rattle.bundle.specs.Lists.{concatMap}
-use Rattle.bundle.specs.Commands.{Taken, bytesOf, inRange, written, decodeAt}
+use Rattle.bundle.specs.Commands.{Bytes, Taken, bytesOf, inRange, written, decodeAt}
 use Rattle.bundle.specs.Chunks.{Placed, Front, follow, frontFrom, frontOf}
-use Rattle.bundle.specs.Check.{Bytes}
 use Rattle.bundle.specs.declared.command.Command.{Command}
 use Rattle.bundle.proofs.Tests.{decide}
 use Rattle.bundle.proofs.Decoding.{known-width, first-known, length-bytes, read-decodes, decode-reads, read-next}

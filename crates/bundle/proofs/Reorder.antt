@@ -9,10 +9,10 @@ use lib.ListN.{length}
 use lib.Dec.{ltb}
 use Rattle.bundle.specs.Answer.{Answer, gives, refuses, whenGiven}
 use Rattle.bundle.specs.Lists.{all, concat, concatMap}
-use Rattle.bundle.specs.Commands.{bytesOf, inRange}
+use Rattle.bundle.specs.Commands.{Bytes, bytesOf, inRange}
 use Rattle.bundle.specs.Chunks.{Placed, Chunk, Front, frontOf, gather, chunksOf, partOf}
 use Rattle.bundle.specs.Scan.{opensSegment, addsAccess, start, scanOf, walk}
-use Rattle.bundle.specs.Check.{shapeOf, checkOf, Bytes, Accepted, Reordered}
+use Rattle.bundle.specs.Check.{shapeOf, checkOf, Accepted, Reordered}
 use Rattle.bundle.specs.declared.chunk.Scan.{Scan}
 use Rattle.bundle.specs.declared.command.Command.{Command}
 use Rattle.bundle.proofs.ListLaws.{all-elim, all-intro, perm-mem, perm-map, perm-length, perm-concatMap, concatMap-append, Distinct}

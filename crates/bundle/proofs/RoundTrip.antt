@@ -12,6 +12,7 @@ use lib.ListN.{length, getD, take, drop, length-drop, take-append-drop}
 use lib.Seq.{length-take-le, drop-cons, take-add}
 use Rattle.bundle.specs.Answer.{Answer, gives, refuses}
 use Rattle.bundle.specs.Commands.{
+  Bytes,
   Taken,
   Lent,
   lowFirst,
@@ -33,7 +34,7 @@ use Rattle.bundle.specs.declared.command.AccessKind.{AccessKind}
 use Rattle.bundle.specs.declared.command.AccessKind.the-variants as Kind
 use Rattle.bundle.specs.declared.command.Command.{Command}
 use Rattle.bundle.specs.declared.command.Command.the-variants as Com
-use Rattle.bundle.proofs.Digits.{Bytes, digits-between, digits-joined}
+use Rattle.bundle.proofs.Digits.{digits-between, digits-joined}
 use Rattle.bundle.proofs.Decoding.{
   cond-elim,
   and-left,

@@ -1,10 +1,10 @@
 -- Check a bundle, and find a member's chunk.
-use Prim.Native.Nat.{ℕ, zero, suc, _+_, _<_}
+use Prim.Native.Nat.{ℕ, zero, suc, _+_}
 use mathlib.Core.Path.{_≡_}
 use mathlib.Core.Bool.{Bool, true, false, cond, not, _&&_, _||_}
 use mathlib.Core.List.{List, [], _∷_, _++_, map, List·Permᴰ}
 use mathlib.Core.Option.{Option, none, some}
-use lib.ListN.{length, getD}
+use lib.ListN.{length}
 use lib.Dec.{eqb, ltb, leb}
 use Rattle.bundle.specs.Answer.{Answer, gives, refuses, whenGiven}
 use Rattle.bundle.specs.Lists.{upTo, any, all, first, concat, concatMap, fromOption}
@@ -112,10 +112,6 @@ checkOf s = cond (ltb 65536 (length s)) (refuses 1 0) (whenGiven (scanOf s) (λ 
 unfoldable pub findOf : List ℕ → ℕ → ℕ → Answer (List ℕ)
 findOf s t m =
     whenGiven (checkOf s) (λ u. fromOption (refuses 14 0) (λ c. gives (partOf s c)) (chunkOf (chunksOf s) t m))
-
--- a bundle's bytes are numbers below 256
-abbrev pub Bytes : List ℕ → Type 0
-Bytes s = (i : ℕ) → i < length s → getD s i 0 < 256
 
 abbrev pub Accepted : List ℕ → Type 0
 Accepted s = checkOf s ≡ gives tt

@@ -1,5 +1,5 @@
 -- Commands as bytes: "One byte, then operands of fixed width, low byte first", their ranges, reading and putting.
-use Prim.Native.Nat.{ℕ, zero, suc, _+_, _-_, _*_, _/_, _%_}
+use Prim.Native.Nat.{ℕ, zero, suc, _+_, _-_, _*_, _/_, _%_, _<_}
 use mathlib.Core.Bool.{Bool, true, false, cond, _&&_, _||_}
 use mathlib.Core.List.{List, [], _∷_, _++_}
 use lib.ListN.{length, getD, take, drop}
@@ -15,6 +15,10 @@ use Rattle.bundle.specs.declared.command.Reading.{Reading}
 use Rattle.bundle.specs.declared.command.Reading.the-variants as Read
 use Rattle.bundle.specs.declared.command.Putting.{Putting}
 use Rattle.bundle.specs.declared.command.Putting.the-variants as Put
+
+-- a list of bytes
+abbrev pub Bytes : List ℕ → Type 0
+Bytes s = (i : ℕ) → i < length s → getD s i 0 < 256
 
 -- a number of k bytes, low byte first: its bytes, and the number that stands at a position
 unfoldable pub lowFirst : ℕ → ℕ → List ℕ

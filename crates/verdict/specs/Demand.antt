@@ -7,7 +7,8 @@ use mathlib.Core.List.{List, [], _∷_, List·Memᴰ}
 use lib.ListN.{length}
 use Rattle.bundle.specs.Answer.{gives}
 use Rattle.bundle.specs.Chunks.{chunksOf}
-use Rattle.bundle.specs.Check.{Bytes, Accepted, Reordered}
+use Rattle.bundle.specs.Commands.{Bytes}
+use Rattle.bundle.specs.Check.{Accepted, Reordered}
 use Rattle.verdict.specs.Graph.{segmentsOf}
 use Rattle.verdict.specs.Races.{IsRace, accessesOf, raceBelow}
 use Rattle.verdict.specs.Judge.{judgeOf}
