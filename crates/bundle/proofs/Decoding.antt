@@ -33,20 +33,8 @@ use Rattle.bundle.specs.declared.command.AccessKind.{AccessKind}
 use Rattle.bundle.specs.declared.command.AccessKind.the-variants as Kind
 use Rattle.bundle.specs.declared.command.Command.{Command}
 use Rattle.bundle.specs.declared.command.Command.the-variants as Com
+use Rattle.bundle.proofs.Tests.{cond-elim, and-left, and-right}
 use Rattle.bundle.proofs.Digits.{number-behind, number-before}
-
--- a test's two cases
-pub cond-elim : {A : Type 0} (P : A → Type 0) (t : Bool) (a b : A) → (t ≡ true → P a) → (t ≡ false → P b) → P (cond t a b)
-cond-elim P true a b f g = f refl
-cond-elim P false a b f g = g refl
-
-pub and-left : (a b : Bool) → a && b ≡ true → a ≡ true
-and-left true b e = refl
-and-left false b e = e
-
-pub and-right : (a b : Bool) → a && b ≡ true → b ≡ true
-and-right true b e = e
-and-right false b e = absurd (true≢false (sym e))
 
 -- the bytes that begin a command
 pub data Known : ℕ → Type 0 where

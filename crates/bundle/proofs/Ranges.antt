@@ -11,7 +11,7 @@ use Rattle.bundle.specs.Commands.{sizeOk, strideOk, lastByte, rangeOk, i
 use Rattle.bundle.specs.declared.command.Range.{Range}
 use Rattle.bundle.specs.declared.command.Access.{Access}
 use Rattle.bundle.specs.declared.command.Command.the-variants as Com
-use Rattle.bundle.proofs.Decoding.{and-left, and-right}
+use Rattle.bundle.proofs.Tests.{and-left, and-right}
 
 pub record RangeParts (r : Range) : Type 0 where
   pub counted : 1 ≤ r .count

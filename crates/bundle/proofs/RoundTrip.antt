@@ -35,10 +35,8 @@ use Rattle.bundle.specs.declared.command.AccessKind.the-variants as Kind
 use Rattle.bundle.specs.declared.command.Command.{Command}
 use Rattle.bundle.specs.declared.command.Command.the-variants as Com
 use Rattle.bundle.proofs.Digits.{digits-between, digits-joined}
+use Rattle.bundle.proofs.Tests.{cond-elim, and-left, and-right}
 use Rattle.bundle.proofs.Decoding.{
-  cond-elim,
-  and-left,
-  and-right,
   Known,
   member,
   end,
