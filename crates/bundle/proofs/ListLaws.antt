@@ -38,7 +38,7 @@ use native.Mathlib.Omega.{arith}
 use lib.ListN.{length, length-append}
 use lib.Dec.{eqb}
 use borrow.Author.Tests.{eqb-true, eq-eqb}
-use Rattle.bundle.specs.Lists.{upTo, any, all, filter, first, concat, concatMap, fromOption, among}
+use Rattle.bundle.specs.Lists.{upTo, any, all, passing, first, backToBack, concatMap, fromOption, among}
 use Rattle.bundle.proofs.Tests.{false-is-true, both, and-left, and-right, or-cases, or-one, or-other, decide, not-both}
 
 module _ {A : Type 0} where
@@ -69,15 +69,15 @@ module _ {A : Type 0} where
   all-intro p [] h = refl
   all-intro p (x ∷ xs) h = both (h x (List·Memᴰ·head refl)) (all-intro p xs (λ y m. h y (List·Memᴰ·tail m)))
 
-  pub filter-elim : (p : A → Bool) {x : A} (xs : List A) → List·Memᴰ x (filter p xs) → List·Memᴰ x xs × (p x ≡ true)
-  filter-elim p [] m = absurd (List·Memᴰ·not-nil m)
-  filter-elim p {x} (y ∷ ys) m = go (filter-elim p ys) (p y) refl m
+  pub passing-elim : (p : A → Bool) {x : A} (xs : List A) → List·Memᴰ x (passing p xs) → List·Memᴰ x xs × (p x ≡ true)
+  passing-elim p [] m = absurd (List·Memᴰ·not-nil m)
+  passing-elim p {x} (y ∷ ys) m = go (passing-elim p ys) (p y) refl m
     where
       go :
-          (List·Memᴰ x (filter p ys) → List·Memᴰ x ys × (p x ≡ true))
+          (List·Memᴰ x (passing p ys) → List·Memᴰ x ys × (p x ≡ true))
           → (t : Bool)
           → p y ≡ t
-          → List·Memᴰ x (cond t (y ∷ filter p ys) (filter p ys))
+          → List·Memᴰ x (cond t (y ∷ passing p ys) (passing p ys))
           → List·Memᴰ x (y ∷ ys) × (p x ≡ true)
       go ih true e m′ =
           ⊎-elim
@@ -86,11 +86,11 @@ module _ {A : Type 0} where
           (List·Memᴰ·cases-cons m′)
       go ih false e m′ = (List·Memᴰ·tail (ih m′ .0), ih m′ .1)
 
-  pub filter-intro : (p : A → Bool) {x : A} {xs : List A} → List·Memᴰ x xs → p x ≡ true → List·Memᴰ x (filter p xs)
-  filter-intro p {x} (List·Memᴰ·head {x = y} {xs = ys} q) e = rw (ap p (sym q) ∙ e) (List·Memᴰ·head q)
-  filter-intro p {x} (List·Memᴰ·tail {x = y} {xs = ys} m) e = go (filter-intro p m e) (p y)
+  pub passing-intro : (p : A → Bool) {x : A} {xs : List A} → List·Memᴰ x xs → p x ≡ true → List·Memᴰ x (passing p xs)
+  passing-intro p {x} (List·Memᴰ·head {x = y} {xs = ys} q) e = rw (ap p (sym q) ∙ e) (List·Memᴰ·head q)
+  passing-intro p {x} (List·Memᴰ·tail {x = y} {xs = ys} m) e = go (passing-intro p m e) (p y)
     where
-      go : List·Memᴰ x (filter p ys) → (t : Bool) → List·Memᴰ x (cond t (y ∷ filter p ys) (filter p ys))
+      go : List·Memᴰ x (passing p ys) → (t : Bool) → List·Memᴰ x (cond t (y ∷ passing p ys) (passing p ys))
       go l true = List·Memᴰ·tail l
       go l false = l
 

@@ -8,7 +8,7 @@ use native.Mathlib.Omega.{arith}
 use lib.ListN.{length}
 use lib.Dec.{ltb}
 use Rattle.bundle.specs.Answer.{Answer, gives, refuses, whenGiven}
-use Rattle.bundle.specs.Lists.{all, concat, concatMap}
+use Rattle.bundle.specs.Lists.{all, backToBack, concatMap}
 use Rattle.bundle.specs.Commands.{Bytes, bytesOf, inRange}
 use Rattle.bundle.specs.Chunks.{Placed, Chunk, Front, frontOf, gather, chunksOf, partOf}
 use Rattle.bundle.specs.Scan.{opensSegment, addsAccess, start, scanOf, walk}
@@ -172,7 +172,7 @@ part-printed b bytes a c m = same-at (partOf b) (λ (d : Chunk). printed (logOf 
     parts : map (partOf b) cs ≡ map (λ (d : Chunk). printed (logOf d)) cs
     parts = subst (λ (s : List ℕ). map (partOf s) cs ≡ map (λ (d : Chunk). printed (logOf d)) cs) (sym (k .bytes)) (rw again at (part-settle [] cs))
 
-print-chunks : (f : Chunk → List ℕ) (cs : List Chunk) → ((c : Chunk) → List·Memᴰ c cs → f c ≡ printed (logOf c)) → concat (map f cs) ≡ printed (concatMap logOf cs)
+print-chunks : (f : Chunk → List ℕ) (cs : List Chunk) → ((c : Chunk) → List·Memᴰ c cs → f c ≡ printed (logOf c)) → backToBack (map f cs) ≡ printed (concatMap logOf cs)
 unfolding printed
 print-chunks f [] h = refl
 print-chunks f (c ∷ cs) h =
@@ -180,7 +180,7 @@ print-chunks f (c ∷ cs) h =
     (sym (concatMap-append bytesOf (logOf c) (concatMap logOf cs)))
 
 -- "chunks back to back": an accepted bundle is its chunks' bytes, MEMBER to END each, one after another
-pub back-to-back : (b : List ℕ) → Bytes b → Accepted b → concat (map (partOf b) (chunksOf b)) ≡ b
+pub back-to-back : (b : List ℕ) → Bytes b → Accepted b → backToBack (map (partOf b) (chunksOf b)) ≡ b
 back-to-back b bytes a = print-chunks (partOf b) (chunksOf b) (part-printed b bytes a) ∙ sym (known b bytes a .bytes)
 
 -- another order of sound chunks is sound

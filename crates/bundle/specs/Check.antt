@@ -7,7 +7,7 @@ use mathlib.Core.Option.{Option, none, some}
 use lib.ListN.{length}
 use lib.Dec.{eqb, ltb, leb}
 use Rattle.bundle.specs.Answer.{Answer, gives, refuses, whenGiven}
-use Rattle.bundle.specs.Lists.{upTo, any, all, first, concat, concatMap, fromOption}
+use Rattle.bundle.specs.Lists.{upTo, any, all, first, backToBack, concatMap, fromOption}
 use Rattle.bundle.specs.Chunks.{Placed, Chunk, fresh, afterCommand, afterCommands, chunksOf, commandsOf, partOf, isOf, chunkOf}
 use Rattle.bundle.specs.Scan.{scanOf}
 use Rattle.bundle.specs.declared.chunk.ChunkState.{ChunkState}
@@ -120,4 +120,4 @@ Accepted s = checkOf s ≡ gives tt
 pub record Reordered (b c : List ℕ) : Type 0 where
   pub order : List Chunk
   pub same-chunks : List·Permᴰ (chunksOf b) order
-  pub back-to-back : c ≡ concat (map (partOf b) order)
+  pub back-to-back : c ≡ backToBack (map (partOf b) order)

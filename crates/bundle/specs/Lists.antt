@@ -21,17 +21,17 @@ module _ {A : Type 0} where
   all p (x ∷ xs) = p x && all p xs
 
   -- the elements that pass, and the first of them
-  abbrev pub filter : (A → Bool) → List A → List A
-  filter p [] = []
-  filter p (x ∷ xs) = cond (p x) (x ∷ filter p xs) (filter p xs)
+  abbrev pub passing : (A → Bool) → List A → List A
+  passing p [] = []
+  passing p (x ∷ xs) = cond (p x) (x ∷ passing p xs) (passing p xs)
 
   abbrev pub first : (A → Bool) → List A → Option A
   first p [] = none
   first p (x ∷ xs) = cond (p x) (some x) (first p xs)
 
-  abbrev pub concat : List (List A) → List A
-  concat [] = []
-  concat (xs ∷ xss) = xs ++ concat xss
+  abbrev pub backToBack : List (List A) → List A
+  backToBack [] = []
+  backToBack (xs ∷ xss) = xs ++ backToBack xss
 
 module _ {A B : Type 0} where
   -- the lists that f gives for each element, back to back

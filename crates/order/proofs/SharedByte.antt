@@ -7,10 +7,10 @@ use mathlib.Core.Option.{Option, none, some}
 use native.Mathlib.Omega.{arith}
 use lib.Dec.{leb}
 use borrow.Author.Tests.{leb-true, leb-false}
-use Rattle.bundle.specs.Lists.{upTo, filter, among}
+use Rattle.bundle.specs.Lists.{upTo, passing, among}
 use Rattle.bundle.specs.declared.command.Range.{Range}
 use Rattle.bundle.proofs.Tests.{decide}
-use Rattle.bundle.proofs.ListLaws.{filter-elim, filter-intro, upTo-elim, upTo-intro, among-elim, among-intro, concatMap-elim, concatMap-intro}
+use Rattle.bundle.proofs.ListLaws.{passing-elim, passing-intro, upTo-elim, upTo-intro, among-elim, among-intro, concatMap-elim, concatMap-intro}
 use Rattle.order.specs.Ranges.{touched, Touches, LeastShared, leastWith, least, sharedByte}
 
 -- the list of touched bytes
@@ -65,17 +65,17 @@ SharedIs a b none = (byte : ℕ) → Touches a byte → Touches b byte → ⊥
 SharedIs a b (some w) = LeastShared a b w
 
 abbrev inBoth : Range → Range → List ℕ
-inBoth a b = filter (λ byte. among byte (touched b)) (touched a)
+inBoth a b = passing (λ byte. among byte (touched b)) (touched a)
 
 module _ (a b : Range) where
   in-both : (byte : ℕ) → Touches a byte → Touches b byte → List·Memᴰ byte (inBoth a b)
   in-both byte s t =
-      filter-intro (λ i. among i (touched b)) (touched-intro a byte s) (among-intro (touched-intro b byte t))
+      passing-intro (λ i. among i (touched b)) (touched-intro a byte s) (among-intro (touched-intro b byte t))
 
   from-least : (o : Option ℕ) → LeastIs (inBoth a b) o → SharedIs a b o
   from-least none l = λ byte s t. l byte (in-both byte s t)
   from-least (some w) l =
-      let m = filter-elim (λ byte. among byte (touched b)) (touched a) (l .0) in
+      let m = passing-elim (λ byte. among byte (touched b)) (touched a) (l .0) in
       record {
         one = touched-elim a w (m .0);
         other = touched-elim b w (among-elim (touched b) (m .1));

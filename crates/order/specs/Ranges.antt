@@ -6,7 +6,7 @@ use mathlib.Core.List.{List, [], _∷_, map}
 use mathlib.Core.Option.{Option, none, some}
 use lib.Dec.{leb}
 use Rattle.bundle.specs.Answer.{Answer, gives, refuses, numberOf}
-use Rattle.bundle.specs.Lists.{upTo, filter, concatMap, among}
+use Rattle.bundle.specs.Lists.{upTo, passing, concatMap, among}
 use Rattle.bundle.specs.Commands.{rangeOk}
 use Rattle.bundle.specs.declared.command.Range.{Range}
 use Rattle.order.specs.declared.range.Shared.{Shared}
@@ -40,7 +40,7 @@ least (n ∷ ns) = leastWith n (least ns)
 
 -- the lowest byte that both touch
 unfoldable pub sharedByte : Range → Range → Option ℕ
-sharedByte a b = least (filter (λ byte. among byte (touched b)) (touched a))
+sharedByte a b = least (passing (λ byte. among byte (touched b)) (touched a))
 
 -- "Lowest shared byte of two ranges": 5 at 1 or 2 for the first bad range, else the byte or none
 unfoldable pub sharedOf : Range → Range → Answer (Option ℕ)

@@ -6,10 +6,10 @@ use mathlib.Core.Bool.{Bool, true, not, _&&_, _||_, or-true}
 use mathlib.Core.List.{List, [], _∷_, map, List·Memᴰ, List·Memᴰ·not-nil, List·Memᴰ·cases-cons, List·Memᴰ·append-cases, Memᴰ·cast, Memᴰ·append-left, Memᴰ·append-right, Memᴰ·map, Memᴰ·of-map}
 use lib.Dec.{eqb}
 use borrow.Author.Tests.{eqb-true, eq-eqb}
-use Rattle.bundle.specs.Lists.{filter, concatMap}
+use Rattle.bundle.specs.Lists.{passing, concatMap}
 use Rattle.bundle.proofs.Tests.{false-is-true, both, and-left, and-right, or-cases, or-one, or-other, decide, not-of-false, same-test}
-use Rattle.bundle.proofs.ListLaws.{any-elim, any-intro, filter-elim, filter-intro, concatMap-elim, concatMap-intro}
-use Rattle.verdict.specs.Graph.{Node, sameNode, Border, ofChunk, ofBarrier, ofRegion, Segment, Joined, next, fork, join, barrier, Edge, Path, here, step, sameBorder, isBarrier, joins, Pair, samePair, linked, edgesOf, through, closed, closureOf, reaches}
+use Rattle.bundle.proofs.ListLaws.{any-elim, any-intro, passing-elim, passing-intro, concatMap-elim, concatMap-intro}
+use Rattle.verdict.specs.Graph.{Node, sameNode, Border, ofChunk, ofBarrier, ofRegion, Segment, Joined, next, fork, join, barrier, Edge, GraphPath, here, step, sameBorder, isBarrier, joins, Pair, samePair, linked, edgesOf, through, closed, closureOf, reaches}
 
 -- tests and records in parts
 all-three : (a b c : Bool) → (a && b && c) ≡ true → (a ≡ true) × (b ≡ true) × (c ≡ true)
@@ -150,14 +150,14 @@ linked-intro a b m = any-intro (samePair (pairOf a b)) m (both (eq-sameNode a a 
 -- a pair of the list of edges is an edge
 module _ (ss : List Segment) where
   abbrev edgesFrom : Segment → List Pair
-  edgesFrom a = map (λ (b : Segment). pairOf (a .node) (b .node)) (filter (joins a) ss)
+  edgesFrom a = map (λ (b : Segment). pairOf (a .node) (b .node)) (passing (joins a) ss)
 
   edge-elim : (p : Pair) → List·Memᴰ p (edgesOf ss) → Edge ss (p .from) (p .to)
   unfolding edgesOf
   edge-elim p m =
       let a = concatMap-elim edgesFrom ss m in
-      let b = Memᴰ·of-map (λ (b : Segment). pairOf (a .source .node) (b .node)) (filter (joins (a .source)) ss) (a .gives) in
-      let f = filter-elim (joins (a .source)) ss (b .1) in
+      let b = Memᴰ·of-map (λ (b : Segment). pairOf (a .source .node) (b .node)) (passing (joins (a .source)) ss) (a .gives) in
+      let f = passing-elim (joins (a .source)) ss (b .1) in
       record {
         from = a .source;
         to = b .0;
@@ -178,29 +178,29 @@ module _ (ss : List Segment) where
       (e .from-in)
       (Memᴰ·map
       (λ (b : Segment). pairOf (e .from .node) (b .node))
-      (filter-intro (joins (e .from)) (e .to-in) (joined-joins (e .from) (e .to) (e .joined)))))
+      (passing-intro (joins (e .from)) (e .to-in) (joined-joins (e .from) (e .to) (e .joined)))))
 
   pub edge-linked : (p : Pair) → List·Memᴰ p (edgesOf ss) ↔ Edge ss (p .from) (p .to)
   edge-linked p = (edge-elim p, edge-intro p)
 
 -- paths
 module _ {ss : List Segment} where
-  pub edge-path : {a b : Node} → Edge ss a b → Path ss a b
+  pub edge-path : {a b : Node} → Edge ss a b → GraphPath ss a b
   edge-path e = step here e
 
-  pub path-trans : {a b c : Node} → Path ss a b → Path ss b c → Path ss a c
+  pub path-trans : {a b c : Node} → GraphPath ss a b → GraphPath ss b c → GraphPath ss a c
   path-trans p here = p
   path-trans p (step q e) = step (path-trans p q) e
 
-  pub path-eq : {a b : Node} → a ≡ b → Path ss a b
-  path-eq {a} e = subst (Path ss a) e here
+  pub path-eq : {a b : Node} → a ≡ b → GraphPath ss a b
+  path-eq {a} e = subst (GraphPath ss a) e here
 
   -- a path is empty or begins with an edge
-  pub path-first : {a c : Node} → Path ss a c → (a ≡ c) ⊎ ((b : Node) × Edge ss a b × Path ss b c)
+  pub path-first : {a c : Node} → GraphPath ss a c → (a ≡ c) ⊎ ((b : Node) × Edge ss a b × GraphPath ss b c)
   path-first here = inl refl
   path-first {a} {c} (step {b = b} p e) = go (path-first p)
     where
-      go : (a ≡ b) ⊎ ((d : Node) × Edge ss a d × Path ss d b) → (a ≡ c) ⊎ ((d : Node) × Edge ss a d × Path ss d c)
+      go : (a ≡ b) ⊎ ((d : Node) × Edge ss a d × GraphPath ss d b) → (a ≡ c) ⊎ ((d : Node) × Edge ss a d × GraphPath ss d c)
       go (inl q) = inr (c, rw q e, here)
       go (inr f) = inr (f .0, f .1, step (f .2) e)
 
@@ -216,31 +216,31 @@ module _ (ps : List Pair) (k : Node) where
   isNew q = not (linked ps (q .from) (q .to))
 
   abbrev onward : Pair → List Pair
-  onward p = map (λ (q : Pair). pairOf (p .from) (q .to)) (filter fromK ps)
+  onward p = map (λ (q : Pair). pairOf (p .from) (q .to)) (passing fromK ps)
 
   abbrev joinedAt : List Pair
-  joinedAt = concatMap onward (filter toK ps)
+  joinedAt = concatMap onward (passing toK ps)
 
   through-keeps : {p : Pair} → List·Memᴰ p ps → List·Memᴰ p (through ps k)
   unfolding through
-  through-keeps m = Memᴰ·append-right (filter isNew joinedAt) m
+  through-keeps m = Memᴰ·append-right (passing isNew joinedAt) m
 
   through-joins : (a b : Node) → List·Memᴰ (pairOf a k) ps → List·Memᴰ (pairOf k b) ps → List·Memᴰ (pairOf a b) (through ps k)
   unfolding through
   through-joins a b l m =
       let self = eq-sameNode k k refl in
-      let both-in = concatMap-intro onward (filter-intro toK l self) (Memᴰ·map (λ (q : Pair). pairOf a (q .to)) (filter-intro fromK m self)) in
+      let both-in = concatMap-intro onward (passing-intro toK l self) (Memᴰ·map (λ (q : Pair). pairOf a (q .to)) (passing-intro fromK m self)) in
       ⊎-elim
       (λ t. through-keeps (linked-elim ps a b t))
-      (λ t. Memᴰ·append-left ps (filter-intro isNew both-in (not-of-false t)))
+      (λ t. Memᴰ·append-left ps (passing-intro isNew both-in (not-of-false t)))
       (decide (linked ps a b))
 
   joinedAt-elim : (a b : Node) → List·Memᴰ (pairOf a b) joinedAt → List·Memᴰ (pairOf a k) ps × List·Memᴰ (pairOf k b) ps
   joinedAt-elim a b m =
-      let p = concatMap-elim onward (filter toK ps) m in
-      let l = filter-elim toK ps (p .present) in
-      let q = Memᴰ·of-map (λ (q : Pair). pairOf (p .source .from) (q .to)) (filter fromK ps) (p .gives) in
-      let r = filter-elim fromK ps (q .1) in (
+      let p = concatMap-elim onward (passing toK ps) m in
+      let l = passing-elim toK ps (p .present) in
+      let q = Memᴰ·of-map (λ (q : Pair). pairOf (p .source .from) (q .to)) (passing fromK ps) (p .gives) in
+      let r = passing-elim fromK ps (q .1) in (
         Memᴰ·cast (pair-eq (sym (ap (λ (p : Pair). p .from) (q .2))) (sym (sameNode-true _ _ (l .1)))) (l .0),
         Memᴰ·cast (pair-eq (sym (sameNode-true _ _ (r .1))) (sym (ap (λ (p : Pair). p .to) (q .2)))) (r .0),
       )
@@ -252,9 +252,9 @@ module _ (ps : List Pair) (k : Node) where
   unfolding through
   through-cases a b m =
       ⊎-elim
-      (λ l. inr (joinedAt-elim a b (filter-elim isNew joinedAt l .0)))
+      (λ l. inr (joinedAt-elim a b (passing-elim isNew joinedAt l .0)))
       inl
-      (List·Memᴰ·append-cases (filter isNew joinedAt) m)
+      (List·Memᴰ·append-cases (passing isNew joinedAt) m)
 
   -- a pair that ends at k was there before
   through-to : (a : Node) → List·Memᴰ (pairOf a k) (through ps k) → List·Memᴰ (pairOf a k) ps
@@ -263,10 +263,10 @@ module _ (ps : List Pair) (k : Node) where
 -- what the closure links has a path, if the pairs have
 closed-path :
     (ss : List Segment) (ps : List Pair) (ks : List Node)
-    → ((a b : Node) → List·Memᴰ (pairOf a b) ps → Path ss a b)
+    → ((a b : Node) → List·Memᴰ (pairOf a b) ps → GraphPath ss a b)
     → (a b : Node)
     → List·Memᴰ (pairOf a b) (closed ps ks)
-    → Path ss a b
+    → GraphPath ss a b
 unfolding closed
 closed-path ss ps [] h = h
 closed-path ss ps (k ∷ ks) h =
@@ -303,7 +303,7 @@ nodesOf ss = map (λ (s : Segment). s .node) ss
 
 -- every node in between on a path of edges is one that the closure goes over
 module _ (ss : List Segment) where
-  path-via : {a b : Node} → Path ss a b → (a ≡ b) ⊎ Via (edgesOf ss) (nodesOf ss) a b
+  path-via : {a b : Node} → GraphPath ss a b → (a ≡ b) ⊎ Via (edgesOf ss) (nodesOf ss) a b
   path-via here = inl refl
   path-via {a} {b = c} (step {b = b} p e) = go (path-via p)
     where
@@ -317,7 +317,7 @@ module _ (ss : List Segment) where
 
   module _ (a b : Node) where
     -- the test says whether there is a path
-    pub reaches-path : reaches (closureOf ss) a b ≡ true → Path ss a b
+    pub reaches-path : reaches (closureOf ss) a b ≡ true → GraphPath ss a b
     unfolding reaches closureOf
     reaches-path e =
         ⊎-elim
@@ -328,7 +328,7 @@ module _ (ss : List Segment) where
         a b (linked-elim (closureOf ss) a b t))
         (or-cases (sameNode a b) (linked (closureOf ss) a b) e)
 
-    pub path-reaches : Path ss a b → reaches (closureOf ss) a b ≡ true
+    pub path-reaches : GraphPath ss a b → reaches (closureOf ss) a b ≡ true
     unfolding reaches closureOf
     path-reaches p =
         ⊎-elim
@@ -337,5 +337,5 @@ module _ (ss : List Segment) where
         (path-via p)
 
     -- a test that says the same is the same
-    pub reaches-is : (t : Bool) → (t ≡ true → Path ss a b) → (Path ss a b → t ≡ true) → t ≡ reaches (closureOf ss) a b
+    pub reaches-is : (t : Bool) → (t ≡ true → GraphPath ss a b) → (GraphPath ss a b → t ≡ true) → t ≡ reaches (closureOf ss) a b
     reaches-is t f g = same-test t (reaches (closureOf ss) a b) (λ e. path-reaches (f e)) (λ e. g (reaches-path e))

@@ -5,7 +5,7 @@ use lib.ListN.{length, length-map}
 use Rattle.bundle.specs.Chunks.{Chunk, fresh}
 use Rattle.bundle.proofs.ListLaws.{perm-mem, perm-length, perm-concatMap, Distinct, concatMap-map}
 use Rattle.bundle.proofs.Places.{unplaced, memberKey, commandsOf-unplaced}
-use Rattle.verdict.specs.Graph.{Node, Segment, Path, here, step, ofChunk, segmentsFrom, segmentsIn, segmentsOf}
+use Rattle.verdict.specs.Graph.{Node, Segment, GraphPath, here, step, ofChunk, segmentsFrom, segmentsIn, segmentsOf}
 use Rattle.verdict.specs.Races.{IsRace, accessesFrom, accessesIn, accessesOf, racesOf}
 use Rattle.verdict.specs.Judge.{judgementOf}
 use Rattle.verdict.specs.declared.race.Race.{Race}
@@ -31,7 +31,7 @@ accesses-unplaced cs = concatMap-map accessesIn unplaced accessesIn-unplaced cs
 
 -- a path needs only its segments
 pub path-among :
-    {ss us : List Segment} {a b : Node} → ((s : Segment) → List·Memᴰ s ss → List·Memᴰ s us) → Path ss a b → Path us a b
+    {ss us : List Segment} {a b : Node} → ((s : Segment) → List·Memᴰ s ss → List·Memᴰ s us) → GraphPath ss a b → GraphPath us a b
 path-among f here = here
 path-among f (step p e) =
     step (path-among f p)
@@ -57,7 +57,7 @@ unfolding accessesOf
 accesses-perm cs ds d = rw (accesses-unplaced cs, accesses-unplaced ds) at (perm-concatMap accessesIn d)
 
 -- what holds of the one holds of the other: for the way back give Permᴰ·symm
-pub same-path : (cs ds : List Chunk) → SameChunks cs ds → {a b : Node} → Path (segmentsOf cs) a b → Path (segmentsOf ds) a b
+pub same-path : (cs ds : List Chunk) → SameChunks cs ds → {a b : Node} → GraphPath (segmentsOf cs) a b → GraphPath (segmentsOf ds) a b
 same-path cs ds same p = path-among (λ s m. perm-mem (segments-perm cs ds same) m) p
 
 pub same-race : (cs ds : List Chunk) → SameChunks cs ds → {r : Race} → IsRace cs r → IsRace ds r

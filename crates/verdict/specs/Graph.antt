@@ -4,7 +4,7 @@ use mathlib.Core.Path.{_≡_}
 use mathlib.Core.Bool.{Bool, true, false, not, _&&_, _||_}
 use mathlib.Core.List.{List, [], _∷_, _++_, map, List·Memᴰ}
 use lib.Dec.{eqb}
-use Rattle.bundle.specs.Lists.{any, filter, concatMap}
+use Rattle.bundle.specs.Lists.{any, passing, concatMap}
 use Rattle.bundle.specs.Chunks.{Chunk, fresh, afterCommand, segmentNumber, commandsOf}
 use Rattle.bundle.specs.declared.chunk.ChunkState.{ChunkState}
 use Rattle.bundle.specs.declared.command.Command.{Command}
@@ -86,9 +86,9 @@ pub record Edge (segments : List Segment) (a b : Node) : Type 0 where
   pub joined : Joined from to
 
 -- "A path may be empty, so a segment reaches itself"
-pub data Path (segments : List Segment) (a : Node) : Node → Type 0 where
-  here : Path segments a a
-  step : {b c : Node} → Path segments a b → Edge segments b c → Path segments a c
+pub data GraphPath (segments : List Segment) (a : Node) : Node → Type 0 where
+  here : GraphPath segments a a
+  step : {b c : Node} → GraphPath segments a b → Edge segments b c → GraphPath segments a c
 
 -- the same as tests that compute
 unfoldable pub sameBorder : Border → Border → Bool
@@ -130,16 +130,16 @@ linked ps a b = any (samePair (record { from = a; to = b })) ps
 -- the edges as pairs of nodes
 unfoldable pub edgesOf : List Segment → List Pair
 edgesOf ss =
-    concatMap (λ (a : Segment). map (λ (b : Segment). record { from = a .node; to = b .node }) (filter (joins a) ss)) ss
+    concatMap (λ (a : Segment). map (λ (b : Segment). record { from = a .node; to = b .node }) (passing (joins a) ss)) ss
 
 -- one pass of Warshall's algorithm: the pairs, and those that are joined through the node k
 unfoldable pub through : List Pair → Node → List Pair
 through ps k =
-    filter (λ (q : Pair). not (linked ps (q .from) (q .to)))
+    passing (λ (q : Pair). not (linked ps (q .from) (q .to)))
     (concatMap
     (λ (p : Pair).
-    map (λ (q : Pair). record { from = p .from; to = q .to }) (filter (λ (q : Pair). sameNode (q .from) k) ps))
-    (filter (λ (p : Pair). sameNode (p .to) k) ps))
+    map (λ (q : Pair). record { from = p .from; to = q .to }) (passing (λ (q : Pair). sameNode (q .from) k) ps))
+    (passing (λ (p : Pair). sameNode (p .to) k) ps))
     ++ ps
 
 unfoldable pub closed : List Pair → List Node → List Pair

@@ -16,7 +16,7 @@ use Rattle.bundle.specs.declared.command.Access.{Access}
 use Rattle.bundle.specs.declared.command.Command.{Command}
 use Rattle.bundle.specs.declared.command.Command.the-variants as Com
 use Rattle.order.specs.Ranges.{Touches, sharedByte}
-use Rattle.verdict.specs.Graph.{Node, Segment, Pair, Path, nodeAt, segmentsOf, closureOf, reaches}
+use Rattle.verdict.specs.Graph.{Node, Segment, Pair, GraphPath, nodeAt, segmentsOf, closureOf, reaches}
 use Rattle.verdict.specs.declared.race.Name.{Name}
 use Rattle.verdict.specs.declared.race.Race.{Race}
 
@@ -100,8 +100,8 @@ pub record IsRace (chunks : List Chunk) (r : Race) : Type 0 where
   pub writing : (writes (one .access .kind) ≡ true) ⊎ (writes (other .access .kind) ≡ true)
   pub not-atomic : atomic (one .access .kind) ≡ true → atomic (other .access .kind) ≡ true → ⊥
   pub no-lock : (lock : ℕ) → lock < 64 → holds lock (one .locks) ≡ true → holds lock (other .locks) ≡ true → ⊥
-  pub no-path : Path (segmentsOf chunks) (one .node) (other .node) → ⊥
-  pub no-path-back : Path (segmentsOf chunks) (other .node) (one .node) → ⊥
+  pub no-path : GraphPath (segmentsOf chunks) (one .node) (other .node) → ⊥
+  pub no-path-back : GraphPath (segmentsOf chunks) (other .node) (one .node) → ⊥
   pub one-touches : Touches (one .access .range) (r .witness)
   pub other-touches : Touches (other .access .range) (r .witness)
   pub lowest : (byte : ℕ) → byte < r .witness → Touches (one .access .range) byte → Touches (other .access .range) byte → ⊥

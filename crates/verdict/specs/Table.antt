@@ -23,11 +23,11 @@ use Rattle.verdict.specs.declared.race.Judgement.{Judgement}
 
 -- what an operation is asked, and what it answers
 pub data Question : Type 0 where
-  judge : List ℕ → Question
-  label : List ℕ → ℕ → ℕ → ℕ → Question
-  compare : List Triple → List Triple → Question
-  share : Range → Range → Question
-  read : List ℕ → ℕ → Question
+  judging : List ℕ → Question
+  labelling : List ℕ → ℕ → ℕ → ℕ → Question
+  comparing : List Triple → List Triple → Question
+  sharing : Range → Range → Question
+  reading : List ℕ → ℕ → Question
 
 pub data Reply : Type 0 where
   judged : Answer Judgement → Reply
@@ -44,11 +44,11 @@ unfoldable pub lent : List Triple → Label
 lent ts = record { count = length ts; triples = take 5 (ts ++ replicate 5 (triple 0 0 0)) }
 
 unfoldable pub answered : Question → Reply
-answered (judge s) = judged (judgedOf s)
-answered (label s t m n) = labelled (labelOf s t m n)
-answered (compare a b) = compared (compareOf (lent a) (lent b))
-answered (share a b) = shared (sharedOf a b)
-answered (read s at) = taken (readAt s at)
+answered (judging s) = judged (judgedOf s)
+answered (labelling s t m n) = labelled (labelOf s t m n)
+answered (comparing a b) = compared (compareOf (lent a) (lent b))
+answered (sharing a b) = shared (sharedOf a b)
+answered (reading s at) = taken (readAt s at)
 
 -- E's chunks: the root, member 0 and member 1 of team 1, and member 1 with its read after its barrier
 unfoldable pub root : List ℕ
@@ -94,12 +94,12 @@ row q w = record { question = q; wanted = w }
 
 -- a comparison after a common (0,1,0)
 unfoldable pub after : List Triple → List Triple → Order → Row
-after a b o = row (compare (triple 0 1 0 ∷ a) (triple 0 1 0 ∷ b)) (compared (gives o))
+after a b o = row (comparing (triple 0 1 0 ∷ a) (triple 0 1 0 ∷ b)) (compared (gives o))
 
 unfoldable pub table : List Row
 table =
     -- P1 to P3
-    row (judge E)
+    row (judging E)
     (counts 3 6 2 1
     (Ver.Least
     (record {
@@ -109,11 +109,11 @@ table =
       second = record { team = 1; member = 1; number = 0 };
       «second_site» = 20;
     })))
-    ∷ row (judge (root ++ member0 ++ member1-later)) (counts 3 6 2 0 Ver.RaceFree)
-    ∷ row (judge []) (judged (refuses 10 0))
+    ∷ row (judging (root ++ member0 ++ member1-later)) (counts 3 6 2 0 Ver.RaceFree)
+    ∷ row (judging []) (judged (refuses 10 0))
     -- P4, P5
-    ∷ row (label E 0 0 1) (labelled (gives (triple 1 1 0 ∷ [])))
-    ∷ row (label E 1 1 1) (labelled (gives (triple 0 1 0 ∷ triple 1 2 1 ∷ [])))
+    ∷ row (labelling E 0 0 1) (labelled (gives (triple 1 1 0 ∷ [])))
+    ∷ row (labelling E 1 1 1) (labelled (gives (triple 0 1 0 ∷ triple 1 2 1 ∷ [])))
     -- P6 to P10
     ∷ after (triple 0 2 0 ∷ []) (triple 1 2 0 ∷ []) Ord.Concurrent
     ∷ after (triple 0 2 0 ∷ []) (triple 2 2 0 ∷ []) Ord.Before
@@ -121,10 +121,10 @@ table =
     ∷ after (triple 0 2 0 ∷ []) (triple 1 2 1 ∷ []) Ord.Before
     ∷ after (triple 0 2 0 ∷ triple 0 2 1 ∷ []) (triple 1 2 0 ∷ []) Ord.Concurrent
     -- P11 to P13
-    ∷ row (share (range 0 8 4 4) (range 4 8 4 4)) (shared (gives none))
-    ∷ row (share (range 0 8 4 4) (range 4 0 1 8)) (shared (gives (some 8)))
-    ∷ row (share (range 0 3 3 1) (range 1 2 3 1)) (shared (gives (some 3)))
+    ∷ row (sharing (range 0 8 4 4) (range 4 8 4 4)) (shared (gives none))
+    ∷ row (sharing (range 0 8 4 4) (range 4 0 1 8)) (shared (gives (some 8)))
+    ∷ row (sharing (range 0 3 3 1) (range 1 2 3 1)) (shared (gives (some 3)))
     -- P14
-    ∷ row (read (lastRead 1) 0) (taken (gives lastTaken))
-    ∷ row (read (lastRead 2) 0) (taken (refuses 5 0))
+    ∷ row (reading (lastRead 1) 0) (taken (gives lastTaken))
+    ∷ row (reading (lastRead 2) 0) (taken (refuses 5 0))
     ∷ []
