@@ -12,12 +12,11 @@ use lib.ListN.{length, getD}
 use Rattle.bundle.specs.Answer.{refuses}
 use Rattle.bundle.specs.Commands.{numberAt, kindOf, byteOf, widthOf, accessAt, commandAt, decodeByte, decodeAt, ranged, readAt}
 use Rattle.bundle.specs.Inner.{StandsAt, AccessAt, RangeAt}
-use Rattle.bundle.specs.declared.command.AccessKind.{AccessKind}
 use Rattle.bundle.specs.declared.command.AccessKind.the-variants as Kind
 use Rattle.bundle.specs.declared.command.Access.{Access}
 use Rattle.bundle.specs.declared.command.Command.{Command}
 use Rattle.bundle.specs.declared.command.Command.the-variants as Com
-use Rattle.bundle.proofs.Decoding.{Known, member, end, region, barrier, acquire, release, access, access-elim, access-width, known-width, width-known}
+use Rattle.bundle.proofs.Decoding.{Known, member, end, region, barrier, acquire, release, access, access-elim, access-width, access-at, known-width, width-known}
 
 pub read-past : (s : List ℕ) (at : ℕ) → length s ≤ at → refuses 18 at ≡ readAt s at
 unfolding readAt decodeAt
@@ -57,17 +56,6 @@ module _ {b : ℕ} (s : List ℕ) (at : ℕ) (stands : StandsAt s at b) where
         ← e,
       ))
 
--- the bytes 0x30 to 0x33 begin an access
-access-command : (s : List ℕ) (at b : ℕ) → 0x30 ≤ b → b < 0x34 → commandAt s at b ≡ Com.Access (accessAt s at b)
-unfolding commandAt byteOf
-access-command s at = access-elim (λ (b : ℕ). commandAt s at b ≡ Com.Access (accessAt s at b)) go
-  where
-    go : (k : AccessKind) → commandAt s at (byteOf k) ≡ Com.Access (accessAt s at (byteOf k))
-    go Kind.Read = refl
-    go Kind.Write = refl
-    go Kind.AtomicRead = refl
-    go Kind.AtomicWrite = refl
-
 module _ (s : List ℕ) (at : ℕ) (stands : AccessAt s at) where
   access-stands : StandsAt s at (getD s at 0)
   access-stands = record { within = stands .within; byte = refl }
@@ -101,7 +89,7 @@ module _ (s : List ℕ) (at : ℕ) (stands : AccessAt s at) where
       in
       ap (λ (m : ℕ). ranged at (record { command = Com.Access a; next = at + m })) w
       ∙ read-whole s at access-stands (Com.Access a) access-known (omega arith)
-      (ap Com.Access parts ∙ sym (access-command s at (getD s at 0) (stands .low) (stands .high)))
+      (ap Com.Access parts ∙ sym (access-elim (λ (b : ℕ). commandAt s at b ≡ Com.Access (accessAt s at b)) (access-at s at) (getD s at 0) (stands .low) (stands .high)))
 
 -- no other byte begins a command
 pub not-known : {b : ℕ} → (b ≡ 0x01 → ⊥) → (b ≡ 0x02 → ⊥) → (b ≡ 0x10 → ⊥) → (b ≡ 0x11 → ⊥) → (b ≡ 0x20 → ⊥) → (b ≡ 0x21 → ⊥)

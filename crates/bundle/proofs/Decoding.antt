@@ -3,7 +3,7 @@
 -- Assumes nothing.
 use mathlib.Core.Path.{_≡_, refl, sym, ap, ap₂, subst, _∙_}
 use mathlib.Core.Bool.{Bool, true, false, cond, _&&_, true≢false}
-use mathlib.Core.List.{List, [], _∷_, _++_}
+use mathlib.Core.List.{List, _++_}
 use Prim.Native.Nat.{ℕ, zero, suc, _+_, _-_, _≤_, _<_}
 use native.Mathlib.Nat.{add-assoc, zero-add, suc-add}
 use native.Mathlib.Decide.{ℕ-discrete}
@@ -16,7 +16,6 @@ use Rattle.bundle.specs.Answer.{Answer, gives, refuses, whenGiven}
 use Rattle.bundle.specs.Commands.{
   Taken,
   lowFirst,
-  numberAt,
   kindOf,
   byteOf,
   widthOf,
@@ -121,6 +120,21 @@ length-bytes Com.Barrier = refl
 length-bytes (Com.Acquire l) = refl
 length-bytes (Com.Release l) = refl
 length-bytes (Com.Access a) = access-width (a .kind)
+
+pub kind-byte : (k : AccessKind) → kindOf (byteOf k) ≡ k
+unfolding kindOf byteOf
+kind-byte Kind.Read = refl
+kind-byte Kind.Write = refl
+kind-byte Kind.AtomicRead = refl
+kind-byte Kind.AtomicWrite = refl
+
+-- their bytes begin an access
+pub access-at : (s : List ℕ) (at : ℕ) (k : AccessKind) → commandAt s at (byteOf k) ≡ Com.Access (accessAt s at (byteOf k))
+unfolding commandAt byteOf
+access-at s at Kind.Read = refl
+access-at s at Kind.Write = refl
+access-at s at Kind.AtomicRead = refl
+access-at s at Kind.AtomicWrite = refl
 
 -- what it means that the command t is decoded at a position
 pub record Decoded (s : List ℕ) (at : ℕ) (t : Taken) : Type 0 where

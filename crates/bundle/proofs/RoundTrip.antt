@@ -3,21 +3,19 @@
 use mathlib.Core.Path.{_≡_, refl, sym, ap, ap₂, _∙_}
 use mathlib.Core.Bool.{Bool, true, false, cond, _&&_}
 use mathlib.Core.List.{List, [], _∷_, _++_, append-assoc}
-use Prim.Native.Nat.{ℕ, _+_, _-_, _^_, _≤_, _<_}
-use native.Mathlib.Nat.{add-zero, zero-add, add-sub-cancel-left}
+use Prim.Native.Nat.{ℕ, _+_, _-_, _≤_, _<_}
 use native.Mathlib.Omega.{arith}
-use borrow.Author.Tests.{leb-true, leb-false, ltb-true, le-leb}
+use borrow.Author.Tests.{leb-true, ltb-true, le-leb}
 use lib.Dec.{ltb, leb}
 use lib.ListN.{length, getD, take, drop, length-drop, take-append-drop}
 use lib.Seq.{length-take-le, drop-cons, take-add}
-use Rattle.bundle.specs.Answer.{Answer, gives, refuses}
+use Rattle.bundle.specs.Answer.{gives, refuses}
 use Rattle.bundle.specs.Commands.{
   Bytes,
   Taken,
   Lent,
   lowFirst,
   numberAt,
-  kindOf,
   byteOf,
   widthOf,
   accessAt,
@@ -25,7 +23,6 @@ use Rattle.bundle.specs.Commands.{
   bytesOf,
   inRange,
   rangeOk,
-  decodeAt,
   readAt,
   written,
   putAt,
@@ -47,6 +44,8 @@ use Rattle.bundle.proofs.Decoding.{
   access,
   known-width,
   first-known,
+  access-at,
+  kind-byte,
   access-width,
   length-bytes,
   shifted,
@@ -69,11 +68,16 @@ command-access : (s : List ℕ) (at : ℕ) (k : AccessKind)
       range =
           record { base = numberAt 4 s (at + 3); stride = numberAt 2 s (at + 7); count = numberAt 2 s (at + 9); size = numberAt 1 s (at + 11) };
     })
-unfolding commandAt accessAt kindOf byteOf
-command-access s at Kind.Read = refl
-command-access s at Kind.Write = refl
-command-access s at Kind.AtomicRead = refl
-command-access s at Kind.AtomicWrite = refl
+unfolding accessAt
+command-access s at k =
+    access-at s at k
+    ∙ (λ i. Com.Access
+    (record {
+      kind = kind-byte k i;
+      site = numberAt 2 s (at + 1);
+      range =
+          record { base = numberAt 4 s (at + 3); stride = numberAt 2 s (at + 7); count = numberAt 2 s (at + 9); size = numberAt 1 s (at + 11) };
+    }))
 
 -- a command's bytes say the command
 bytes-say : (c : Command) → inRange c ≡ true → c ≡ commandAt (bytesOf c) 0 (getD (bytesOf c) 0 0)

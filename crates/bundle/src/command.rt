@@ -118,7 +118,9 @@ fn two_bytes(bytes: &[u8], at: usize) -> u16
     requires { ⌜ at + 2 ≤ length (now bytes) ⌝ }
     ensures { λ r. ⌜ r ≡ numberAt 2 (now (bytes .entry)) at ⌝ }
 {
-    (bytes[at] as u16) + 256 * (bytes[at + 1] as u16)
+    let low = bytes[at];
+    let high = bytes[at + 1];
+    (low as u16) + 256 * (high as u16)
 }
 
 // The number of four bytes at a position, low byte first.

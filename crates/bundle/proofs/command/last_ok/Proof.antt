@@ -7,17 +7,25 @@ use Rattle.bundle.proofs.command.last_ok.Statement.{statement}
 use Rattle.bundle.proofs.command.last_ok.Tie as tie
 
 mul-result : tie.Need-mul-result
-mul-result c = record { fits = omega (arith, steps-fit (c .before .before .before .before .args .range .count) (c .before .before .before .before .args .range .stride) (search needs) (search needs)) }
+mul-result c =
+    let r = c .before .before .before .before .args .range in
+    record { fits = omega (arith, steps-fit (r .count) (r .stride) (search needs) (search needs)) }
 
 add-result : tie.Need-add-result
-add-result c = record { fits = omega (arith, steps-fit (c .before .before .before .before .args .range .count) (c .before .before .before .before .args .range .stride) (search needs) (search needs)) }
+add-result c =
+    let r = c .before .before .before .before .args .range in
+    record { fits = omega (arith, steps-fit (r .count) (r .stride) (search needs) (search needs)) }
 
 add-result-2 : tie.Need-add-result-2
-add-result-2 c = record { fits = omega (arith, steps-fit (c .before .before .before .before .args .range .count) (c .before .before .before .before .args .range .stride) (search needs) (search needs)) }
+add-result-2 c =
+    let r = c .before .before .before .before .args .range in
+    record { fits = omega (arith, steps-fit (r .count) (r .stride) (search needs) (search needs)) }
 
 returns : tie.Need-returns
 unfolding lastByte
-returns c = fit-both _ (c .before .before .before .before .args .range .stride) (c .before .before .before .before .args .range .count) (search needs) (search needs)
+returns c =
+    let r = c .before .before .before .before .args .range in
+    fit-both _ (r .stride) (r .count) (search needs) (search needs)
 
 pub last-ok-spec : {M : Type 1} → statement M
 last-ok-spec =

@@ -16,7 +16,10 @@ fits-requires : tie.Need-fits-requires
 fits-requires c κs = encoded-length _ (c .before .encode .ensures) .0
 
 returns-2 : tie.Need-returns-2
-returns-2 c = put-no-room _ (c .before .before .before .encode .ensures) _ _ (sym (c .before .before .before .before .before .in-range .ensures) ∙ not-false _ (c .before .before .before .before .if1 .left)) (sym (c .before .fits2 .ensures) ∙ not-true _ (c .if2 .taken))
+returns-2 c =
+    let coded = c .before .before .before in
+    let ranged = sym (coded .before .before .in-range .ensures) ∙ not-false _ (coded .before .if1 .left) in
+    put-no-room _ (coded .encode .ensures) _ _ ranged (sym (c .before .fits2 .ensures) ∙ not-true _ (c .if2 .taken))
 
 array-share-prefix-bytes : tie.Need-array-share-prefix-bytes
 array-share-prefix-bytes c = c .before .before .before .encode .ensures .within
@@ -25,13 +28,31 @@ slice-aggregate-copy-in : tie.Need-slice-aggregate-copy-in
 slice-aggregate-copy-in c = encoded-prefix _ (c .before .before .before .before .encode .ensures)
 
 copy-in-requires : tie.Need-copy-in-requires
-copy-in-requires c κs = rw (← encoded-prefix _ (c .before .before .before .before .before .encode .ensures)) (room _ (c .before .before .before .before .before .encode .ensures) _ _ (sym (c .before .before .before .fits2 .ensures) ∙ not-false _ (c .before .before .if2 .left)))
+copy-in-requires c κs =
+    let left = c .before .before in
+    let coded = left .before .before .before in
+    rw (← encoded-prefix _ (coded .encode .ensures))
+    (room _ (coded .encode .ensures) _ _ (sym (left .before .fits2 .ensures) ∙ not-false _ (left .if2 .left)))
 
 add-t10 : tie.Need-add-t10
-add-t10 c = omega (arith, room _ (c .before .before .before .before .before .before .before .before .encode .ensures) (length (now (c .before .before .before .before .before .before .before .before .before .before .before .before .args .buffer))) (c .before .before .before .before .before .before .before .before .before .before .before .before .args .position) (sym (c .before .before .before .before .before .before .fits2 .ensures) ∙ not-false _ (c .before .before .before .before .before .if2 .left)))
+add-t10 c =
+    let left = c .before .before .before .before .before in
+    let coded = left .before .before .before in
+    let start = coded .before .before .before .before in
+    omega (
+      arith,
+      room _ (coded .encode .ensures) (length (now (start .args .buffer))) (start .args .position)
+          (sym (left .before .fits2 .ensures) ∙ not-false _ (left .if2 .left)),
+    )
 
 returns-3 : tie.Need-returns-3
-returns-3 c = put-written _ (c .before .before .before .before .before .before .before .before .encode .ensures) _ _ _ (sym (c .before .before .before .before .before .before .before .before .before .before .in-range .ensures) ∙ not-false _ (c .before .before .before .before .before .before .before .before .before .if1 .left)) (sym (c .before .before .before .before .before .before .fits2 .ensures) ∙ not-false _ (c .before .before .before .before .before .if2 .left)) (c .before .before .copy-in .ensures)
+returns-3 c =
+    let left = c .before .before .before .before .before in
+    let coded = left .before .before .before in
+    put-written _ (coded .encode .ensures) _ _ _
+    (sym (coded .before .before .in-range .ensures) ∙ not-false _ (coded .before .if1 .left))
+    (sym (left .before .fits2 .ensures) ∙ not-false _ (left .if2 .left))
+    (c .before .before .copy-in .ensures)
 
 pub put-command-spec : {M : Type 1} → statement M
 put-command-spec =

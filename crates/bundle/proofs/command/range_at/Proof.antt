@@ -1,5 +1,5 @@
 -- `bundle::command::range_at` meets its contract. Assumes nothing.
-use mathlib.Core.Path.{sym, _∙_}
+use mathlib.Core.Path.{sym}
 use Rattle.bundle.proofs.Digits.{number-one}
 use borrow.Author.Needs.{needs}
 use Rattle.bundle.proofs.command.range_at.Statement.{statement}

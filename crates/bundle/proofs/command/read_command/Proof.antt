@@ -13,11 +13,15 @@ returns c = read-past _ _ (c .if1 .taken)
 
 returns-3 : tie.Need-returns-3
 unfolding widthOf commandAt
-returns-3 c = c .accept .ensures ∙ read-whole _ _ (record { within = c .before .before .before .if1 .left; byte = c .before .match .keys2 }) _ end (search needs) refl
+returns-3 c =
+    c .accept .ensures
+    ∙ read-whole _ _ (record { within = c .before .before .before .if1 .left; byte = c .before .match .keys2 }) _ end (search needs) refl
 
 returns-5 : tie.Need-returns-5
 unfolding widthOf commandAt
-returns-5 c = c .accept2 .ensures ∙ read-whole _ _ (record { within = c .before .before .before .if1 .left; byte = c .before .match .keys4 }) _ barrier (search needs) refl
+returns-5 c =
+    c .accept2 .ensures
+    ∙ read-whole _ _ (record { within = c .before .before .before .if1 .left; byte = c .before .match .keys4 }) _ barrier (search needs) refl
 
 returns-9 : tie.Need-returns-9
 returns-9 c =
