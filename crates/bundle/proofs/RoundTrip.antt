@@ -28,7 +28,6 @@ use Rattle.bundle.specs.Commands.{
   putAt,
 }
 use Rattle.bundle.specs.declared.command.AccessKind.{AccessKind}
-use Rattle.bundle.specs.declared.command.AccessKind.the-variants as Kind
 use Rattle.bundle.specs.declared.command.Command.{Command}
 use Rattle.bundle.specs.declared.command.Command.the-variants as Com
 use Rattle.bundle.proofs.Digits.{digits-between, digits-joined}
