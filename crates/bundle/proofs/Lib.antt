@@ -16,3 +16,5 @@ pub mod Failing
 pub mod Shape
 pub mod Arms
 pub mod Copying
+pub mod Tables
+pub mod RowTests

@@ -7,3 +7,4 @@ pub mod Locks
 pub mod Chunks
 pub mod Scan
 pub mod Check
+pub mod Rows
