@@ -1,5 +1,5 @@
 -- The tests 8 to 12 over rows, one law for each answer of the code.
-use Prim.Native.Nat.{ℕ, zero, suc, _+_, _-_, _≤_, _<_}
+use Prim.Native.Nat.{ℕ, zero, suc, _+_, _-_, _%_, _≤_, _<_}
 use mathlib.Core.Path.{_≡_, refl, sym, _∙_, ap}
 use mathlib.Core.Bool.{Bool, true, false, cond, not, _&&_, _||_}
 use mathlib.Core.List.{List, [], _∷_, _++_, map, map-append}
@@ -12,8 +12,11 @@ use lib.Seq.{drop-cons, drop-length, take-suc}
 use borrow.Author.Tests.{le-leb, lt-leb}
 use Rattle.bundle.specs.Answer.{Answer, gives, refuses, whenGiven}
 use Rattle.bundle.specs.Lists.{upTo, any, all, first}
-use Rattle.bundle.specs.Check.{failing, refusedAt}
+use Rattle.bundle.specs.Check.{failing, refusedAt, checkingOf}
 use Rattle.bundle.specs.Rows.{rowOf, rowsOf, isRow, sizeByRows, lacksRow, climbs, failsRow, testNumber, testOf}
+use Rattle.bundle.specs.declared.refusal.Cause.{Cause}
+use Rattle.bundle.specs.declared.check.Checking.{Checking}
+use Rattle.bundle.specs.declared.check.Checking.the-variants as Checks
 use Rattle.bundle.specs.declared.rows.Row.{Row}
 use Rattle.bundle.specs.declared.structure.Test.{Test}
 use Rattle.bundle.specs.declared.structure.Test.the-variants.{ForkedBefore, Stray, LacksChunk, TooDeep, UnlikeFirst}
@@ -42,7 +45,7 @@ all-last p [] x = last (p x)
     last : (b : Bool) → (b && true) ≡ b
     last true = refl
     last false = refl
-all-last p (y ∷ ys) x = rw all-last p ys x (assoc (p y) (all p ys) (p x))
+all-last p (y ∷ ys) x = rw (all-last p ys x) (assoc (p y) (all p ys) (p x))
   where
     assoc : (a b c : Bool) → (a && (b && c)) ≡ ((a && b) && c)
     assoc true b c = refl
@@ -90,10 +93,21 @@ module _ (fs : List Row) (t n : ℕ) where
   pub climbs-goes : (n ≡ 0 → ⊥) → (r : Row) → first (isRow t 0) fs ≡ some r → climbs (n - 1) fs (r .other) ≡ climbs n fs t
   climbs-goes ne r e = sym (climbs-one ne ∙ unfold climbs in (rw e))
 
+-- a test's answer: a refusal stays, and what passes goes on to the next
+pub test-refused :
+    {r : Checking} {cause : Cause} {place : ℕ} {a : Answer (Unit {0})} (next : Unit {0} → Answer (Unit {0}))
+    → checkingOf r ≡ a
+    → r ≡ Checks.Refused cause place
+    → checkingOf r ≡ whenGiven a next
+test-refused next e q = rw (← e, q)
+
+pub test-passed : {r : Checking} {a : Answer (Unit {0})} → checkingOf r ≡ a → r ≡ Checks.Accepted → a ≡ gives tt
+test-passed e q = sym e ∙ ap checkingOf q
+
 -- a test sees of the rows before only whether some row passes
 any-append : (p : Row → Bool) (xs : List Row) (x : Row) → any p (xs ++ (x ∷ [])) ≡ (p x || any p xs)
 any-append p [] x = refl
-any-append p (y ∷ ys) x = rw any-append p ys x (swap (p y) (p x) (any p ys))
+any-append p (y ∷ ys) x = rw (any-append p ys x) (swap (p y) (p x) (any p ys))
   where
     swap : (a b c : Bool) → (a || (b || c)) ≡ (b || (a || c))
     swap true true c = refl
@@ -143,20 +157,29 @@ module _ (test : Test) (ws : List ℕ) (cs fs : List Row) where
         ∙ rw (drop-cons ws i 0 h)
         (unfold failing rowsOf in (rw (fails-same test cs fs (q .before) (rowsOf (take i ws)) (rowOf (getD ws i 0)) (q .same))))
 
-    pub passed-more : failsRow test cs fs (rowsOf (take i ws)) (rowOf (getD ws i 0)) ≡ false → Passed (i + 1)
-    passed-more e =
-        record {
-          before = rowOf (getD ws i 0) ∷ q .before;
-          same = λ p.
-              unfold rowsOf in (rw (add-one, take-suc ws i 0 h, map-append rowOf (take i ws) (getD ws i 0 ∷ []), any-append p (rowsOf (take i ws)) (rowOf (getD ws i 0)))
-              (ap (λ b. p (rowOf (getD ws i 0)) || b) (unfold rowsOf in (q .same p))));
-          rest = here ∙ rw (e, add-one);
-        }
+    module _ (r : Row) (e : r ≡ rowOf (getD ws i 0)) where
+      pub passed-more : failsRow test cs fs (rowsOf (take i ws)) r ≡ false → Passed (i + 1)
+      passed-more f =
+          record {
+            before = rowOf (getD ws i 0) ∷ q .before;
+            same = λ p.
+                unfold rowsOf in
+                (rw (
+                  add-one,
+                  take-suc ws i 0 h,
+                  map-append rowOf (take i ws) (getD ws i 0 ∷ []),
+                  any-append p (rowsOf (take i ws)) (rowOf (getD ws i 0)),
+                )
+                (ap (λ b. p (rowOf (getD ws i 0)) || b) (unfold rowsOf in (q .same p))));
+            rest = here ∙ rw (← e, f, add-one);
+          }
 
-    pub passed-not :
-        failsRow test cs fs (rowsOf (take i ws)) (rowOf (getD ws i 0)) ≡ true
-        → refuses (testNumber test) (getD ws i 0 % 65536) ≡ testOf test (rowsOf ws) cs fs
-    passed-not e = sym (here ∙ rw e (unfold refusedAt in refl))
+      pub passed-not :
+          (n : ℕ)
+          → n ≡ testNumber test
+          → failsRow test cs fs (rowsOf (take i ws)) r ≡ true
+          → refuses n (r .place) ≡ testOf test (rowsOf ws) cs fs
+      passed-not n g f = sym (here ∙ rw (← e, f, g) (unfold refusedAt in (ap (λ (x : Row). refuses (testNumber test) (x .place)) (sym e))))
 
   pub passed-all : (i : ℕ) → i ≤ length ws → length ws ≤ i → Passed i → gives tt ≡ testOf test (rowsOf ws) cs fs
   passed-all i l h q =

@@ -26,7 +26,7 @@ add-result c = search needs
 
 -- src/rows.rt:76:1
 returns : tie.Need-returns
-returns c = (search needs, row-added (now (c .before .args .table)) _ _ _ (search needs) (c .pack .ensures))
+returns c = (search needs, row-added (now (c .before .args .table)) (c .before .args .count) _ _ (search needs) (c .pack .ensures))
 
 pub add-row-spec : {M : Type 1} → statement M
 add-row-spec = tie.close (tie.spec pack-requires mul-table element-write-table add-result returns)

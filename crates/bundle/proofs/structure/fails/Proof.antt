@@ -1,3 +1,5 @@
+-- `bundle::structure::fails` meets its contract. Assumes nothing.
+use Rattle.bundle.specs.Rows.{failsRow}
 use borrow.Author.Needs.{needs}
 use Rattle.bundle.proofs.structure.fails.Statement.{statement}
 use Rattle.bundle.proofs.structure.fails.Tie as tie
@@ -51,23 +53,28 @@ unlike-first-requires c κs = search needs
 
 -- src/structure.rt:97:1
 returns : tie.Need-returns
-returns c = ?
+unfolding failsRow
+returns c = rw (c .before .enum-told .given .1) (c .present .ensures)
 
 -- src/structure.rt:97:1
 returns-2 : tie.Need-returns-2
-returns-2 c = ?
+unfolding failsRow
+returns-2 c = rw (c .before .enum-told2 .given .1) (c .stray .ensures)
 
 -- src/structure.rt:97:1
 returns-3 : tie.Need-returns-3
-returns-3 c = ?
+unfolding failsRow
+returns-3 c = rw (c .before .enum-told3 .given .1) (c .lacks-chunk .ensures)
 
 -- src/structure.rt:97:1
 returns-4 : tie.Need-returns-4
-returns-4 c = ?
+unfolding failsRow
+returns-4 c = rw (c .before .enum-told4 .given .1) (c .too-deep .ensures)
 
 -- src/structure.rt:97:1
 returns-5 : tie.Need-returns-5
-returns-5 c = ?
+unfolding failsRow
+returns-5 c = rw (c .before .enum-told5 .given .1) (c .unlike-first .ensures)
 
 pub fails-spec : {M : Type 1} → statement M
 fails-spec =

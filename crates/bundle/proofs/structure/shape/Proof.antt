@@ -1,3 +1,6 @@
+-- `bundle::structure::shape` meets its contract: the first test that refuses decides. Assumes nothing.
+use Rattle.bundle.specs.Rows.{shapeByRows}
+use Rattle.bundle.proofs.RowTests.{test-refused, test-passed}
 use borrow.Author.Needs.{needs}
 use Rattle.bundle.proofs.structure.shape.Statement.{statement}
 use Rattle.bundle.proofs.structure.shape.Tie as tie
@@ -19,7 +22,8 @@ enum-told-2 c = search needs
 
 -- src/structure.rt:145:9
 returns : tie.Need-returns
-returns c = ?
+unfolding shapeByRows
+returns c = test-refused _ (c .before .before .test-rows .ensures) (c .enum-told2 .given .1)
 
 -- src/structure.rt:147:9
 test-rows-requires-2 : tie.Need-test-rows-requires-2
@@ -34,7 +38,8 @@ enum-told-4 c = search needs
 
 -- src/structure.rt:149:9
 returns-2 : tie.Need-returns-2
-returns-2 c = ?
+unfolding shapeByRows
+returns-2 c = rw (test-passed (c .before .before .before .before .before .test-rows .ensures) (c .before .before .before .enum-told .given .1)) (test-refused _ (c .before .before .test-rows2 .ensures) (c .enum-told4 .given .1))
 
 -- src/structure.rt:151:9
 test-root-requires : tie.Need-test-root-requires
@@ -49,7 +54,8 @@ enum-told-6 c = search needs
 
 -- src/structure.rt:153:9
 returns-3 : tie.Need-returns-3
-returns-3 c = ?
+unfolding shapeByRows
+returns-3 c = rw (test-passed (c .before .before .before .before .before .before .before .before .test-rows .ensures) (c .before .before .before .before .before .before .enum-told .given .1), test-passed (c .before .before .before .before .before .test-rows2 .ensures) (c .before .before .before .enum-told3 .given .1)) (test-refused _ (c .before .before .test-root .ensures) (c .enum-told6 .given .1))
 
 -- src/structure.rt:155:9
 test-rows-requires-3 : tie.Need-test-rows-requires-3
@@ -64,7 +70,8 @@ enum-told-8 c = search needs
 
 -- src/structure.rt:157:9
 returns-4 : tie.Need-returns-4
-returns-4 c = ?
+unfolding shapeByRows
+returns-4 c = rw (test-passed (c .before .before .before .before .before .before .before .before .before .before .before .test-rows .ensures) (c .before .before .before .before .before .before .before .before .before .enum-told .given .1), test-passed (c .before .before .before .before .before .before .before .before .test-rows2 .ensures) (c .before .before .before .before .before .before .enum-told3 .given .1), test-passed (c .before .before .before .before .before .test-root .ensures) (c .before .before .before .enum-told5 .given .1)) (test-refused _ (c .before .before .test-rows3 .ensures) (c .enum-told8 .given .1))
 
 -- src/structure.rt:159:9
 test-rows-requires-4 : tie.Need-test-rows-requires-4
@@ -79,7 +86,8 @@ enum-told-10 c = search needs
 
 -- src/structure.rt:161:9
 returns-5 : tie.Need-returns-5
-returns-5 c = ?
+unfolding shapeByRows
+returns-5 c = rw (test-passed (c .before .before .before .before .before .before .before .before .before .before .before .before .before .before .test-rows .ensures) (c .before .before .before .before .before .before .before .before .before .before .before .before .enum-told .given .1), test-passed (c .before .before .before .before .before .before .before .before .before .before .before .test-rows2 .ensures) (c .before .before .before .before .before .before .before .before .before .enum-told3 .given .1), test-passed (c .before .before .before .before .before .before .before .before .test-root .ensures) (c .before .before .before .before .before .before .enum-told5 .given .1), test-passed (c .before .before .before .before .before .test-rows3 .ensures) (c .before .before .before .enum-told7 .given .1)) (test-refused _ (c .before .before .test-rows4 .ensures) (c .enum-told10 .given .1))
 
 -- src/structure.rt:163:5
 test-rows-requires-5 : tie.Need-test-rows-requires-5
@@ -87,7 +95,8 @@ test-rows-requires-5 c κs = search needs
 
 -- src/structure.rt:140:1
 returns-6 : tie.Need-returns-6
-returns-6 c = ?
+unfolding shapeByRows
+returns-6 c = rw (test-passed (c .before .before .before .before .before .before .before .before .before .before .before .before .before .before .before .test-rows .ensures) (c .before .before .before .before .before .before .before .before .before .before .before .before .before .enum-told .given .1), test-passed (c .before .before .before .before .before .before .before .before .before .before .before .before .test-rows2 .ensures) (c .before .before .before .before .before .before .before .before .before .before .enum-told3 .given .1), test-passed (c .before .before .before .before .before .before .before .before .before .test-root .ensures) (c .before .before .before .before .before .before .before .enum-told5 .given .1), test-passed (c .before .before .before .before .before .before .test-rows3 .ensures) (c .before .before .before .before .enum-told7 .given .1), test-passed (c .before .before .before .test-rows4 .ensures) (c .before .enum-told9 .given .1)) (c .test-rows5 .ensures)
 
 pub shape-spec : {M : Type 1} → statement M
 shape-spec =

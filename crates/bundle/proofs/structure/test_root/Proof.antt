@@ -1,3 +1,6 @@
+-- `bundle::structure::test_root` meets its contract. Assumes nothing.
+use mathlib.Core.Path.{sym, _∙_}
+use Rattle.bundle.specs.Rows.{rootOf}
 use borrow.Author.Needs.{needs}
 use Rattle.bundle.proofs.structure.test_root.Statement.{statement}
 use Rattle.bundle.proofs.structure.test_root.Tie as tie
@@ -11,11 +14,13 @@ lacks-chunk-requires c κs = search needs
 
 -- src/structure.rt:131:9
 returns : tie.Need-returns
-returns c = ?
+unfolding rootOf
+returns c = simp (sym (c .before .lacks-chunk .ensures) ∙ c .if1 .taken)
 
 -- src/structure.rt:127:1
 returns-2 : tie.Need-returns-2
-returns-2 c = ?
+unfolding rootOf
+returns-2 c = simp (sym (c .before .lacks-chunk .ensures) ∙ c .if1 .left)
 
 pub test-root-spec : {M : Type 1} → statement M
 test-root-spec = tie.close (tie.spec lacks-chunk-requires returns returns-2)
