@@ -16,5 +16,6 @@ pub mod Failing
 pub mod Shape
 pub mod Arms
 pub mod Copying
+pub mod LockBits
 pub mod Tables
 pub mod RowTests

@@ -73,9 +73,9 @@ pub fn look_up(rows: &[u64], team: u16, member: u8) -> Row
 }
 
 // Writes a row behind the first `count` rows of a table.
-pub fn add_row(table: &mut [u64; 512], count: usize, row: Row) -> usize
-    requires { ⌜ count < 512 ⌝ }
-    ensures { λ r. ⌜ (r ≡ count + 1) × (rowsOf (take r (now (table .exit))) ≡ rowsOf (take count (now (table .entry))) ++ (row ∷ [])) ⌝ }
+pub fn add_row(table: &mut [u64], count: usize, row: Row) -> usize
+    requires { ⌜ count < length (now table) ⌝ }
+    ensures { λ r. ⌜ (r ≡ count + 1) × (rowsOf (take (count + 1) (now (table .exit))) ≡ rowsOf (take count (now (table .entry))) ++ (row ∷ [])) ⌝ }
 {
     table[count] = pack(row);
     count + 1

@@ -1,7 +1,7 @@
 -- `bundle::rows::add_row` meets its contract. Assumes nothing.
-use borrow.Author.Needs.{needs}
 use denote.Ref.{now}
 use Rattle.bundle.proofs.Tables.{row-added}
+use borrow.Author.Needs.{needs}
 use Rattle.bundle.proofs.rows.add_row.Statement.{statement}
 use Rattle.bundle.proofs.rows.add_row.Tie as tie
 use Rattle.bundle.proofs.rows.add_row.Reads as reads
@@ -17,16 +17,21 @@ mul-table : tie.Need-mul-table
 mul-table c = search needs
 
 -- src/rows.rt:80:5
-element-write-table : tie.Need-element-write-table
-element-write-table c = search needs
+slice-write-table : tie.Need-slice-write-table
+slice-write-table c = search needs
 
 -- src/rows.rt:81:5
 add-result : tie.Need-add-result
 add-result c = search needs
 
 -- src/rows.rt:76:1
+same-length : tie.Need-same-length
+same-length c = search needs
+
+-- src/rows.rt:76:1
 returns : tie.Need-returns
-returns c = (search needs, row-added (now (c .before .args .table)) (c .before .args .count) _ _ (search needs) (c .pack .ensures))
+returns c = (search needs, row-added (now (c .before .before .args .table)) (c .before .before .args .count) _ _ (c .before .before .pre) (c .pack .ensures))
 
 pub add-row-spec : {M : Type 1} → statement M
-add-row-spec = tie.close (tie.spec pack-requires mul-table element-write-table add-result returns)
+add-row-spec =
+    tie.close (tie.spec pack-requires mul-table slice-write-table add-result same-length returns)
