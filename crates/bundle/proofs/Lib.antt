@@ -17,5 +17,6 @@ pub mod Shape
 pub mod Arms
 pub mod Copying
 pub mod LockBits
+pub mod Stepping
 pub mod Tables
 pub mod RowTests

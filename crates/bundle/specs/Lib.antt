@@ -8,3 +8,4 @@ pub mod Chunks
 pub mod Scan
 pub mod Check
 pub mod Rows
+pub mod Survey

@@ -4,4 +4,5 @@ pub mod chunk;
 pub mod command;
 pub mod refusal;
 mod rows;
+mod scan;
 mod structure;
