@@ -218,7 +218,7 @@ pub refused-reading :
 refused-reading s at {cause = cause} {c = c} {place = place} e q w =
     let r : refuses (numberOf cause) place ≡ readAt s at = sym (ap readingOf q) ∙ e in
     let p : place ≡ at = read-place s at (numberOf cause) place r in
-    rw (w ∙ ap causeIn q, ← p) r
+    rw (w ∙ ap causeIn q) (ap (λ (x : ℕ). refuses (numberOf cause) x) (sym p) ∙ r)
 
 -- what reading takes
 pub taken-reading :

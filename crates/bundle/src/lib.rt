@@ -6,3 +6,4 @@ pub mod refusal;
 mod rows;
 mod scan;
 mod structure;
+mod survey;

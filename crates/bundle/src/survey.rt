@@ -6,11 +6,8 @@ use crate::rows::{Row, add_row};
 use crate::scan::{Step, step_at};
 ghost use mathlib.Core.Path.{_≡_};
 ghost use Prim.Native.Nat.{_<_, _≤_};
-ghost use mathlib.Core.List.{_++_};
-ghost use lib.ListN.{length, take};
-ghost use Rattle.bundle.specs.Rows.{rowsOf};
-ghost use Rattle.bundle.specs.Scan.{start};
-ghost use Rattle.bundle.specs.Survey.{beginning, passAfter, newChunks, newForks, Notable, Noted, Surveying, Turned, Surveyed};
+ghost use lib.ListN.{length};
+ghost use Rattle.bundle.specs.Survey.{beginning, Notable, Noted, Surveying, Turned, finished, Surveyed};
 
 // How far the pass is: the position and the scan there, the offset and member of the open chunk, and the rows so far.
 pub struct Pass {
@@ -84,29 +81,104 @@ fn fork_row(pass: Pass, team: u16, size: u8) -> Row
     }
 }
 
+fn open_at(pass: Pass, scan: Scan, next: usize, place: u16, member: u8) -> Pass
+    ensures { λ r. ⌜ r ≡ record { at = next; scan = scan; place = place; member = member; chunks = pass .chunks; forks = pass .forks } ⌝ }
+{
+    Pass {
+        at: next,
+        scan,
+        place,
+        member,
+        chunks: pass.chunks,
+        forks: pass.forks,
+    }
+}
+
+fn move_on(pass: Pass, scan: Scan, next: usize, chunks: usize, forks: usize) -> Pass
+    ensures { λ r. ⌜ r ≡ record { at = next; scan = scan; place = pass .place; member = pass .member; chunks = chunks; forks = forks } ⌝ }
+{
+    Pass {
+        at: next,
+        scan,
+        place: pass.place,
+        member: pass.member,
+        chunks,
+        forks,
+    }
+}
+
 // Notes a command that passed the tests.
 fn note(pass: Pass, command: Command, scan: Scan, next: usize, chunks: &mut [u64], forks: &mut [u64]) -> Pass
     requires { ⌜ Notable pass (now chunks) (now forks) ⌝ }
     ensures { λ r. ⌜ Noted pass command scan next r (now (chunks .entry)) (now (forks .entry)) (now (chunks .exit)) (now (forks .exit)) ⌝ }
 {
-    let mut after = pass;
-    after.at = next;
-    after.scan = scan;
+    let at = pass.at;
+    let chunk_count = pass.chunks;
+    let fork_count = pass.forks;
     match command {
-        Command::Member { team: _, member } => {
-            after.place = pass.at as u16;
-            after.member = member;
-        }
+        Command::Member { team: _, member } => open_at(pass, scan, next, at as u16, member),
         Command::End => {
-            after.chunks = add_row(chunks, pass.chunks, chunk_row(pass));
+            let chunk_count = add_row(chunks, chunk_count, chunk_row(pass));
+            move_on(pass, scan, next, chunk_count, fork_count)
         }
         Command::Region { team, size } => {
-            after.forks = add_row(forks, pass.forks, fork_row(pass, team, size));
+            let fork_count = add_row(forks, fork_count, fork_row(pass, team, size));
+            move_on(pass, scan, next, chunk_count, fork_count)
         }
-        Command::Barrier => {}
-        Command::Acquire(_) => {}
-        Command::Release(_) => {}
-        Command::Access(_) => {}
+        Command::Barrier => move_on(pass, scan, next, chunk_count, fork_count),
+        Command::Acquire(_) => move_on(pass, scan, next, chunk_count, fork_count),
+        Command::Release(_) => move_on(pass, scan, next, chunk_count, fork_count),
+        Command::Access(_) => move_on(pass, scan, next, chunk_count, fork_count),
     }
-    after
+}
+
+// One command: tested, and noted where it passes.
+fn turn_at(bytes: &[u8], pass: Pass, chunks: &mut [u64], forks: &mut [u64]) -> Turn
+    requires { ⌜ (pass .at < length (now bytes)) × Surveying (now bytes) pass (now chunks) (now forks) ⌝ }
+    ensures { λ r. ⌜ Turned (now (bytes .entry)) r (now (chunks .exit)) (now (forks .exit)) ⌝ }
+{
+    match step_at(bytes, pass.at, pass.scan) {
+        Step::Onward {
+            scan,
+            command,
+            next,
+        } => Turn::Onward(note(pass, command, scan, next, chunks, forks)),
+        Step::Refused { cause, place } => Turn::Refused { cause, place },
+    }
+}
+
+// 4: the bundle ending inside a chunk, at its length.
+fn finish(pass: Pass, end: usize) -> Survey
+    ensures { λ r. ⌜ r ≡ finished pass end ⌝ }
+{
+    let scan = pass.scan;
+    if scan.inside {
+        return Survey::Refused {
+            cause: Cause::Misplaced,
+            place: end,
+        };
+    }
+    Survey::Complete {
+        chunks: pass.chunks,
+        forks: pass.forks,
+    }
+}
+
+// The whole bundle, front to back.
+pub fn survey_all(bytes: &[u8], chunks: &mut [u64], forks: &mut [u64]) -> Survey
+    requires { ⌜ (length (now bytes) ≤ 65536) × (length (now chunks) ≡ 512) × (length (now forks) ≡ 512) ⌝ }
+    ensures { λ r. ⌜ Surveyed (now (bytes .entry)) r (now (chunks .exit)) (now (forks .exit)) ⌝ }
+{
+    let mut pass = begin();
+    while pass.at < bytes.len() {
+        match turn_at(bytes, pass, chunks, forks) {
+            Turn::Onward(next) => {
+                pass = next;
+            }
+            Turn::Refused { cause, place } => {
+                return Survey::Refused { cause, place };
+            }
+        }
+    }
+    finish(pass, bytes.len())
 }
