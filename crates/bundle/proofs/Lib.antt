@@ -18,5 +18,6 @@ pub mod Arms
 pub mod Copying
 pub mod LockBits
 pub mod Stepping
+pub mod Passing
 pub mod Tables
 pub mod RowTests

@@ -161,9 +161,10 @@ pub record Surveying (s : List ℕ) (p : Pass) (chunks forks : List ℕ) : Type 
       rowsOf (take (p .forks) forks) ++ forksToCome p (frontFrom fuel s (p .at) .placed)
       ≡ map forkRow (forksOf (chunksOf s))
 
-abbrev pub Turned : List ℕ → Turn → List ℕ → List ℕ → Type 0
-Turned s (Turns.Onward p) chunks forks = Surveying s p chunks forks
-Turned s (Turns.Refused cause place) chunks forks = scanOf s ≡ refuses (numberOf cause) place
+-- what a turn from a position gives
+abbrev pub Turned : List ℕ → ℕ → Turn → List ℕ → List ℕ → Type 0
+Turned s at (Turns.Onward p) chunks forks = (at < p .at) × Surveying s p chunks forks
+Turned s at (Turns.Refused cause place) chunks forks = scanOf s ≡ refuses (numberOf cause) place
 
 unfoldable pub finished : Pass → ℕ → Survey
 finished p end = cond (p .scan .inside) (Surveys.Refused Causes.Misplaced end) (Surveys.Complete (p .chunks) (p .forks))

@@ -135,7 +135,7 @@ fn note(pass: Pass, command: Command, scan: Scan, next: usize, chunks: &mut [u64
 // One command: tested, and noted where it passes.
 fn turn_at(bytes: &[u8], pass: Pass, chunks: &mut [u64], forks: &mut [u64]) -> Turn
     requires { ⌜ (pass .at < length (now bytes)) × Surveying (now bytes) pass (now chunks) (now forks) ⌝ }
-    ensures { λ r. ⌜ Turned (now (bytes .entry)) r (now (chunks .exit)) (now (forks .exit)) ⌝ }
+    ensures { λ r. ⌜ Turned (now (bytes .entry)) (pass .at) r (now (chunks .exit)) (now (forks .exit)) ⌝ }
 {
     match step_at(bytes, pass.at, pass.scan) {
         Step::Onward {

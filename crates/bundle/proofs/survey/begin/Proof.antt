@@ -1,3 +1,6 @@
+-- `bundle::survey::begin` meets its contract. Assumes nothing.
+use Rattle.bundle.specs.Scan.{start}
+use Rattle.bundle.specs.Survey.{beginning}
 use borrow.Author.Needs.{needs}
 use Rattle.bundle.proofs.survey.begin.Statement.{statement}
 use Rattle.bundle.proofs.survey.begin.Tie as tie
@@ -11,7 +14,8 @@ fresh-requires c κs = search needs
 
 -- src/survey.rt:34:1
 returns : tie.Need-returns
-returns c = ?
+unfolding beginning start
+returns c = rw (c .fresh .ensures)
 
 pub begin-spec : {M : Type 1} → statement M
 begin-spec = tie.close (tie.spec fresh-requires returns)

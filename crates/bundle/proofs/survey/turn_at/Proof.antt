@@ -1,3 +1,7 @@
+-- `bundle::survey::turn_at` meets its contract. Assumes nothing.
+use mathlib.Core.Path.{sym, _∙_, ap}
+use Rattle.bundle.specs.Survey.{stepOf}
+use Rattle.bundle.proofs.Passing.{notable, went-on, stopped}
 use borrow.Author.Needs.{needs}
 use Rattle.bundle.proofs.survey.turn_at.Statement.{statement}
 use Rattle.bundle.proofs.survey.turn_at.Tie as tie
@@ -16,7 +20,7 @@ enum-known-scan c = search needs
 
 -- src/survey.rt:145:27
 note-requires : tie.Need-note-requires
-note-requires c κs = ?
+note-requires c κs = notable (c .before .before .before .before .before .before .before .before .before .pre .0) (c .before .before .before .before .before .before .before .before .before .pre .1) _ (sym (c .before .before .before .before .before .step-at .ensures) ∙ ap stepOf (c .before .before .before .scan .given .1))
 
 -- src/survey.rt:146:25
 enum-known-cause : tie.Need-enum-known-cause
@@ -32,11 +36,11 @@ same-length-2 c = search needs
 
 -- src/survey.rt:136:1
 returns : tie.Need-returns
-returns c = ?
+returns c = went-on (c .before .before .before .before .before .before .before .before .before .before .before .before .before .before .pre .0) (c .before .before .before .before .before .before .before .before .before .before .before .before .before .before .pre .1) _ (sym (c .before .before .before .before .before .before .before .before .before .before .step-at .ensures) ∙ ap stepOf (c .before .before .before .before .before .before .before .before .scan .given .1)) _ _ _ (search needs) (search needs) (c .before .before .before .before .note .ensures)
 
 -- src/survey.rt:136:1
 returns-2 : tie.Need-returns-2
-returns-2 c = ?
+returns-2 c = stopped _ _ (c .before .before .before .before .before .before .before .pre .0) (c .before .before .before .before .before .before .before .pre .1) (sym (c .before .before .before .step-at .ensures) ∙ ap stepOf (c .before .cause .given .1))
 
 pub turn-at-spec : {M : Type 1} → statement M
 turn-at-spec =
