@@ -30,6 +30,7 @@ use Rattle.bundle.specs.Survey.{
   chunksToCome,
   forksToCome,
   Surveying,
+  Turned,
   finished,
   InTables,
   Surveyed,
@@ -42,6 +43,8 @@ use Rattle.bundle.specs.declared.command.Command.{Command}
 use Rattle.bundle.specs.declared.command.Command.the-variants as Com
 use Rattle.bundle.specs.declared.rows.Row.{Row}
 use Rattle.bundle.specs.declared.survey.Pass.{Pass}
+use Rattle.bundle.specs.declared.survey.Turn.{Turn}
+use Rattle.bundle.specs.declared.survey.Turn.the-variants as Turns
 use Rattle.bundle.specs.declared.survey.Survey.{Survey}
 use Rattle.bundle.specs.declared.survey.Survey.the-variants as Surveys
 use Rattle.bundle.specs.declared.refusal.Cause.the-variants as Causes
@@ -527,3 +530,29 @@ module _ (p : Pass) (k : Scan) (next : ℕ) (r : Pass) (chunks forks : List ℕ)
             ∙ x
             ∙ ap (λ (y : Row). rowsOf (take (p .forks) forks) ++ (y ∷ [])) w;
       }
+
+-- what a turn's answer says by its case, and what the end says
+pub turned-on :
+    (s : List ℕ) (at : ℕ) (chunks forks : List ℕ) {r : Turn} {p : Pass}
+    → Turned s at r chunks forks
+    → r ≡ Turns.Onward p
+    → (at < p .at) × Surveying s p chunks forks
+turned-on s at chunks forks v e = subst (λ (x : Turn). Turned s at x chunks forks) e v
+
+pub turned-off :
+    (s : List ℕ) (at : ℕ) (chunks forks : List ℕ) {r : Turn} {cause : Cause} {place : ℕ}
+    → Turned s at r chunks forks
+    → r ≡ Turns.Refused cause place
+    → scanOf s ≡ refuses (numberOf cause) place
+turned-off s at chunks forks v e = subst (λ (x : Turn). Turned s at x chunks forks) e v
+
+pub fewer-left : (n a b : ℕ) → a < n → a < b → n - b < n - a
+fewer-left n a b h l = omega arith
+
+pub surveyed-finish :
+    (s : List ℕ) (p : Pass) (chunks forks : List ℕ) {r : Survey}
+    → length s ≤ p .at
+    → Surveying s p chunks forks
+    → r ≡ finished p (length s)
+    → Surveyed s r chunks forks
+surveyed-finish s p chunks forks h v e = subst (λ (x : Survey). Surveyed s x chunks forks) (sym e) (surveyed-end h v)

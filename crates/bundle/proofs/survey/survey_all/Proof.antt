@@ -1,3 +1,4 @@
+use Rattle.bundle.proofs.Passing.{turned-on, turned-off, fewer-left, surveyed-finish}
 -- `bundle::survey::survey_all` meets its contract. The invariant: what the rest of the bundle adds is the whole. The measure: the bytes
 -- left. Assumes nothing.
 use borrow.Author.Needs.{needs}
@@ -38,11 +39,11 @@ enum-known-next c = search needs
 
 -- src/survey.rt:173:5
 loop-less : tie.Need-loop-less Inv-loop μ-loop
-loop-less c = search needs
+loop-less c = fewer-left _ _ _ (c .before .before .before .before .before .before .before .before .before .before .if1 .taken) (turned-on _ _ _ _ (c .before .before .before .before .before .before .before .turn-at .ensures) (c .before .next .given .1) .0)
 
 -- src/survey.rt:173:5
 loop-again : tie.Need-loop-again Inv-loop μ-loop
-loop-again c = search needs
+loop-again c = turned-on _ _ _ _ (c .before .before .before .before .before .before .before .turn-at .ensures) (c .before .next .given .1) .1
 
 -- src/survey.rt:178:29
 enum-known-cause : tie.Need-enum-known-cause Inv-loop μ-loop
@@ -58,7 +59,7 @@ same-length-2 c = search needs
 
 -- src/survey.rt:179:17
 returns : tie.Need-returns Inv-loop μ-loop
-returns c = search needs
+returns c = turned-off _ _ _ _ (c .before .before .before .before .before .before .before .turn-at .ensures) (c .before .cause .given .1)
 
 -- src/survey.rt:183:5
 finish-requires : tie.Need-finish-requires Inv-loop μ-loop
@@ -74,7 +75,7 @@ same-length-4 c = search needs
 
 -- src/survey.rt:168:1
 returns-2 : tie.Need-returns-2 Inv-loop μ-loop
-returns-2 c = search needs
+returns-2 c = surveyed-finish _ _ _ _ (c .before .if1 .left) (c .before .before .before .loop .inv) (c .finish .ensures)
 
 pub survey-all-spec : {M : Type 1} → statement M
 survey-all-spec =
