@@ -19,5 +19,6 @@ pub mod Copying
 pub mod LockBits
 pub mod Stepping
 pub mod Passing
+pub mod ShapeRows
 pub mod Tables
 pub mod RowTests
