@@ -9,3 +9,4 @@ pub mod Scan
 pub mod Check
 pub mod Rows
 pub mod Survey
+pub mod Find
