@@ -20,5 +20,6 @@ pub mod LockBits
 pub mod Stepping
 pub mod Passing
 pub mod ShapeRows
+pub mod CheckCases
 pub mod Tables
 pub mod RowTests

@@ -78,7 +78,7 @@ of-fork : (t : ℕ) (f : Fork) → isRow t 0 (forkRow f) ≡ eqb (f .team) t
 unfolding isRow forkRow
 of-fork t f = and-true (eqb (f .team) t)
 
-of-chunk : (t m : ℕ) (c : Chunk) → isRow t m (chunkRow c) ≡ isOf t m c
+pub of-chunk : (t m : ℕ) (c : Chunk) → isRow t m (chunkRow c) ≡ isOf t m c
 unfolding isRow chunkRow isOf
 of-chunk t m c = refl
 

@@ -1,3 +1,6 @@
+-- `bundle::check::check` meets its contract. Assumes nothing.
+use mathlib.Core.Path.{sym}
+use Rattle.bundle.proofs.CheckCases.{checked-accepted, checked-refused}
 use borrow.Author.Needs.{needs}
 use Rattle.bundle.proofs.check.check.Statement.{statement}
 use Rattle.bundle.proofs.check.check.Tie as tie
@@ -23,11 +26,11 @@ enum-known-cause c = search needs
 
 -- src/check.rt:61:1
 returns : tie.Need-returns
-returns c = ?
+returns c = sym (checked-accepted _ _ (c .before .before .before .check-into .ensures) (c .enum-told .given .1) .accepted)
 
 -- src/check.rt:61:1
 returns-2 : tie.Need-returns-2
-returns-2 c = ?
+returns-2 c = sym (checked-refused _ _ (c .before .before .before .before .check-into .ensures) (c .before .cause .given .1))
 
 pub check-spec : {M : Type 1} → statement M
 check-spec =

@@ -1,3 +1,4 @@
+-- `bundle::check::count_in` meets its contract. Assumes nothing.
 use borrow.Author.Needs.{needs}
 use Rattle.bundle.proofs.check.count_in.Statement.{statement}
 use Rattle.bundle.proofs.check.count_in.Tie as tie
@@ -14,11 +15,11 @@ enum-known-checking c = search needs
 
 -- src/check.rt:31:1
 returns : tie.Need-returns
-returns c = ?
+returns c = rw (c .enum-told .given .1)
 
 -- src/check.rt:31:1
 returns-2 : tie.Need-returns-2
-returns-2 c = ?
+returns-2 c = rw (c .before .checking .given .1)
 
 pub count-in-spec : {M : Type 1} → statement M
 count-in-spec = tie.close (tie.spec enum-told enum-known-checking returns returns-2)

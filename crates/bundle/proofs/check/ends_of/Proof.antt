@@ -1,3 +1,5 @@
+-- `bundle::check::ends_of` meets its contract. Assumes nothing.
+use Rattle.bundle.proofs.CheckCases.{ends-none, ends-some}
 use borrow.Author.Needs.{needs}
 use Rattle.bundle.proofs.check.ends_of.Statement.{statement}
 use Rattle.bundle.proofs.check.ends_of.Tie as tie
@@ -12,7 +14,7 @@ index-of-requires c κs = search needs
 
 -- src/check.rt:88:9
 returns : tie.Need-returns
-returns c = ?
+returns c = ends-none _ _ _ _ _ (c .before .index-of .ensures) (c .if1 .taken)
 
 -- src/check.rt:93:9
 place-at-requires : tie.Need-place-at-requires
@@ -28,7 +30,7 @@ place-at-requires-2 c κs = search needs
 
 -- src/check.rt:83:1
 returns-2 : tie.Need-returns-2
-returns-2 c = ?
+returns-2 c = ends-some _ _ _ _ _ _ _ (c .before .before .before .index-of .ensures) (c .before .before .if1 .left) (c .before .place-at .ensures) (c .place-at2 .ensures)
 
 pub ends-of-spec : {M : Type 1} → statement M
 ends-of-spec =

@@ -1,3 +1,8 @@
+-- `bundle::check::find_ends` meets its contract. Assumes nothing.
+use mathlib.Core.Path.{sym, _∙_}
+use lib.Seq.{length-take-le}
+use native.Mathlib.Omega.{arith}
+use Rattle.bundle.proofs.CheckCases.{checked-accepted, checked-refused, find-rows, find-refused}
 use borrow.Author.Needs.{needs}
 use Rattle.bundle.proofs.check.find_ends.Statement.{statement}
 use Rattle.bundle.proofs.check.find_ends.Tie as tie
@@ -20,11 +25,11 @@ enum-known-count c = search needs
 
 -- src/check.rt:104:45
 array-share-prefix-chunks : tie.Need-array-share-prefix-chunks
-array-share-prefix-chunks c = ?
+array-share-prefix-chunks c = checked-accepted _ _ (c .before .before .before .before .check-into .ensures) (c .before .count .given .1) .within
 
 -- src/check.rt:104:45
 slice-aggregate-ends-of : tie.Need-slice-aggregate-ends-of
-slice-aggregate-ends-of c = ?
+slice-aggregate-ends-of c = sym (length-take-le _ _ (checked-accepted _ _ (c .before .before .before .before .before .check-into .ensures) (c .before .before .count .given .1) .within))
 
 -- src/check.rt:104:37
 ends-of-requires : tie.Need-ends-of-requires
@@ -36,11 +41,11 @@ enum-known-cause c = search needs
 
 -- src/check.rt:99:1
 returns : tie.Need-returns
-returns c = ?
+returns c = c .ends-of .ensures ∙ find-rows _ _ _ _ _ (λ i h. omega (arith, c .before .before .before .before .before .before .before .before .shared-slice-known .given i)) (checked-accepted _ _ (c .before .before .before .before .before .before .check-into .ensures) (c .before .before .before .count .given .1))
 
 -- src/check.rt:99:1
 returns-2 : tie.Need-returns-2
-returns-2 c = ?
+returns-2 c = find-refused _ _ _ _ _ (checked-refused _ _ (c .before .before .before .before .check-into .ensures) (c .before .cause .given .1))
 
 pub find-ends-spec : {M : Type 1} → statement M
 find-ends-spec =

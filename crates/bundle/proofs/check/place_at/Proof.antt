@@ -1,3 +1,5 @@
+-- `bundle::check::place_at` meets its contract. Assumes nothing.
+use Rattle.bundle.proofs.CheckCases.{place-found, place-past}
 use borrow.Author.Needs.{needs}
 use Rattle.bundle.proofs.check.place_at.Statement.{statement}
 use Rattle.bundle.proofs.check.place_at.Tie as tie
@@ -23,11 +25,11 @@ cast-result c = search needs
 
 -- src/check.rt:77:9
 returns : tie.Need-returns
-returns c = ?
+returns c = place-found _ _ _ (c .before .before .before .if1 .taken) (c .before .unpack .ensures)
 
 -- src/check.rt:72:1
 returns-2 : tie.Need-returns-2
-returns-2 c = ?
+returns-2 c = place-past _ _ _ (c .if1 .left)
 
 pub place-at-spec : {M : Type 1} → statement M
 place-at-spec =
