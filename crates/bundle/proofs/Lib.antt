@@ -20,3 +20,11 @@ pub mod Keys
 pub mod Shape
 pub mod ShapeOrder
 pub mod Reorder
+pub mod LockBits
+pub mod Stepping
+pub mod Passing
+pub mod ShapeRows
+pub mod CheckCases
+pub mod Finding
+pub mod Tables
+pub mod RowTests
