@@ -1,9 +1,9 @@
 -- Offset-span labels: the label of a segment, found by climbing, and the comparison of two labels.
-use Prim.Native.Nat.{ℕ, zero, suc, _+_, _*_, _%_}
+use Prim.Native.Nat.{ℕ, zero, suc, _+_, _-_, _*_, _%_}
 use mathlib.Core.Bool.{Bool, true, false, cond, not, _&&_, _||_}
 use mathlib.Core.List.{List, [], _∷_, _++_, map}
 use mathlib.Core.Option.{Option, none, some}
-use lib.ListN.{length, take, getElem?}
+use lib.ListN.{length, take, replicate, getElem?}
 use lib.Dec.{eqb, ltb, leb}
 use Rattle.bundle.specs.Answer.{Answer, gives, refuses, whenGiven, numberOf}
 use Rattle.bundle.specs.Lists.{all, fromOption}
@@ -61,6 +61,13 @@ labelOf s t m number =
 -- the counted triples of a label as it is lent: "Triples past a label's count are not looked at"
 unfoldable pub counted : Label → List Triple
 counted l = take (l .count) (l .triples)
+
+-- a label that holds these triples, at most 5: past them it is 0
+unfoldable pub blank : Triple
+blank = record { offset = 0; span = 0; interval = 0 }
+
+unfoldable pub holding : List Triple → Label
+holding ts = record { count = length ts; triples = ts ++ replicate (5 - length ts) blank }
 
 -- 15: a label with 0 or over 5 triples, a span of 0 or over 64, or a first span not 1
 unfoldable pub spanOk : Triple → Bool
