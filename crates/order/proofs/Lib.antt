@@ -5,3 +5,6 @@ pub mod Computing
 pub mod SharedByte
 pub mod Euclid
 pub mod PairBytes
+pub mod Onward
+pub mod Passes
+pub mod Climbs

@@ -4,11 +4,11 @@ use mathlib.Core.Path.{_≡_}
 use mathlib.Core.Bool.{Bool, true, false, cond, _&&_}
 use mathlib.Core.List.{List, [], _∷_, _++_}
 use mathlib.Core.Option.{Option, none, some}
-use lib.ListN.{length, getElem?, set}
+use lib.ListN.{getElem?, set}
 use lib.Dec.{eqb}
 use Rattle.bundle.specs.Lists.{fromOption}
 use Rattle.bundle.specs.Chunks.{Chunk, chunksOf, chunkOf}
-use Rattle.bundle.specs.Check.{Fork, forksOf, forkOf, sizeOf, Accepted}
+use Rattle.bundle.specs.Check.{Fork, forksOf, forkOf, sizeOf}
 use Rattle.bundle.specs.declared.chunk.ChunkState.{ChunkState}
 use Rattle.bundle.specs.declared.command.Command.{Command}
 use Rattle.bundle.specs.declared.command.Command.the-variants as Com
@@ -23,8 +23,8 @@ use Rattle.order.specs.declared.climb.Seeking.{Seeking}
 use Rattle.order.specs.declared.climb.Seeking.the-variants as Seek
 
 -- a bundle's REGIONs
-unfoldable pub forksIn : List ℕ → List Fork
-forksIn s = forksOf (chunksOf s)
+abbrev pub bundleForks : List ℕ → List Fork
+bundleForks s = forksOf (chunksOf s)
 
 -- the segment of a chunk that is open in a state
 abbrev pub segmentOf : ℕ → ℕ → ChunkState → Segment
@@ -60,7 +60,7 @@ FewForked (For.Forked by size) = by .regions ≤ 65536
 FewForked For.Nothing = Unit
 
 pub record ForkFound (s : List ℕ) (team : ℕ) (r : Forking) : Type 0 where
-  pub answer : r ≡ forkingOf (forkOf (forksIn s) team)
+  pub answer : r ≡ forkingOf (forkOf (bundleForks s) team)
   pub few : FewForked r
 
 -- whether a segment is the one of this team, member and number
@@ -90,13 +90,9 @@ tripleOf k size = record { offset = k .member + size * k .regions; span = size; 
 unfoldable pub extended : Label → Triple → Label
 extended l t = record { count = l .count + 1; triples = set (l .triples) (l .count) t }
 
--- a team whose label has room for one triple more
-pub record Climbable (s : List ℕ) (team : ℕ) : Type 0 where
-  pub accepted : Accepted s
-  pub shallow : length (forkLabel (suc team) (forksIn s) team) ≤ 4
-
+-- what the labels of a chunk's segments have in common, and the label of a segment
 unfoldable pub chunkLabelOf : List ℕ → ℕ → ChunkLabel
-chunkLabelOf s team = record { label = holding (forkLabel (suc team) (forksIn s) team); size = sizeOf (forksIn s) team }
+chunkLabelOf s team = record { label = holding (forkLabel (suc team) (bundleForks s) team); size = sizeOf (bundleForks s) team }
 
 unfoldable pub labelAt : List ℕ → Segment → Label
-labelAt s k = holding (forkLabel (suc (k .team)) (forksIn s) (k .team) ++ (tripleOf k (sizeOf (forksIn s) (k .team)) ∷ []))
+labelAt s k = holding (forkLabel (suc (k .team)) (bundleForks s) (k .team) ++ (tripleOf k (sizeOf (bundleForks s) (k .team)) ∷ []))

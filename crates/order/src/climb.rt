@@ -6,7 +6,7 @@ ghost use mathlib.Core.List.{[]};
 ghost use Prim.Native.Nat.{_+_, _≤_, _<_};
 ghost use Rattle.bundle.specs.Check.{Accepted};
 ghost use Rattle.order.specs.Labels.{holding};
-ghost use Rattle.order.specs.Climbing.{opened, forkedHere, ForkFound, isSought, SegmentFound, tripleOf, extended, Climbable, chunkLabelOf, labelAt};
+ghost use Rattle.order.specs.Climbing.{opened, forkedHere, ForkFound, isSought, SegmentFound, tripleOf, extended, chunkLabelOf, labelAt};
 
 // A segment: the team and member of its chunk, and the barriers passed and regions joined before it in the chunk.
 struct Segment {
@@ -194,7 +194,7 @@ fn extend(label: Label, triple: Triple) -> Label
 
 // A chunk wants the label of the segment that forked its team: the team number falls.
 fn label_of_chunk(bytes: &[u8], team: u16) -> ChunkLabel
-    requires { ⌜ Climbable (now bytes) team ⌝ }
+    requires { ⌜ Accepted (now bytes) ⌝ }
     ensures { λ r. ⌜ r ≡ chunkLabelOf (now (bytes .entry)) team ⌝ }
 {
     if team == 0 {
@@ -218,7 +218,7 @@ fn label_of_chunk(bytes: &[u8], team: u16) -> ChunkLabel
 
 // A segment wants the label of its own chunk, and puts its last triple behind it.
 fn label_at(bytes: &[u8], segment: Segment) -> Label
-    requires { ⌜ Climbable (now bytes) (segment .team) × (segment .regions ≤ 65536) ⌝ }
+    requires { ⌜ Accepted (now bytes) × (segment .regions ≤ 65536) ⌝ }
     ensures { λ r. ⌜ r ≡ labelAt (now (bytes .entry)) segment ⌝ }
 {
     let chunk = label_of_chunk(bytes, segment.team);

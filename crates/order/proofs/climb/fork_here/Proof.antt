@@ -1,68 +1,64 @@
+use mathlib.Core.Path.{sym, ap, _∙_}
+use Rattle.order.specs.Climbing.{forkedHere}
+use borrow.Author.Tests.{eq-eqb, ne-eqb}
 use borrow.Author.Needs.{needs}
 use Rattle.order.proofs.climb.fork_here.Statement.{statement}
 use Rattle.order.proofs.climb.fork_here.Tie as tie
 use Rattle.order.proofs.climb.fork_here.Reads as reads
 use Rattle.order.proofs.climb.fork_here.Lts as lts
 
--- src/climb.rt:75:51
 enum-told : tie.Need-enum-told
 enum-told c = search needs
 
--- src/climb.rt:76:25
 enum-told-2 : tie.Need-enum-told-2
 enum-told-2 c = search needs
 
--- src/climb.rt:77:33
 enum-known-command : tie.Need-enum-known-command
 enum-known-command c = search needs
 
--- src/climb.rt:79:17
 returns : tie.Need-returns
-returns c = ?
+unfolding forkedHere
+returns c = sym (ap (forkedHere (c .before .before .before .before .args .team) (c .before .before .before .before .args .segment)) (c .before .before .command .given .1) ∙ rw (eq-eqb _ _ (c .if1 .taken)))
 
--- src/climb.rt:83:29
 enum-told-3 : tie.Need-enum-told-3
 enum-told-3 c = search needs
 
--- src/climb.rt:84:32
 enum-told-4 : tie.Need-enum-told-4
 enum-told-4 c = search needs
 
--- src/climb.rt:85:32
 enum-told-5 : tie.Need-enum-told-5
 enum-told-5 c = search needs
 
--- src/climb.rt:86:31
 enum-told-6 : tie.Need-enum-told-6
 enum-told-6 c = search needs
 
--- src/climb.rt:71:1
 returns-2 : tie.Need-returns-2
-returns-2 c = ?
+unfolding forkedHere
+returns-2 c = sym (ap (forkedHere (c .before .before .args .team) (c .before .before .args .segment)) (c .enum-told .given .1))
 
--- src/climb.rt:71:1
 returns-3 : tie.Need-returns-3
-returns-3 c = ?
+unfolding forkedHere
+returns-3 c = sym (ap (forkedHere (c .before .before .args .team) (c .before .before .args .segment)) (c .enum-told2 .given .1))
 
--- src/climb.rt:71:1
 returns-4 : tie.Need-returns-4
-returns-4 c = ?
+unfolding forkedHere
+returns-4 c = sym (ap (forkedHere (c .before .before .before .before .args .team) (c .before .before .before .before .args .segment)) (c .before .before .command .given .1) ∙ rw (ne-eqb _ _ (c .if1 .left)))
 
--- src/climb.rt:71:1
 returns-5 : tie.Need-returns-5
-returns-5 c = ?
+unfolding forkedHere
+returns-5 c = sym (ap (forkedHere (c .before .before .args .team) (c .before .before .args .segment)) (c .enum-told3 .given .1))
 
--- src/climb.rt:71:1
 returns-6 : tie.Need-returns-6
-returns-6 c = ?
+unfolding forkedHere
+returns-6 c = sym (ap (forkedHere (c .before .before .args .team) (c .before .before .args .segment)) (c .enum-told4 .given .1))
 
--- src/climb.rt:71:1
 returns-7 : tie.Need-returns-7
-returns-7 c = ?
+unfolding forkedHere
+returns-7 c = sym (ap (forkedHere (c .before .before .args .team) (c .before .before .args .segment)) (c .enum-told5 .given .1))
 
--- src/climb.rt:71:1
 returns-8 : tie.Need-returns-8
-returns-8 c = ?
+unfolding forkedHere
+returns-8 c = sym (ap (forkedHere (c .before .before .args .team) (c .before .before .args .segment)) (c .enum-told6 .given .1))
 
 pub fork-here-spec : {M : Type 1} → statement M
 fork-here-spec =
