@@ -115,13 +115,19 @@ module _ (s : List ℕ) (a : Accepted s) where
           rw label-depth (unfold depthOf in (rw (w .1) at deep))
 
   -- the chunk of the root, of a team that is never forked, and of one that is
-  pub root-chunk : record { label = holding []; size = 1 } ≡ chunkLabelOf s 0
+  pub root-chunk : (team : ℕ) (l : Label) → team ≡ 0 → l ≡ holding [] → record { label = l; size = 1 } ≡ chunkLabelOf s team
   unfolding chunkLabelOf forkLabel sizeOf
-  root-chunk = rw (root-unforked (bundleForks s) (team-falls s a))
+  root-chunk team l h e = rw (h, e, root-unforked (bundleForks s) (team-falls s a))
 
-  pub unforked-chunk : (team : ℕ) → (team ≡ 0 → ⊥) → (r : Forking) → ForkFound s team r → r ≡ For.Nothing → record { label = holding []; size = 0 } ≡ chunkLabelOf s team
+  pub unforked-chunk :
+      (team : ℕ) (l : Label) (r : Forking)
+      → (team ≡ 0 → ⊥)
+      → l ≡ holding []
+      → ForkFound s team r
+      → r ≡ For.Nothing
+      → record { label = l; size = 0 } ≡ chunkLabelOf s team
   unfolding chunkLabelOf forkLabel sizeOf
-  unforked-chunk team h r f q = rw (ne-eqb team 0 h, never (forkOf (bundleForks s) team) (sym (f .answer) ∙ q))
+  unforked-chunk team l r h e f q = rw (e, ne-eqb team 0 h, never (forkOf (bundleForks s) team) (sym (f .answer) ∙ q))
     where
       never : (o : Option Fork) → forkingOf o ≡ For.Nothing → o ≡ none
       never none e = refl
@@ -151,16 +157,16 @@ module _ (s : List ℕ) (a : Accepted s) where
   pub record Climb (team : ℕ) (by : Segment) (size : ℕ) : Type 0 where
     pub lower : by .team < team
     pub few : by .regions ≤ 65536
-    pub chunk : record { label = labelAt s by; size = size } ≡ chunkLabelOf s team
+    pub chunk : (l : Label) → l ≡ labelAt s by → record { label = l; size = size } ≡ chunkLabelOf s team
 
-  pub climb-from : (team : ℕ) → (team ≡ 0 → ⊥) → (r : Forking) (by : Segment) (size : ℕ) → ForkFound s team r → r ≡ For.Forked by size → Climb team by size
-  climb-from team h r by size f q =
+  pub climb-from : (team : ℕ) (r : Forking) {by : Segment} {size : ℕ} → (team ≡ 0 → ⊥) → ForkFound s team r → r ≡ For.Forked by size → Climb team by size
+  climb-from team r {by} {size} h f q =
       let g = above team r by size f q in
       let below = fork-team (bundleForks s) (team-falls s a) (g .found) in
       record {
         lower = rw (g .segment) below;
         few = subst FewForked q (f .few);
-        chunk = ap₂ chunkLabel (g .segment) (g .sized) ∙ forked-chunk team (g .fork) h (g .found);
+        chunk = λ l e. rw e (ap₂ chunkLabel (g .segment) (g .sized) ∙ forked-chunk team (g .fork) h (g .found));
       }
 
   -- the label of a segment, from that of its chunk
