@@ -8,6 +8,7 @@ use native.Mathlib.Omega.{arith}
 use native.Mathlib.Nat.{mul-le-mul}
 use native.Mathlib.Numerals.{add-one}
 use lib.ListN.{length, replicate, set, getElem?, length-append}
+use lib.Seq.{take-append-seam}
 use lib.Dec.{eqb, ltb}
 use borrow.Author.Tests.{eqb-true, ne-eqb, ltb-false}
 use Rattle.bundle.specs.Answer.{Answer, gives, refuses, whenGiven}
@@ -17,14 +18,17 @@ use Rattle.bundle.specs.Check.{Fork, forkOf, sizeOf, depthFrom, depthOf, checkO
 use Rattle.bundle.specs.declared.chunk.ChunkState.{ChunkState}
 use Rattle.bundle.proofs.ListLaws.{first-some}
 use Rattle.bundle.proofs.Shape.{Shaped}
-use Rattle.order.specs.Labels.{lastTriple, forkLabel, segmentStates, segmentLabel, labelOf, blank, holding}
-use Rattle.order.specs.Climbing.{bundleForks, segmentOf, forkingOf, FewForked, ForkFound, stateOf, tripleOf, extended, chunkLabelOf, labelAt}
+use Rattle.order.specs.Labels.{lastTriple, forkLabel, segmentStates, segmentLabel, labelOf, counted, blank, holding, Labelled}
+use Rattle.order.specs.Climbing.{bundleForks, segmentOf, forkingOf, FewForked, ForkFound, stateOf, seekingOf, FewFound, SegmentFound, tripleOf, extended, chunkLabelOf, labelAt}
 use Rattle.order.specs.declared.label.Triple.{Triple}
 use Rattle.order.specs.declared.label.Label.{Label}
 use Rattle.order.specs.declared.climb.Segment.{Segment}
 use Rattle.order.specs.declared.climb.ChunkLabel.{ChunkLabel}
 use Rattle.order.specs.declared.climb.Forking.{Forking}
 use Rattle.order.specs.declared.climb.Forking.the-variants as For
+use Rattle.order.specs.declared.climb.Seeking.{Seeking}
+use Rattle.order.specs.declared.climb.Seeking.the-variants as Seek
+use Rattle.order.specs.declared.climb.LabelAnswer.the-variants as Ans
 use Rattle.order.proofs.Onward.{Legible, legible, team-falls}
 
 pub span-fits : (size regions : ℕ) → size < 256 → regions ≤ 65536 → size * regions ≤ 16711680
@@ -197,3 +201,42 @@ labels s t m number a = rw a (go (chunkOf (chunksOf s) t m))
     go : (o : Option Chunk) → fromOption (refuses 14 0) (λ (c : Chunk). answerOf s t m (inChunk c)) o ≡ answerOf s t m (fromOption none inChunk o)
     go none = refl
     go (some c) = refl
+
+holding-counted : (ts : List Triple) → counted (holding ts) ≡ ts
+unfolding counted holding
+holding-counted ts = take-append-seam ts (replicate (5 - length ts) blank)
+
+label-holds : (s : List ℕ) (t m : ℕ) (k : ChunkState) → labelAt s (segmentOf t m k) ≡ holding (segmentLabel (bundleForks s) t m k)
+unfolding labelAt segmentLabel lastTriple tripleOf
+label-holds s t m k = refl
+
+-- what the code answers
+module _ (s : List ℕ) (a : Accepted s) (t m number : ℕ) (r : Seeking) (f : SegmentFound s t m number r) where
+  pub none-such : r ≡ Seek.Nothing → refuses 14 0 ≡ labelOf s t m number
+  none-such q = sym (labels s t m number a ∙ ap (answerOf s t m) (never (stateOf s t m number) (sym (f .answer) ∙ q)))
+    where
+      never : (o : Option ChunkState) → seekingOf t m o ≡ Seek.Nothing → o ≡ none
+      never none e = refl
+      never (some k) e = let z : _≡_ {A = ℕ} 0 1 = cc in absurd (omega arith)
+
+  pub found-few : {k : Segment} → r ≡ Seek.Found k → k .regions ≤ 65536
+  found-few q = subst FewFound q (f .few)
+
+  pub found-labelled :
+      {k : Segment} (l : Label)
+      → r ≡ Seek.Found k
+      → l ≡ labelAt s k
+      → Labelled (record { answer = Ans.Found; label = l }) (labelOf s t m number)
+  found-labelled {k} l q e = go (stateOf s t m number) (labels s t m number a) (sym (f .answer) ∙ q)
+    where
+      go :
+          (o : Option ChunkState)
+          → labelOf s t m number ≡ answerOf s t m o
+          → seekingOf t m o ≡ Seek.Found k
+          → Labelled (record { answer = Ans.Found; label = l }) (labelOf s t m number)
+      go none h n = let z : _≡_ {A = ℕ} 0 1 = cc in absurd (omega arith)
+      go (some k′) h n =
+          let same : segmentOf t m k′ ≡ k = cc in
+          let ts = segmentLabel (bundleForks s) t m k′ in
+          let held : l ≡ holding ts = e ∙ ap (labelAt s) (sym same) ∙ label-holds s t m k′ in
+          rw (h, held) (record { answer = ap gives (holding-counted ts); label = refl })

@@ -1,12 +1,26 @@
 // The label of a segment, found by climbing from its team to the root.
 use bundle::command::{Command, Reading, read_command};
+use bundle::refusal::Cause;
 use crate::label::{Label, Triple};
 ghost use mathlib.Core.Path.{_≡_};
 ghost use mathlib.Core.List.{[]};
 ghost use Prim.Native.Nat.{_+_, _≤_, _<_};
+ghost use Rattle.bundle.specs.Answer.{refuses, numberOf};
 ghost use Rattle.bundle.specs.Check.{Accepted};
-ghost use Rattle.order.specs.Labels.{holding};
+ghost use Rattle.order.specs.Labels.{holding, labelOf, Labelled};
 ghost use Rattle.order.specs.Climbing.{opened, forkedHere, ForkFound, isSought, SegmentFound, tripleOf, extended, chunkLabelOf, labelAt};
+
+// What asking for a segment's label gives: where it is found, the label beside this is that of the segment.
+pub enum LabelAnswer {
+    Found,
+    Refused { cause: Cause, place: usize },
+}
+
+// An answer and the label beside it, whose triples past its count are 0; refused, the label has no triples.
+pub struct Labelling {
+    pub answer: LabelAnswer,
+    pub label: Label,
+}
 
 // A segment: the team and member of its chunk, and the barriers passed and regions joined before it in the chunk.
 struct Segment {
@@ -224,4 +238,28 @@ fn label_at(bytes: &[u8], segment: Segment) -> Label
     let chunk = label_of_chunk(bytes, segment.team);
     let label = chunk.label;
     extend(label, last_triple(segment, chunk.size))
+}
+
+fn refused(cause: Cause, place: usize) -> Labelling
+    ensures { λ r. ⌜ Labelled r (refuses (numberOf cause) place) ⌝ }
+{
+    Labelling {
+        answer: LabelAnswer::Refused { cause, place },
+        label: empty_label(),
+    }
+}
+
+// The label of a segment of an accepted bundle; 14 where there is none such.
+fn find_label(bytes: &[u8], team: u16, member: u8, number: u32) -> Labelling
+    requires { ⌜ Accepted (now bytes) ⌝ }
+    ensures { λ r. ⌜ Labelled r (labelOf (now (bytes .entry)) team member number) ⌝ }
+{
+    let seeking = find_segment(bytes, team, member, number);
+    let Seeking::Found(segment) = seeking else {
+        return refused(Cause::NoneSuch, 0);
+    };
+    Labelling {
+        answer: LabelAnswer::Found,
+        label: label_at(bytes, segment),
+    }
 }
