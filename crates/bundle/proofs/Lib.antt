@@ -19,3 +19,4 @@ pub mod Keys
 pub mod Shape
 pub mod ShapeOrder
 pub mod Reorder
+pub mod Onward

@@ -1,23 +1,21 @@
 -- Climbing: each fork's label is one triple longer than that of its team's chunk, and no label of an accepted bundle passes 5 triples.
 use Prim.Native.Nat.{ℕ, zero, suc, _+_, _-_, _*_, _≤_, _<_}
 use mathlib.Core.Path.{_≡_, refl, sym, _∙_, ap, ap₂, subst}
-use mathlib.Core.Bool.{Bool, true, false, cond}
-use mathlib.Core.List.{List, [], _∷_, _++_, List·Memᴰ, append-nil}
+use mathlib.Core.List.{List, [], _∷_, _++_, List·Memᴰ}
 use mathlib.Core.Option.{Option, none, some}
 use native.Mathlib.Omega.{arith}
 use native.Mathlib.Nat.{mul-le-mul}
 use native.Mathlib.Numerals.{add-one}
 use lib.ListN.{length, replicate, set, getElem?, length-append}
 use lib.Seq.{take-append-seam}
-use lib.Dec.{eqb, ltb}
+use lib.Dec.{eqb}
 use borrow.Author.Tests.{eqb-true, ne-eqb, ltb-false}
-use Rattle.bundle.specs.Answer.{Answer, gives, refuses, whenGiven}
-use Rattle.bundle.specs.Lists.{first, fromOption}
+use Rattle.bundle.specs.Answer.{Answer, gives, refuses}
+use Rattle.bundle.specs.Lists.{fromOption}
 use Rattle.bundle.specs.Chunks.{Chunk, chunksOf, chunkOf}
 use Rattle.bundle.specs.Check.{Fork, forkOf, sizeOf, depthFrom, depthOf, checkOf, Accepted}
 use Rattle.bundle.specs.declared.chunk.ChunkState.{ChunkState}
 use Rattle.bundle.proofs.ListLaws.{first-some}
-use Rattle.bundle.proofs.Shape.{Shaped}
 use Rattle.order.specs.Labels.{lastTriple, forkLabel, segmentStates, segmentLabel, labelOf, counted, blank, holding, Labelled}
 use Rattle.order.specs.Climbing.{bundleForks, segmentOf, forkingOf, FewForked, ForkFound, stateOf, seekingOf, FewFound, SegmentFound, tripleOf, extended, chunkLabelOf, labelAt}
 use Rattle.order.specs.declared.label.Triple.{Triple}
@@ -29,7 +27,7 @@ use Rattle.order.specs.declared.climb.Forking.the-variants as For
 use Rattle.order.specs.declared.climb.Seeking.{Seeking}
 use Rattle.order.specs.declared.climb.Seeking.the-variants as Seek
 use Rattle.order.specs.declared.climb.LabelAnswer.the-variants as Ans
-use Rattle.order.proofs.Onward.{Legible, legible, team-falls}
+use Rattle.bundle.proofs.Onward.{legible, team-falls}
 
 pub span-fits : (size regions : ℕ) → size < 256 → regions ≤ 65536 → size * regions ≤ 16711680
 span-fits size regions h l = let most : size ≤ 255 = omega arith in mul-le-mul most l
@@ -240,3 +238,7 @@ module _ (s : List ℕ) (a : Accepted s) (t m number : ℕ) (r : Seeking) (f : S
           let ts = segmentLabel (bundleForks s) t m k′ in
           let held : l ≡ holding ts = e ∙ ap (labelAt s) (sym same) ∙ label-holds s t m k′ in
           rw (h, held) (record { answer = ap gives (holding-counted ts); label = refl })
+
+pub check-refuses : (s : List ℕ) (t m number : ℕ) {n p : ℕ} → checkOf s ≡ refuses n p → refuses n p ≡ labelOf s t m number
+unfolding labelOf
+check-refuses s t m number e = sym (rw e)

@@ -1,6 +1,6 @@
 -- The two passes over an accepted bundle: for the REGION that forks a team, and for a segment.
 use Prim.Native.Nat.{ℕ, zero, suc, _+_, _≤_, _<_}
-use mathlib.Core.Path.{_≡_, refl, sym, _∙_, ap, subst}
+use mathlib.Core.Path.{_≡_, refl, sym, _∙_, ap}
 use mathlib.Core.Logic.{_⊎_, inl, inr}
 use mathlib.Core.Bool.{Bool, true, false, cond, _&&_}
 use mathlib.Core.List.{List, [], _∷_, _++_, map, List·Memᴰ, List·Memᴰ·head, List·Memᴰ·tail, Memᴰ·cast, Memᴰ·map}
@@ -8,8 +8,8 @@ use mathlib.Core.Option.{Option, none, some}
 use native.Mathlib.Omega.{arith}
 use lib.ListN.{length, getElem?}
 use lib.Dec.{eqb}
-use borrow.Author.Tests.{eq-eqb, ne-eqb, eqb-true}
-use Rattle.bundle.specs.Answer.{Answer, gives, refuses, numberOf}
+use borrow.Author.Tests.{eq-eqb, ne-eqb}
+use Rattle.bundle.specs.Answer.{gives, numberOf}
 use Rattle.bundle.specs.Lists.{concatMap, first, fromOption}
 use Rattle.bundle.specs.Commands.{Taken, readAt, readingOf}
 use Rattle.bundle.specs.Chunks.{Placed, Chunk, fresh, afterBarrier, afterJoin, afterAcquire, afterRelease, afterCommand, segmentNumber, frontOf, chunksOf, commandsOf, isOf, chunkOf}
@@ -25,15 +25,15 @@ use Rattle.bundle.proofs.ListLaws.{first-some, Distinct, distinct-head, distinc
 use Rattle.bundle.proofs.Decoding.{read-next}
 use Rattle.bundle.proofs.Places.{memberKey}
 use Rattle.bundle.proofs.Gathering.{plain, Body, ends, goes, Formed, placedOf}
-use Rattle.bundle.proofs.Shape.{Shaped, isOf-elim}
+use Rattle.bundle.proofs.Shape.{isOf-elim}
 use Rattle.order.specs.Labels.{openedFrom, segmentStates}
-use Rattle.order.specs.Climbing.{bundleForks, segmentOf, opened, forkedHere, forkingOf, FewForked, ForkFound, isSought, stateOf, seekingOf, FewFound, SegmentFound}
+use Rattle.order.specs.Climbing.{bundleForks, segmentOf, opened, forkedHere, forkingOf, FewForked, ForkFound, isSought, stateOf, seekingOf, SegmentFound}
 use Rattle.order.specs.declared.climb.Segment.{Segment}
 use Rattle.order.specs.declared.climb.Forking.{Forking}
 use Rattle.order.specs.declared.climb.Forking.the-variants as For
 use Rattle.order.specs.declared.climb.Seeking.{Seeking}
 use Rattle.order.specs.declared.climb.Seeking.the-variants as Seek
-use Rattle.order.proofs.Onward.{Onward, Next, onward-next, onward-read, onward-end, Legible, legible}
+use Rattle.bundle.proofs.Onward.{Onward, onward-next, onward-read, onward-end, legible}
 
 -- before the first command
 abbrev pub outset : Segment

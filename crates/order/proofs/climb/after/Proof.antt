@@ -1,37 +1,9 @@
+-- `order::climb::after` meets its contract: each arm is a clause of `opened`. Assumes nothing.
 use mathlib.Core.Path.{sym, ap}
-use Rattle.order.specs.Climbing.{opened}
 use borrow.Author.Needs.{needs}
+use Rattle.order.specs.Climbing.{opened}
 use Rattle.order.proofs.climb.after.Statement.{statement}
 use Rattle.order.proofs.climb.after.Tie as tie
-use Rattle.order.proofs.climb.after.Reads as reads
-use Rattle.order.proofs.climb.after.Lts as lts
-
-enum-known-command : tie.Need-enum-known-command
-enum-known-command c = search needs
-
-enum-told : tie.Need-enum-told
-enum-told c = search needs
-
-enum-told-2 : tie.Need-enum-told-2
-enum-told-2 c = search needs
-
-add-t6 : tie.Need-add-t6
-add-t6 c = search needs
-
-enum-told-3 : tie.Need-enum-told-3
-enum-told-3 c = search needs
-
-add-t7 : tie.Need-add-t7
-add-t7 c = search needs
-
-enum-told-4 : tie.Need-enum-told-4
-enum-told-4 c = search needs
-
-enum-told-5 : tie.Need-enum-told-5
-enum-told-5 c = search needs
-
-enum-told-6 : tie.Need-enum-told-6
-enum-told-6 c = search needs
 
 returns : tie.Need-returns
 unfolding opened
@@ -65,15 +37,15 @@ pub after-spec : {M : Type 1} → statement M
 after-spec =
     tie.close
     (tie.spec
-    enum-known-command
-    enum-told
-    enum-told-2
-    add-t6
-    enum-told-3
-    add-t7
-    enum-told-4
-    enum-told-5
-    enum-told-6
+    (λ c. search needs)
+    (λ c. search needs)
+    (λ c. search needs)
+    (λ c. search needs)
+    (λ c. search needs)
+    (λ c. search needs)
+    (λ c. search needs)
+    (λ c. search needs)
+    (λ c. search needs)
     returns
     returns-2
     returns-3

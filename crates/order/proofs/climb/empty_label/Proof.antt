@@ -1,11 +1,9 @@
+-- `order::climb::empty_label` meets its contract. Assumes nothing.
 use mathlib.Core.Path.{refl}
 use Rattle.order.specs.Labels.{blank}
 use Rattle.order.specs.Labels.{holding}
-use borrow.Author.Needs.{needs}
 use Rattle.order.proofs.climb.empty_label.Statement.{statement}
 use Rattle.order.proofs.climb.empty_label.Tie as tie
-use Rattle.order.proofs.climb.empty_label.Reads as reads
-use Rattle.order.proofs.climb.empty_label.Lts as lts
 
 returns : tie.Need-returns
 unfolding holding blank

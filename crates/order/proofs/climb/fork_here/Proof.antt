@@ -1,36 +1,14 @@
+-- `order::climb::fork_here` meets its contract: each arm is a clause of `forkedHere`. Assumes nothing.
 use mathlib.Core.Path.{sym, ap, _∙_}
-use Rattle.order.specs.Climbing.{forkedHere}
 use borrow.Author.Tests.{eq-eqb, ne-eqb}
 use borrow.Author.Needs.{needs}
+use Rattle.order.specs.Climbing.{forkedHere}
 use Rattle.order.proofs.climb.fork_here.Statement.{statement}
 use Rattle.order.proofs.climb.fork_here.Tie as tie
-use Rattle.order.proofs.climb.fork_here.Reads as reads
-use Rattle.order.proofs.climb.fork_here.Lts as lts
-
-enum-told : tie.Need-enum-told
-enum-told c = search needs
-
-enum-told-2 : tie.Need-enum-told-2
-enum-told-2 c = search needs
-
-enum-known-command : tie.Need-enum-known-command
-enum-known-command c = search needs
 
 returns : tie.Need-returns
 unfolding forkedHere
 returns c = sym (ap (forkedHere (c .before .before .before .before .args .team) (c .before .before .before .before .args .segment)) (c .before .before .command .given .1) ∙ rw (eq-eqb _ _ (c .if1 .taken)))
-
-enum-told-3 : tie.Need-enum-told-3
-enum-told-3 c = search needs
-
-enum-told-4 : tie.Need-enum-told-4
-enum-told-4 c = search needs
-
-enum-told-5 : tie.Need-enum-told-5
-enum-told-5 c = search needs
-
-enum-told-6 : tie.Need-enum-told-6
-enum-told-6 c = search needs
 
 returns-2 : tie.Need-returns-2
 unfolding forkedHere
@@ -64,14 +42,14 @@ pub fork-here-spec : {M : Type 1} → statement M
 fork-here-spec =
     tie.close
     (tie.spec
-    enum-told
-    enum-told-2
-    enum-known-command
+    (λ c. search needs)
+    (λ c. search needs)
+    (λ c. search needs)
     returns
-    enum-told-3
-    enum-told-4
-    enum-told-5
-    enum-told-6
+    (λ c. search needs)
+    (λ c. search needs)
+    (λ c. search needs)
+    (λ c. search needs)
     returns-2
     returns-3
     returns-4

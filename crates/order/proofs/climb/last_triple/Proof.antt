@@ -1,14 +1,10 @@
+-- `order::climb::last_triple` meets its contract: the offset fits, since a bundle has few regions. Assumes nothing.
 use native.Mathlib.Omega.{arith}
-use Rattle.order.proofs.Climbs.{span-fits}
-use Rattle.order.specs.Climbing.{tripleOf}
 use borrow.Author.Needs.{needs}
+use Rattle.order.specs.Climbing.{tripleOf}
+use Rattle.order.proofs.Climbs.{span-fits}
 use Rattle.order.proofs.climb.last_triple.Statement.{statement}
 use Rattle.order.proofs.climb.last_triple.Tie as tie
-use Rattle.order.proofs.climb.last_triple.Reads as reads
-use Rattle.order.proofs.climb.last_triple.Lts as lts
-
-cast-t4 : tie.Need-cast-t4
-cast-t4 c = search needs
 
 mul-t5 : tie.Need-mul-t5
 mul-t5 c = record { fits = omega (arith, span-fits (c .before .before .args .size) (c .before .before .args .segment .regions) (search needs) (c .before .before .pre)) }
@@ -21,4 +17,4 @@ unfolding tripleOf
 returns c = search needs
 
 pub last-triple-spec : {M : Type 1} → statement M
-last-triple-spec = tie.close (tie.spec cast-t4 mul-t5 add-t6 returns)
+last-triple-spec = tie.close (tie.spec (λ c. search needs) mul-t5 add-t6 returns)

@@ -2,31 +2,32 @@
 use Prim.Native.Nat.{ℕ, zero, suc, _+_, _≤_, _<_}
 use mathlib.Core.Path.{_≡_, refl, sym, _∙_, ap, subst}
 use mathlib.Core.Logic.{_⊎_, inl, inr, ⊎-elim}
-use mathlib.Core.Bool.{Bool, true, false}
-use mathlib.Core.List.{List, [], _∷_, _++_, map, List·Memᴰ, List·Memᴰ·head, List·Memᴰ·tail, List·Memᴰ·not-nil, List·Memᴰ·cases-cons}
+use mathlib.Core.Bool.{true, false}
+use mathlib.Core.List.{List, [], _∷_, map, List·Memᴰ, List·Memᴰ·head, List·Memᴰ·tail, List·Memᴰ·not-nil, List·Memᴰ·cases-cons}
 use native.Mathlib.Omega.{arith}
 use native.Mathlib.Nat.{add-zero}
 use lib.ListN.{length}
-use lib.Dec.{leb, ltb}
-use borrow.Author.Tests.{leb-true, leb-false, le-leb, lt-leb, ltb-true, ltb-false}
+use lib.Dec.{leb}
+use borrow.Author.Tests.{leb-true, leb-false, ltb-true, ltb-false}
 use Rattle.bundle.specs.Answer.{Answer, gives, refuses}
-use Rattle.bundle.specs.Lists.{all, concatMap}
+use Rattle.bundle.specs.Lists.{concatMap}
 use Rattle.bundle.specs.Commands.{Taken, inRange, decodeAt, readAt}
 use Rattle.bundle.specs.Chunks.{Placed, Front, Chunk, fresh, afterCommand, follow, frontFrom, frontOf, chunksOf, commandsOf}
 use Rattle.bundle.specs.Scan.{aboveOwnTeam, start, onward, scanned, scanOf}
 use Rattle.bundle.specs.Check.{Fork, forkHere, forksFrom, forksIn, forksOf, Accepted}
 use Rattle.bundle.specs.declared.chunk.ChunkState.{ChunkState}
 use Rattle.bundle.specs.declared.chunk.Scan.{Scan}
 use Rattle.bundle.specs.declared.command.Command.{Command}
 use Rattle.bundle.specs.declared.command.Command.the-variants as Com
 use Rattle.bundle.proofs.Tests.{decide, false-is-true}
 use Rattle.bundle.proofs.ListLaws.{all-elim, concatMap-elim}
 use Rattle.bundle.proofs.Decoding.{decode-reads, read-next}
-use Rattle.bundle.proofs.Scanning.{total, uncounted, orderly, Tested, orderly-head, orderly-tail, Room, Passed, walk-elim}
+use Rattle.bundle.proofs.Printing.{front-stops, front-goes}
+use Rattle.bundle.proofs.Scanning.{total, uncounted, orderly, orderly-head, orderly-tail, Room, Passed, walk-elim}
 use Rattle.bundle.proofs.Gathering.{plain, Body, ends, goes, Formed, placedOf, logOf, all-in-chunks}
 use Rattle.bundle.proofs.ScanChunks.{scan-chunks, commands-of-chunks}
 use Rattle.bundle.proofs.Shape.{Shaped, shaped-elim}
-use Rattle.bundle.proofs.Reorder.{Checked, checked}
+use Rattle.bundle.proofs.Reorder.{Checked, checked, orderly-range}
 
 -- the commands that are read from a position on, up to the end
 pub data Onward (s : List ℕ) : ℕ → List Placed → Type 0 where
@@ -73,15 +74,6 @@ reads-follow s at past rest ih (gives t) q e h =
     goes-on reads (ih (t .next) (n .0) (n .1) e (λ c m. h c (List·Memᴰ·tail m)))
 reads-follow s at past rest ih (refuses n p) q e h = let z : _≡_ {A = ℕ} 0 1 = cc in absurd (omega arith)
 
-front-stops : (fuel : ℕ) (s : List ℕ) (at : ℕ) → length s ≤ at → frontFrom fuel s at ≡ record { placed = []; stop = gives at }
-unfolding frontFrom
-front-stops zero s at h = refl
-front-stops (suc fuel) s at h = rw (le-leb (length s) at h)
-
-front-goes : (fuel : ℕ) (s : List ℕ) (at : ℕ) → at < length s → frontFrom (suc fuel) s at ≡ follow (frontFrom fuel s) at (decodeAt s at)
-unfolding frontFrom
-front-goes fuel s at h = rw (lt-leb (length s) at h)
-
 reads-from : (fuel : ℕ) (s : List ℕ) (at past : ℕ) → length s ≤ at + fuel → Reads past s at (frontFrom fuel s at)
 reads-from zero s at past f =
     subst (Reads past s at) (sym (front-stops zero s at (omega arith))) (λ e h. at-end (rw add-zero at f))
@@ -98,14 +90,6 @@ reads-from (suc fuel) s at past f =
     go (inr t) ih =
         subst (Reads past s at) (sym (front-goes fuel s at (leb-false (length s) at t)))
         (reads-follow s at past (frontFrom fuel s) ih (decodeAt s at) refl)
-
-orderly-range : (k : Scan) (cs : List Command) → orderly k cs ≡ true → (c : Command) → List·Memᴰ c cs → inRange c ≡ true
-orderly-range k [] o c m = absurd (List·Memᴰ·not-nil m)
-orderly-range k (d ∷ cs) o c m =
-    ⊎-elim
-    (λ q. ap inRange q ∙ orderly-head k d cs o .in-range)
-    (orderly-range _ cs (orderly-tail k d cs o) c)
-    (List·Memᴰ·cases-cons m)
 
 -- what is known of an accepted bundle that is read front to back
 pub record Legible (s : List ℕ) : Type 0 where
