@@ -1,7 +1,10 @@
 // The label of a segment, found by climbing from its team to the root.
-use bundle::command::{Command, Reading, read_command};
+use crate::label::Label;
+use crate::label::Triple;
+use bundle::command::Command;
+use bundle::command::Reading;
+use bundle::command::read_command;
 use bundle::refusal::Cause;
-use crate::label::{Label, Triple};
 ghost use mathlib.Core.Path.{_≡_};
 ghost use mathlib.Core.List.{[]};
 ghost use Prim.Native.Nat.{_+_, _≤_, _<_};
