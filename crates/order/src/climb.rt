@@ -13,7 +13,7 @@ ghost use Rattle.bundle.specs.Check.{Accepted};
 ghost use Rattle.order.specs.Labels.{holding, labelOf, Labelled};
 ghost use Rattle.order.specs.Climbing.{opened, forkedHere, ForkFound, isSought, SegmentFound, tripleOf, extended, chunkLabelOf, labelAt};
 
-// What asking for a segment's label gives: where it is found, the label beside this is that of the segment.
+// What is answered for a segment's label: that it is found, and stands beside this, or a refusal.
 pub enum LabelAnswer {
     Found,
     Refused { cause: Cause, place: usize },
@@ -33,7 +33,7 @@ struct Segment {
     regions: u32,
 }
 
-// Who forks a team.
+// Which segment forks a team.
 enum Forking {
     // The segment that the REGION ends, and the team's size.
     Forked { by: Segment, size: u8 },
@@ -104,7 +104,7 @@ fn fork_here(segment: Segment, command: Command, team: u16) -> Forking
     }
 }
 
-// The REGION that forks a team, by one pass over an accepted bundle.
+// The REGION that forks a team, by one pass over an accepted bundle, in which no command is refused.
 fn find_fork(bytes: &[u8], team: u16) -> Forking
     requires { ⌜ Accepted (now bytes) ⌝ }
     ensures { λ r. ⌜ ForkFound (now (bytes .entry)) team r ⌝ }
@@ -141,7 +141,7 @@ fn is_sought(segment: Segment, team: u16, member: u8, number: u32) -> bool
         & (segment.barriers + segment.regions == number)
 }
 
-// The segment of this team, member and number, by one pass over an accepted bundle.
+// The segment of this team, member and number, by one pass over an accepted bundle, in which no command is refused.
 fn find_segment(bytes: &[u8], team: u16, member: u8, number: u32) -> Seeking
     requires { ⌜ Accepted (now bytes) ⌝ }
     ensures { λ r. ⌜ SegmentFound (now (bytes .entry)) team member number r ⌝ }
