@@ -20,3 +20,10 @@ pub mod Shape
 pub mod ShapeOrder
 pub mod Reorder
 pub mod Onward
+pub mod LockBits
+pub mod Stepping
+pub mod Passing
+pub mod ShapeRows
+pub mod CheckCases
+pub mod Tables
+pub mod RowTests
