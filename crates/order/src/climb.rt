@@ -1,6 +1,8 @@
 // The label of a segment, found by climbing from its team to the root.
 use crate::label::Label;
 use crate::label::Triple;
+use bundle::check::Checking;
+use bundle::check::check;
 use bundle::command::Command;
 use bundle::command::Reading;
 use bundle::command::read_command;
@@ -264,5 +266,16 @@ fn find_label(bytes: &[u8], team: u16, member: u8, number: u32) -> Labelling
     Labelling {
         answer: LabelAnswer::Found,
         label: label_at(bytes, segment),
+    }
+}
+
+// "Label of a segment (team, member, segment number)": as check, then 14 at 0, else the segment's label.
+pub fn label_of_segment(bytes: &[u8], team: u16, member: u8, segment: u32) -> Labelling
+    ensures { λ r. ⌜ Labelled r (labelOf (now (bytes .entry)) team member segment) ⌝ }
+{
+    let checking = check(bytes);
+    match checking {
+        Checking::Accepted => find_label(bytes, team, member, segment),
+        Checking::Refused { cause, place } => refused(cause, place),
     }
 }
