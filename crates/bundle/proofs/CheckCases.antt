@@ -15,9 +15,9 @@ use lib.Seq.{drop-cons}
 use borrow.Author.Tests.{lt-ltb, le-ltb}
 use Rattle.bundle.specs.Answer.{Answer, gives, refuses, whenGiven, numberOf}
 use Rattle.bundle.specs.Lists.{first, concatMap, fromOption}
-use Rattle.bundle.specs.Commands.{inRange, bytesOf}
+use Rattle.bundle.specs.Commands.{Bytes, inRange, bytesOf}
 use Rattle.bundle.specs.Chunks.{Placed, Front, Chunk, frontOf, gather, chunksOf, partOf, isOf, chunkOf}
-use Rattle.bundle.specs.Check.{forksOf, shapeOf, checkOf, checkingOf, findOf, Bytes}
+use Rattle.bundle.specs.Check.{forksOf, shapeOf, checkOf, checkingOf, findOf}
 use Rattle.bundle.specs.Scan.{start, scanned, scanOf}
 use Rattle.bundle.specs.Rows.{rowOf, rowsOf, chunkRow, forkRow, isRow, indexOf, shapeByRows}
 use Rattle.bundle.specs.Survey.{InTables, Surveyed}

@@ -20,6 +20,7 @@ pub mod Keys
 pub mod Shape
 pub mod ShapeOrder
 pub mod Reorder
+pub mod Onward
 pub mod LockBits
 pub mod Stepping
 pub mod Passing

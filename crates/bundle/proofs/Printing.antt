@@ -68,12 +68,12 @@ decode-printed p q c r =
         (append-assoc p (bytesOf c) q)
 
 -- the front of commands that are printed behind other bytes
-front-stops : (fuel : ℕ) (s : List ℕ) (at : ℕ) → length s ≤ at → frontFrom fuel s at ≡ record { placed = []; stop = gives at }
+pub front-stops : (fuel : ℕ) (s : List ℕ) (at : ℕ) → length s ≤ at → frontFrom fuel s at ≡ record { placed = []; stop = gives at }
 unfolding frontFrom
 front-stops zero s at h = refl
 front-stops (suc fuel) s at h = rw (le-leb (length s) at h)
 
-front-goes : (fuel : ℕ) (s : List ℕ) (at : ℕ) → at < length s → frontFrom (suc fuel) s at ≡ follow (frontFrom fuel s) at (decodeAt s at)
+pub front-goes : (fuel : ℕ) (s : List ℕ) (at : ℕ) → at < length s → frontFrom (suc fuel) s at ≡ follow (frontFrom fuel s) at (decodeAt s at)
 unfolding frontFrom
 front-goes fuel s at h = rw (lt-leb (length s) at h)
 

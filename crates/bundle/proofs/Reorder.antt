@@ -50,7 +50,7 @@ pub accepts : (s : List ℕ) → Checked s → Accepted s
 unfolding checkOf
 accepts s c = rw (c .short, c .scan-ok) (c .shape)
 
-orderly-range : (k : Scan) (cs : List Command) → orderly k cs ≡ true → (c : Command) → List·Memᴰ c cs → inRange c ≡ true
+pub orderly-range : (k : Scan) (cs : List Command) → orderly k cs ≡ true → (c : Command) → List·Memᴰ c cs → inRange c ≡ true
 orderly-range k [] o c m = absurd (List·Memᴰ·not-nil m)
 orderly-range k (d ∷ cs) o c m =
     ⊎-elim

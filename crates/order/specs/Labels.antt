@@ -1,9 +1,10 @@
 -- Offset-span labels: the label of a segment, found by climbing, and the comparison of two labels.
-use Prim.Native.Nat.{ℕ, zero, suc, _+_, _*_, _%_}
+use Prim.Native.Nat.{ℕ, zero, suc, _+_, _-_, _*_, _%_}
+use mathlib.Core.Path.{_≡_}
 use mathlib.Core.Bool.{Bool, true, false, cond, not, _&&_, _||_}
 use mathlib.Core.List.{List, [], _∷_, _++_, map}
 use mathlib.Core.Option.{Option, none, some}
-use lib.ListN.{length, take, getElem?}
+use lib.ListN.{length, take, replicate, getElem?}
 use lib.Dec.{eqb, ltb, leb}
 use Rattle.bundle.specs.Answer.{Answer, gives, refuses, whenGiven, numberOf}
 use Rattle.bundle.specs.Lists.{all, fromOption}
@@ -15,6 +16,9 @@ use Rattle.order.specs.declared.label.Triple.{Triple}
 use Rattle.order.specs.declared.label.Label.{Label}
 use Rattle.order.specs.declared.label.Order.{Order}
 use Rattle.order.specs.declared.label.Order.the-variants as Ord
+use Rattle.order.specs.declared.climb.LabelAnswer.{LabelAnswer}
+use Rattle.order.specs.declared.climb.LabelAnswer.the-variants as Ans
+use Rattle.order.specs.declared.climb.Labelling.{Labelling}
 use Rattle.order.specs.declared.label.Comparison.{Comparison}
 use Rattle.order.specs.declared.label.Comparison.the-variants as Com
 
@@ -62,6 +66,13 @@ labelOf s t m number =
 unfoldable pub counted : Label → List Triple
 counted l = take (l .count) (l .triples)
 
+-- a label that holds these triples, at most 5: past them it is 0
+unfoldable pub blank : Triple
+blank = record { offset = 0; span = 0; interval = 0 }
+
+unfoldable pub holding : List Triple → Label
+holding ts = record { count = length ts; triples = ts ++ replicate (5 - length ts) blank }
+
 -- 15: a label with 0 or over 5 triples, a span of 0 or over 64, or a first span not 1
 unfoldable pub spanOk : Triple → Bool
 spanOk t = leb 1 (t .span) && leb (t .span) 64
@@ -104,3 +115,20 @@ compareOf a b =
 abbrev pub comparisonOf : Comparison → Answer Order
 comparisonOf (Com.Compared o) = gives o
 comparisonOf (Com.Refused cause place) = refuses (numberOf cause) place
+
+abbrev pub labelAnswerOf : Label → LabelAnswer → Answer (List Triple)
+labelAnswerOf l Ans.Found = gives (counted l)
+labelAnswerOf l (Ans.Refused cause place) = refuses (numberOf cause) place
+
+abbrev pub labellingOf : Labelling → Answer (List Triple)
+labellingOf r = labelAnswerOf (r .label) (r .answer)
+
+-- the label beside an answer; it has no triples where the answer is a refusal
+abbrev pub labelBeside : Answer (List Triple) → Label
+labelBeside (gives ts) = holding ts
+labelBeside (refuses n p) = holding []
+
+-- the code's answer, and the label beside it, are those of this answer
+pub record Labelled (r : Labelling) (a : Answer (List Triple)) : Type 0 where
+  pub answer : labellingOf r ≡ a
+  pub label : r .label ≡ labelBeside a

@@ -2,3 +2,4 @@
 pub mod Labels
 pub mod Ranges
 pub mod Pairs
+pub mod Climbing
