@@ -74,7 +74,7 @@ TOO_LONG = [
     Case("1 before 2", 1, "*times 65537 raw 00"),
     Case("1 before 3", 1, "*" + FULL_BYTES + "; end; cut 1 member 0 0"),
     Case("1 before 4", 1, "*" + FULL_BYTES + "; barrier; barrier"),
-    Case("1 before 7", 1, "*member 0 0; times 70000 barrier; end"),
+    Case("1 before 7", 1, "*member 0 0; times 66000 barrier; end"),
     Case("1 before 10", 1, "*" + FULL_BYTES + "; region 1 1; end"),
     Case("not 1: 65,536 unknown bytes", 2, "*times 65536 raw 00"),
     Case("not 1: 65,536 bytes ending inside a chunk", 4, FULL_BYTES + "; barrier; *"),

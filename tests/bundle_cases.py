@@ -48,9 +48,9 @@ def check_frames(seed):
         yield check_frame(data)
     for cut in range(len(E)):
         yield check_frame(E[:cut])
-    for data in small_good(rng, 60) + small_damaged(rng, 500):
+    for data in small_good(rng, 400) + small_damaged(rng, 1600):
         yield check_frame(data)
-    for style in generators.STYLES:
+    for style in generators.STYLES * 3:
         yield check_frame(generators.random_bundle(rng, style))
         yield check_frame(generators.damaged_bundle(rng, style))
 
@@ -284,15 +284,27 @@ def keys_about(rng, race):
 
 
 def large_frames(seed):
-    """Bundles at and past the limits; some hundred thousand bytes."""
+    """Bundles at and past the limits; about a million bytes."""
     rng = random.Random(seed)
     for data in aimed_bundles():
         if len(data) > SHORT:
             yield check_frame(data)
     for style in (generators.LARGE, generators.QUIET):
-        chunks = generators.shuffled(rng, generators.full_bundle(rng, style))
-        data = generators.bundle_bytes(chunks)
-        yield judge_frame(ENOUGH, data)
-        yield find_frame(0, 1, data)
-        yield next_frame(ENOUGH, generators.BASE + 20, LOWEST, LOWEST, data)
+        for data in shuffled_full_bundle(rng, style):
+            yield check_frame(data)
+            yield find_frame(0, 1, data)
+            yield label_frame(*rng.choice(member_names(data)), 0, data)
+
+
+def large_verdict_frames(seed):
+    """Judgements of bundles at the limits."""
+    rng = random.Random(seed)
+    for style in (generators.LARGE, generators.QUIET):
+        for data in shuffled_full_bundle(rng, style):
+            yield judge_frame(ENOUGH, data)
+            yield next_frame(ENOUGH, generators.BASE + 20, LOWEST, LOWEST, data)
     yield judge_frame(ENOUGH, generators.random_bundle(rng, generators.LARGE))
+
+
+def shuffled_full_bundle(rng, style):
+    return [generators.bundle_bytes(generators.shuffled(rng, generators.full_bundle(rng, style)))]

@@ -1,4 +1,5 @@
 // Answers framed cases from standard input with the proved operations, a line for each frame.
+mod bundles;
 mod commands;
 mod frames;
 mod numbers;
@@ -28,6 +29,9 @@ fn answer(operation: u8, body: &mut [u8], out: &mut [u8], used: usize) -> Line {
     match operation {
         1 => commands::read(body, out, used),
         2 => commands::put(body, out, used),
+        3 => bundles::check(body, out, used),
+        4 => bundles::find(body, out, used),
+        5 => bundles::label(body, out, used),
         6 => orders::compare(body, out, used),
         7 => orders::share(body, out, used),
         _ => Line::Malformed,

@@ -79,12 +79,15 @@ pub fn put_hex(out: &mut [u8], used: usize, bytes: &[u8]) -> usize {
 }
 
 // "refused N at P"
-pub fn put_refusal(out: &mut [u8], used: usize, cause: Cause, place: usize) -> usize {
-    let number = bundle::refusal::number(cause);
+pub fn put_refused(out: &mut [u8], used: usize, number: u8, place: usize) -> usize {
     let refused = put_text(out, used, b"refused");
     let numbered = put_field(out, refused, number as u64);
     let at = put_text(out, numbered, b" at");
     put_field(out, at, place as u64)
+}
+
+pub fn put_refusal(out: &mut [u8], used: usize, cause: Cause, place: usize) -> usize {
+    put_refused(out, used, bundle::refusal::number(cause), place)
 }
 
 pub fn end_line(out: &mut [u8], used: usize) -> Line {
