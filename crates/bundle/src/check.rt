@@ -1,8 +1,10 @@
 // Check a bundle, and find a member's chunk.
 use crate::refusal::Cause;
-use crate::rows::{index_of, unpack};
+use crate::rows::index_of;
+use crate::rows::unpack;
 use crate::structure::shape;
-use crate::survey::{Survey, survey_all};
+use crate::survey::Survey;
+use crate::survey::survey_all;
 ghost use mathlib.Core.Path.{_≡_};
 ghost use lib.ListN.{length, drop};
 ghost use Rattle.bundle.specs.Check.{checkOf, checkingOf, findOf};
@@ -52,7 +54,10 @@ fn check_into(bytes: &[u8], chunks: &mut [u64]) -> Checked
         Survey::Complete {
             chunks: chunk_count,
             forks: fork_count,
-        } => count_in(chunk_count, shape(&chunks[..chunk_count], &forks[..fork_count])),
+        } => count_in(
+            chunk_count,
+            shape(&chunks[..chunk_count], &forks[..fork_count]),
+        ),
         Survey::Refused { cause, place } => Checked::Refused { cause, place },
     }
 }
@@ -107,7 +112,13 @@ pub fn find_ends(bytes: &[u8], team: u16, member: u8) -> Found
 }
 
 // A member's chunk, that part of the bundle, with 0 in number and place. Refused, an empty part, with the refusal's number and place.
-pub fn find_chunk<'a>(bytes: &'a [u8], team: u16, member: u8, number: &mut u8, place: &mut usize) -> &'a [u8]
+pub fn find_chunk<'a>(
+    bytes: &'a [u8],
+    team: u16,
+    member: u8,
+    number: &mut u8,
+    place: &mut usize,
+) -> &'a [u8]
     ensures { λ r. ⌜ handedBack (findOf (now (bytes .entry)) team member) ≡ record { part = now r; number = now (number .exit); place = now (place .exit) } ⌝ }
 {
     match find_ends(bytes, team, member) {
