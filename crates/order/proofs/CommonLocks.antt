@@ -67,10 +67,3 @@ common-bits a b h =
     same-test _ _
     (λ t. to-common 64 a b (λ z. not-both (eq-eqb _ _ z) (false-of-not _ t)) h)
     (λ t. not-of-false (ne-eqb _ _ (of-common 64 a b t)))
-
--- a lock over 63 is in no set of 64 bits
-pub none-above : (lock locks : ℕ) → 63 < lock → locks < 2 ^ 64 → false ≡ holds lock locks
-unfolding holds
-none-above lock locks h l =
-    let z : locks / 2 ^ lock ≡ 0 = div-eq-of-lt (omega (arith, pow-mono {i = 64} {j = lock} h)) in
-    sym (ne-eqb (locks / 2 ^ lock % 2) 1 (λ e. omega arith))

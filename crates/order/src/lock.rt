@@ -6,10 +6,7 @@ ghost use Rattle.bundle.specs.Locks.{holds, commonLock};
 pub fn holds(lock: u8, locks: u64) -> bool
     ensures { λ r. ⌜ r ≡ holds lock locks ⌝ }
 {
-    if 63 < lock {
-        return false;
-    }
-    (locks >> lock) % 2 == 1
+    bundle::chunk::holds_lock(locks, lock)
 }
 
 // Whether two sets have a lock in common.
