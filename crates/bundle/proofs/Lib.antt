@@ -19,3 +19,10 @@ pub mod Keys
 pub mod Shape
 pub mod ShapeOrder
 pub mod Reorder
+pub mod LockBits
+pub mod Stepping
+pub mod Passing
+pub mod ShapeRows
+pub mod CheckCases
+pub mod Tables
+pub mod RowTests

@@ -6,10 +6,12 @@ use mathlib.Core.List.{List, [], _∷_, _++_, map, List·Permᴰ}
 use mathlib.Core.Option.{Option, none, some}
 use lib.ListN.{length, getD}
 use lib.Dec.{eqb, ltb, leb}
-use Rattle.bundle.specs.Answer.{Answer, gives, refuses, whenGiven}
+use Rattle.bundle.specs.Answer.{Answer, gives, refuses, whenGiven, numberOf}
 use Rattle.bundle.specs.Lists.{upTo, any, all, first, concat, concatMap, fromOption}
 use Rattle.bundle.specs.Chunks.{Placed, Chunk, fresh, afterCommand, afterCommands, chunksOf, commandsOf, partOf, isOf, chunkOf}
 use Rattle.bundle.specs.Scan.{scanOf}
+use Rattle.bundle.specs.declared.check.Checking.{Checking}
+use Rattle.bundle.specs.declared.check.Checking.the-variants as Checks
 use Rattle.bundle.specs.declared.chunk.ChunkState.{ChunkState}
 use Rattle.bundle.specs.declared.command.Command.{Command}
 use Rattle.bundle.specs.declared.command.Command.the-variants as Com
@@ -107,6 +109,11 @@ shapeOf cs =
 -- "Check a bundle"
 unfoldable pub checkOf : List ℕ → Answer (Unit {0})
 checkOf s = cond (ltb 65536 (length s)) (refuses 1 0) (whenGiven (scanOf s) (λ k. shapeOf (chunksOf s)))
+
+-- what the answer of the code says
+abbrev pub checkingOf : Checking → Answer (Unit {0})
+checkingOf Checks.Accepted = gives tt
+checkingOf (Checks.Refused cause place) = refuses (numberOf cause) place
 
 -- "Find a member's chunk": as check, then 14 none such, at 0
 unfoldable pub findOf : List ℕ → ℕ → ℕ → Answer (List ℕ)

@@ -7,3 +7,6 @@ pub mod Locks
 pub mod Chunks
 pub mod Scan
 pub mod Check
+pub mod Rows
+pub mod Survey
+pub mod Find

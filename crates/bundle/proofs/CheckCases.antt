@@ -1,0 +1,266 @@
+-- What check and find answer, case by case; and that a chunk ends where the next begins.
+use Prim.Native.Nat.{ℕ, zero, suc, _+_, _-_, _≤_, _<_}
+use mathlib.Core.Path.{_≡_, refl, sym, _∙_, ap, ap₂, subst}
+use mathlib.Core.Logic.{_⊎_, inl, inr}
+use mathlib.Core.Bool.{Bool, true, false, cond}
+use mathlib.Core.List.{List, [], _∷_, _++_, map, List·Memᴰ, List·Memᴰ·not-nil, List·Memᴰ·cases-cons}
+use mathlib.Core.Logic.{⊎-elim}
+use mathlib.Core.Option.{Option, none, some}
+use native.Mathlib.Omega.{arith}
+use native.Mathlib.Nat.{add-assoc, add-zero, zero-add}
+use native.Mathlib.Numerals.{add-one}
+use lib.Dec.{eqb, ltb, leb}
+use lib.ListN.{length, take, drop, getD, length-append, length-map, List·getD-map, drop-of-length-le}
+use lib.Seq.{drop-cons}
+use borrow.Author.Tests.{lt-ltb, le-ltb}
+use Rattle.bundle.specs.Answer.{Answer, gives, refuses, whenGiven, numberOf}
+use Rattle.bundle.specs.Lists.{first, concatMap, fromOption}
+use Rattle.bundle.specs.Commands.{inRange, bytesOf}
+use Rattle.bundle.specs.Chunks.{Placed, Front, Chunk, frontOf, gather, chunksOf, isOf, chunkOf}
+use Rattle.bundle.specs.Check.{forksOf, shapeOf, checkOf, checkingOf, Bytes}
+use Rattle.bundle.specs.Scan.{start, scanned, scanOf}
+use Rattle.bundle.specs.Rows.{rowOf, rowsOf, chunkRow, forkRow, isRow, indexOf, shapeByRows}
+use Rattle.bundle.specs.Survey.{InTables, Surveyed}
+use Rattle.bundle.specs.Find.{Ends, endsOf, foundOf, nextPlace, endsByRows, countedIn, AcceptedRows, CheckedRows}
+use Rattle.bundle.specs.declared.refusal.Cause.{Cause}
+use Rattle.bundle.specs.declared.chunk.Scan.{Scan}
+use Rattle.bundle.specs.declared.command.Command.{Command}
+use Rattle.bundle.specs.declared.rows.Row.{Row}
+use Rattle.bundle.specs.declared.survey.Survey.{Survey}
+use Rattle.bundle.specs.declared.survey.Survey.the-variants as Surveys
+use Rattle.bundle.specs.declared.check.Checking.{Checking}
+use Rattle.bundle.specs.declared.check.Checking.the-variants as Checks
+use Rattle.bundle.specs.declared.check.Checked.{Checked}
+use Rattle.bundle.specs.declared.check.Checked.the-variants as Checkeds
+use Rattle.bundle.proofs.ListLaws.{concatMap-append}
+use Rattle.bundle.proofs.Scanning.{Room, orderly, orderly-head, orderly-tail, uncounted, Passed, walk-elim, total}
+use Rattle.bundle.proofs.Gathering.{Formed, placedOf, logOf, Outside, all-in-chunks}
+use Rattle.bundle.proofs.ScanChunks.{commands-of-chunks}
+use Rattle.bundle.proofs.Printing.{printed, placedFrom, prints-front, front-of-printed}
+use Rattle.bundle.proofs.Settling.{settled, settle, gather-settle}
+use Rattle.bundle.proofs.ShapeRows.{shape-rows, of-chunk}
+
+-- check
+module _ (s : List ℕ) where
+  pub check-long : 65536 < length s → checkOf s ≡ refuses 1 0
+  unfolding checkOf
+  check-long h = rw (lt-ltb 65536 (length s) h)
+
+  pub check-refused : (n p : ℕ) → length s ≤ 65536 → scanOf s ≡ refuses n p → checkOf s ≡ refuses n p
+  unfolding checkOf
+  check-refused n p h e = rw (le-ltb 65536 (length s) h, e)
+
+  check-shape : (k : Scan) → length s ≤ 65536 → scanOf s ≡ gives k → checkOf s ≡ shapeOf (chunksOf s)
+  unfolding checkOf
+  check-shape k h e = rw (le-ltb 65536 (length s) h, e)
+
+  -- the shape by the rows in the tables
+  pub check-rows :
+      (n m : ℕ) (chunks forks : List ℕ) (r : Checking)
+      → length s ≤ 65536
+      → InTables s n m chunks forks
+      → checkingOf r ≡ shapeByRows (rowsOf (take n chunks)) (rowsOf (take m forks))
+      → {q : Checked}
+      → q ≡ countedIn n r
+      → CheckedRows s q chunks
+  check-rows n m chunks forks r h t e {q} w =
+      subst (λ (x : Checked). CheckedRows s x chunks) (sym w)
+      (cases r (check-shape (t .scan) h (t .passes) ∙ sym (shape-rows (chunksOf s)) ∙ ap₂ shapeByRows (sym (t .chunk-rows)) (sym (t .fork-rows)) ∙ sym e))
+    where
+      cases : (r : Checking) → checkOf s ≡ checkingOf r → CheckedRows s (countedIn n r) chunks
+      cases Checks.Accepted e = record { accepted = e; within = t .chunks-within; rows = t .chunk-rows }
+      cases (Checks.Refused cause place) e = e
+
+  pub checked-accepted : (table : List ℕ) {q : Checked} {n : ℕ} → CheckedRows s q table → q ≡ Checkeds.Accepted n → AcceptedRows s n table
+  checked-accepted table v e = subst (λ (x : Checked). CheckedRows s x table) e v
+
+  pub checked-refused :
+      (table : List ℕ) {q : Checked} {cause : Cause} {place : ℕ}
+      → CheckedRows s q table
+      → q ≡ Checkeds.Refused cause place
+      → checkOf s ≡ refuses (numberOf cause) place
+  checked-refused table v e = subst (λ (x : Checked). CheckedRows s x table) e v
+
+-- the place of a row, or the end behind the last
+pub place-found :
+    (ws : List ℕ) (i end : ℕ) {r : Row}
+    → i < length ws
+    → r ≡ rowOf (getD ws i 0)
+    → r .place ≡ nextPlace (drop i (rowsOf ws)) end
+unfolding rowsOf nextPlace
+place-found ws i end {r} h e =
+    ap (λ (x : Row). x .place) (e ∙ sym (List·getD-map rowOf ws i 0))
+    ∙ sym (ap (λ (l : List Row). nextPlace l end) (drop-cons (map rowOf ws) i (rowOf 0) (rw (length-map ws rowOf) h)))
+
+pub place-past : (ws : List ℕ) (i end : ℕ) → length ws ≤ i → end ≡ nextPlace (drop i (rowsOf ws)) end
+unfolding rowsOf nextPlace
+place-past ws i end h = rw (drop-of-length-le (map rowOf ws) {i = i} (rw (length-map ws rowOf) h))
+
+-- the ends of a chunk by the rows
+module _ (t m end : ℕ) where
+  none-by-rows : (rs : List Row) → length rs ≤ indexOf (isRow t m) rs → refuses 14 0 ≡ endsByRows rs end t m
+  unfolding indexOf endsByRows
+  none-by-rows [] h = refl
+  none-by-rows (r ∷ rs) h = go (isRow t m r) h (none-by-rows rs)
+    where
+      go :
+          (b : Bool)
+          → suc (length rs) ≤ cond b 0 (suc (indexOf (isRow t m) rs))
+          → (length rs ≤ indexOf (isRow t m) rs → refuses 14 0 ≡ endsByRows rs end t m)
+          → refuses 14 0 ≡ cond b (gives (record { start = r .place; end = nextPlace rs end })) (endsByRows rs end t m)
+      go true l ih = absurd (omega arith)
+      go false l ih = ih (omega arith)
+
+  abbrev EndsAt : List Row → ℕ → Type 0
+  EndsAt rs i = gives (record { start = nextPlace (drop i rs) end; end = nextPlace (drop (suc i) rs) end }) ≡ endsByRows rs end t m
+
+  some-by-rows : (rs : List Row) → indexOf (isRow t m) rs < length rs → EndsAt rs (indexOf (isRow t m) rs)
+  unfolding indexOf endsByRows
+  some-by-rows [] h = absurd (omega arith)
+  some-by-rows (r ∷ rs) h = go (isRow t m r) h (some-by-rows rs)
+    where
+      go :
+          (b : Bool)
+          → cond b 0 (suc (indexOf (isRow t m) rs)) < suc (length rs)
+          → (indexOf (isRow t m) rs < length rs → EndsAt rs (indexOf (isRow t m) rs))
+          → gives (record { start = nextPlace (drop (cond b 0 (suc (indexOf (isRow t m) rs))) (r ∷ rs)) end; end = nextPlace (drop (cond b 0 (suc (indexOf (isRow t m) rs))) rs) end })
+          ≡ cond b (gives (record { start = r .place; end = nextPlace rs end })) (endsByRows rs end t m)
+      go true l ih = unfold nextPlace in refl
+      go false l ih = ih (omega arith)
+
+  pub ends-none : (ws : List ℕ) (i : ℕ) → i ≡ indexOf (isRow t m) (rowsOf ws) → length ws ≤ i → refuses 14 0 ≡ endsByRows (rowsOf ws) end t m
+  ends-none ws i e h = none-by-rows (rowsOf ws) (rw (← e) (unfold rowsOf in (rw (length-map ws rowOf) h)))
+
+  pub ends-some :
+      (ws : List ℕ) (i a b : ℕ)
+      → i ≡ indexOf (isRow t m) (rowsOf ws)
+      → i < length ws
+      → a ≡ nextPlace (drop i (rowsOf ws)) end
+      → b ≡ nextPlace (drop (i + 1) (rowsOf ws)) end
+      → gives (record { start = a; end = b }) ≡ endsByRows (rowsOf ws) end t m
+  ends-some ws i a b e h x y =
+      rw (x, y, add-one)
+      (rw e (some-by-rows (rowsOf ws) (rw (← e) (unfold rowsOf in (rw (length-map ws rowOf) h)))))
+
+-- chunks one after another: each ends where the next begins
+settle-next : (at : ℕ) (ds : List Chunk) → nextPlace (map chunkRow (settle at ds)) (at + length (printed (concatMap logOf ds))) ≡ at
+unfolding settle settled chunkRow nextPlace printed
+settle-next at [] = add-zero at
+settle-next at (d ∷ ds) = refl
+
+settle-end : (at : ℕ) (d : Chunk) (ds : List Chunk) → at + length (printed (concatMap logOf (d ∷ ds))) ≡ at + length (printed (logOf d)) + length (printed (concatMap logOf ds))
+unfolding printed
+settle-end at d ds =
+    ap (λ (l : List ℕ). at + length l) (concatMap-append bytesOf (logOf d) (concatMap logOf ds))
+    ∙ ap (λ (n : ℕ). at + n) (length-append (concatMap bytesOf (logOf d)) (concatMap bytesOf (concatMap logOf ds)))
+    ∙ sym (add-assoc at (length (concatMap bytesOf (logOf d))) (length (concatMap bytesOf (concatMap logOf ds))))
+
+abbrev endsIn : Option Chunk → Answer Ends
+endsIn o = fromOption (refuses 14 0) (λ (c : Chunk). gives (record { start = c .place; end = c .past })) o
+
+ends-settle :
+    (t m at : ℕ) (ds : List Chunk)
+    → endsByRows (map chunkRow (settle at ds)) (at + length (printed (concatMap logOf ds))) t m ≡ endsIn (first (isOf t m) (settle at ds))
+unfolding settle endsByRows
+ends-settle t m at [] = refl
+ends-settle t m at (d ∷ ds) =
+    rw (settle-end at d ds, of-chunk t m (settled at d), settle-next (at + length (printed (logOf d))) ds, ends-settle t m (at + length (printed (logOf d))) ds)
+    (go (isOf t m (settled at d)))
+  where
+    rest : Option Chunk
+    rest = first (isOf t m) (settle (at + length (printed (logOf d))) ds)
+
+    go :
+        (b : Bool)
+        → cond b (gives (record { start = chunkRow (settled at d) .place; end = at + length (printed (logOf d)) })) (endsIn rest)
+        ≡ endsIn (cond b (some (settled at d)) rest)
+    go true = unfold chunkRow settled in refl
+    go false = refl
+
+-- the chunks of a bundle that passes the scan stand one after another
+orderly-ranged : (k : Scan) (cs : List Command) → orderly k cs ≡ true → (c : Command) → List·Memᴰ c cs → inRange c ≡ true
+orderly-ranged k [] o c m = absurd (List·Memᴰ·not-nil m)
+orderly-ranged k (d ∷ ds) o c m =
+    ⊎-elim
+    (λ e. ap inRange e ∙ orderly-head k d ds o .in-range)
+    (orderly-ranged (uncounted (scanned k d)) ds (orderly-tail k d ds o) c)
+    (List·Memᴰ·cases-cons m)
+
+pub scan-passed : (s : List ℕ) (k : Scan) → scanOf s ≡ gives k → Passed (frontOf s .placed) (frontOf s .stop) start
+unfolding scanOf
+scan-passed s k e = walk-elim (frontOf s .placed) (frontOf s .stop) start k room e
+  where
+    room : Room start []
+    room = unfold start total in (record { segments = omega arith; accesses = omega arith })
+
+pub record OneAfterAnother (s : List ℕ) : Type 0 where
+  pub chunks : chunksOf s ≡ settle 0 (chunksOf s)
+  pub bytes : s ≡ printed (concatMap logOf (chunksOf s))
+  pub placed : frontOf s .placed ≡ concatMap placedOf (chunksOf s)
+
+pub one-after-another : (s : List ℕ) (k : Scan) → Bytes s → scanOf s ≡ gives k → OneAfterAnother s
+unfolding chunksOf
+one-after-another s k b e =
+    let p = scan-passed s k e in
+    let ps = frontOf s .placed in
+    let commands = map (λ (q : Placed). q .command) ps in
+    let cs = gather ps .chunks in
+    let ranged = orderly-ranged start commands (p .order) in
+    let whole = prints-front s (p .past) b (p .ended) ranged in
+    let out = all-in-chunks ps (p .order) in
+    let logs : commands ≡ concatMap logOf cs = ap (map (λ (q : Placed). q .command)) (out .parts) ∙ commands-of-chunks cs in
+    let placed : ps ≡ placedFrom 0 commands = ap (λ (x : List ℕ). frontOf x .placed) whole ∙ ap (λ (f : Front). f .placed) (front-of-printed commands ranged) in
+    record {
+      chunks = ap (λ (l : List Placed). gather l .chunks) (placed ∙ ap (placedFrom 0) logs) ∙ gather-settle 0 cs (out .formed);
+      bytes = whole ∙ ap printed logs;
+      placed = out .parts;
+    }
+
+accepted-scan : (s : List ℕ) → checkOf s ≡ gives tt → (k : Scan) × (scanOf s ≡ gives k)
+unfolding checkOf
+accepted-scan s e = go (ltb 65536 (length s)) (scanOf s) refl e
+  where
+    go :
+        (b : Bool) (a : Answer Scan)
+        → scanOf s ≡ a
+        → cond b (refuses 1 0) (whenGiven a (λ k. shapeOf (chunksOf s))) ≡ gives tt
+        → (k : Scan) × (scanOf s ≡ gives k)
+    go true a q h = let z : _≡_ {A = ℕ} 0 1 = cc in absurd (omega arith)
+    go false (gives k) q h = (k, q)
+    go false (refuses n p) q h = let z : _≡_ {A = ℕ} 0 1 = cc in absurd (omega arith)
+
+pub accepted-chunks : (s : List ℕ) → Bytes s → checkOf s ≡ gives tt → OneAfterAnother s
+accepted-chunks s b e = let k = accepted-scan s e in one-after-another s (k .0) b (k .1)
+
+-- find by the rows
+pub find-rows :
+    (s : List ℕ) (n : ℕ) (table : List ℕ) (t m : ℕ)
+    → Bytes s
+    → AcceptedRows s n table
+    → endsByRows (rowsOf (take n table)) (length s) t m ≡ endsOf s t m
+unfolding endsOf chunkOf
+find-rows s n table t m b a =
+    let o = accepted-chunks s b (a .accepted) in
+    let cs = chunksOf s in
+    rw (a .rows, a .accepted)
+    (ap₂ (λ (l : List Chunk) (i : ℕ). endsByRows (map chunkRow l) i t m) (o .chunks) (ap length (o .bytes) ∙ sym (zero-add (length (printed (concatMap logOf cs)))))
+    ∙ ends-settle t m 0 cs
+    ∙ ap (λ (l : List Chunk). endsIn (first (isOf t m) l)) (sym (o .chunks)))
+
+pub find-refused : (s : List ℕ) (t m n p : ℕ) → checkOf s ≡ refuses n p → refuses n p ≡ endsOf s t m
+unfolding endsOf
+find-refused s t m n p e = rw e
+
+pub surveyed-tables :
+    (s chunks forks : List ℕ) {r : Survey} {n m : ℕ}
+    → Surveyed s r chunks forks
+    → r ≡ Surveys.Complete n m
+    → InTables s n m chunks forks
+surveyed-tables s chunks forks v e = subst (λ (x : Survey). Surveyed s x chunks forks) e v
+
+pub surveyed-refusal :
+    (s chunks forks : List ℕ) {r : Survey} {cause : Cause} {place : ℕ}
+    → Surveyed s r chunks forks
+    → r ≡ Surveys.Refused cause place
+    → scanOf s ≡ refuses (numberOf cause) place
+surveyed-refusal s chunks forks v e = subst (λ (x : Survey). Surveyed s x chunks forks) e v
