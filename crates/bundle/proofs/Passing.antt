@@ -305,33 +305,34 @@ module _ {s : List ℕ} {p : Pass} {chunks forks : List ℕ} (h : p .at < length
       let at : r .at ≡ st .next = ap (λ (z : Pass). z .at) q ∙ pass-at p c k (st .next) .0 in
       let scan : r .scan ≡ k = ap (λ (z : Pass). z .scan) q ∙ pass-at p c k (st .next) .1 in
       let rest = frontFrom (m .fuel) s (st .next) in
-      let to-come = comes p (st .next) (rest .placed) c (o .0) in
-      (omega (arith, d .0, at),
-      record {
-        fuel = m .fuel;
-        enough = omega (arith, m .enough, d .0, at);
-        within = omega (arith, d .1, at);
-        short = v .short;
-        chunk-table = lc;
-        fork-table = lf;
-        bounded = rw scan (n .0);
-        few = rw q (n .1);
-        scan-rest = rw (at, scan) (walked (m .fuel) (g .decodes) (g .sound) (m .scan-rest));
-        chunk-rest =
-            ap (λ (z : ℕ). rowsOf (take (r .chunks) chunks′) ++ chunksToCome r (frontFrom (m .fuel) s z .placed)) at
-            ∙ ap (λ (l : List Row). l ++ chunksToCome r (rest .placed)) x
-            ∙ append-assoc (rowsOf (take (p .chunks) chunks)) (newChunks p c) (chunksToCome r (rest .placed))
-            ∙ ap (λ (z : Pass). rowsOf (take (p .chunks) chunks) ++ (newChunks p c ++ chunksToCome z (rest .placed))) q
-            ∙ ap (λ (l : List Row). rowsOf (take (p .chunks) chunks) ++ l) (sym (to-come .0))
-            ∙ placed-chunks (m .fuel) (g .decodes) (m .chunk-rest);
-        fork-rest =
-            ap (λ (z : ℕ). rowsOf (take (r .forks) forks′) ++ forksToCome r (frontFrom (m .fuel) s z .placed)) at
-            ∙ ap (λ (l : List Row). l ++ forksToCome r (rest .placed)) y
-            ∙ append-assoc (rowsOf (take (p .forks) forks)) (newForks p c) (forksToCome r (rest .placed))
-            ∙ ap (λ (z : Pass). rowsOf (take (p .forks) forks) ++ (newForks p c ++ forksToCome z (rest .placed))) q
-            ∙ ap (λ (l : List Row). rowsOf (take (p .forks) forks) ++ l) (sym (to-come .1))
-            ∙ placed-forks (m .fuel) (g .decodes) (m .fork-rest);
-      })
+      let to-come = comes p (st .next) (rest .placed) c (o .0) in (
+        omega (arith, d .0, at),
+        record {
+          fuel = m .fuel;
+          enough = omega (arith, m .enough, d .0, at);
+          within = omega (arith, d .1, at);
+          short = v .short;
+          chunk-table = lc;
+          fork-table = lf;
+          bounded = rw scan (n .0);
+          few = rw q (n .1);
+          scan-rest = rw (at, scan) (walked (m .fuel) (g .decodes) (g .sound) (m .scan-rest));
+          chunk-rest =
+              ap (λ (z : ℕ). rowsOf (take (r .chunks) chunks′) ++ chunksToCome r (frontFrom (m .fuel) s z .placed)) at
+              ∙ ap (λ (l : List Row). l ++ chunksToCome r (rest .placed)) x
+              ∙ append-assoc (rowsOf (take (p .chunks) chunks)) (newChunks p c) (chunksToCome r (rest .placed))
+              ∙ ap (λ (z : Pass). rowsOf (take (p .chunks) chunks) ++ (newChunks p c ++ chunksToCome z (rest .placed))) q
+              ∙ ap (λ (l : List Row). rowsOf (take (p .chunks) chunks) ++ l) (sym (to-come .0))
+              ∙ placed-chunks (m .fuel) (g .decodes) (m .chunk-rest);
+          fork-rest =
+              ap (λ (z : ℕ). rowsOf (take (r .forks) forks′) ++ forksToCome r (frontFrom (m .fuel) s z .placed)) at
+              ∙ ap (λ (l : List Row). l ++ forksToCome r (rest .placed)) y
+              ∙ append-assoc (rowsOf (take (p .forks) forks)) (newForks p c) (forksToCome r (rest .placed))
+              ∙ ap (λ (z : Pass). rowsOf (take (p .forks) forks) ++ (newForks p c ++ forksToCome z (rest .placed))) q
+              ∙ ap (λ (l : List Row). rowsOf (take (p .forks) forks) ++ l) (sym (to-come .1))
+              ∙ placed-forks (m .fuel) (g .decodes) (m .fork-rest);
+        },
+      )
     where
       taken : Taken
       taken = record { command = st .command; next = st .next }

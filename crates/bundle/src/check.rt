@@ -1,8 +1,10 @@
 // Check a bundle, and find a member's chunk.
 use crate::refusal::Cause;
-use crate::rows::{index_of, unpack};
+use crate::rows::index_of;
+use crate::rows::unpack;
 use crate::structure::shape;
-use crate::survey::{Survey, survey_all};
+use crate::survey::Survey;
+use crate::survey::survey_all;
 ghost use mathlib.Core.Path.{_≡_};
 ghost use lib.ListN.{length, drop};
 ghost use Rattle.bundle.specs.Check.{checkOf, checkingOf};
@@ -52,7 +54,10 @@ fn check_into(bytes: &[u8], chunks: &mut [u64]) -> Checked
         Survey::Complete {
             chunks: chunk_count,
             forks: fork_count,
-        } => count_in(chunk_count, shape(&chunks[..chunk_count], &forks[..fork_count])),
+        } => count_in(
+            chunk_count,
+            shape(&chunks[..chunk_count], &forks[..fork_count]),
+        ),
         Survey::Refused { cause, place } => Checked::Refused { cause, place },
     }
 }

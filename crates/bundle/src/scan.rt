@@ -1,7 +1,12 @@
 // The scan, front to back: the tests 2 to 7 of each command in that order, and the rows of the chunks and REGIONs on the way.
-use crate::chunk::{ChunkState, Scan, holds_lock};
-use crate::command::{Command, Reading, read_command};
-use crate::refusal::{Cause, number};
+use crate::chunk::ChunkState;
+use crate::chunk::Scan;
+use crate::chunk::holds_lock;
+use crate::command::Command;
+use crate::command::Reading;
+use crate::command::read_command;
+use crate::refusal::Cause;
+use crate::refusal::number;
 ghost use mathlib.Core.Path.{_≡_};
 ghost use mathlib.Core.Bool.{cond, not, true, false};
 ghost use Prim.Native.Nat.{_+_, _<_, _≤_};
@@ -15,8 +20,15 @@ ghost use Rattle.bundle.specs.Survey.{Bounded, Fitting, stepOf, testedAt
 // What the scan says to a command.
 pub enum Step {
     // The scan after the command, the command, and the position after it.
-    Onward { scan: Scan, command: Command, next: usize },
-    Refused { cause: Cause, place: usize },
+    Onward {
+        scan: Scan,
+        command: Command,
+        next: usize,
+    },
+    Refused {
+        cause: Cause,
+        place: usize,
+    },
 }
 
 fn is_member(command: Command) -> bool
@@ -217,7 +229,10 @@ fn refused_cause(reading: Reading) -> Cause
 {
     match reading {
         Reading::Refused { cause, place: _ } => cause,
-        Reading::Taken { command: _, next: _ } => Cause::OutOfRange,
+        Reading::Taken {
+            command: _,
+            next: _,
+        } => Cause::OutOfRange,
     }
 }
 

@@ -1,7 +1,11 @@
 // The shape of a bundle, 8 to 12, by the rows of its chunks and REGIONs.
 use crate::check::Checking;
 use crate::refusal::Cause;
-use crate::rows::{Row, index_of, look_up, present, unpack};
+use crate::rows::Row;
+use crate::rows::index_of;
+use crate::rows::look_up;
+use crate::rows::present;
+use crate::rows::unpack;
 ghost use mathlib.Core.Path.{_≡_};
 ghost use mathlib.Core.List.{[]};
 ghost use Rattle.bundle.specs.Answer.{numberOf};

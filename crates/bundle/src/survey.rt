@@ -1,9 +1,12 @@
 // The pass over a bundle: the scan, and a row for each chunk and each REGION.
-use crate::chunk::{ChunkState, Scan};
+use crate::chunk::ChunkState;
+use crate::chunk::Scan;
 use crate::command::Command;
 use crate::refusal::Cause;
-use crate::rows::{Row, add_row};
-use crate::scan::{Step, step_at};
+use crate::rows::Row;
+use crate::rows::add_row;
+use crate::scan::Step;
+use crate::scan::step_at;
 ghost use mathlib.Core.Path.{_≡_};
 ghost use Prim.Native.Nat.{_<_, _≤_};
 ghost use lib.ListN.{length};
@@ -108,7 +111,14 @@ fn move_on(pass: Pass, scan: Scan, next: usize, chunks: usize, forks: usize) -> 
 }
 
 // Notes a command that passed the tests.
-fn note(pass: Pass, command: Command, scan: Scan, next: usize, chunks: &mut [u64], forks: &mut [u64]) -> Pass
+fn note(
+    pass: Pass,
+    command: Command,
+    scan: Scan,
+    next: usize,
+    chunks: &mut [u64],
+    forks: &mut [u64],
+) -> Pass
     requires { ⌜ Notable pass (now chunks) (now forks) ⌝ }
     ensures { λ r. ⌜ Noted pass command scan next r (now (chunks .entry)) (now (forks .entry)) (now (chunks .exit)) (now (forks .exit)) ⌝ }
 {

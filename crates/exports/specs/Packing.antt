@@ -16,3 +16,8 @@ abbrev pub sharedNumber : Answer (Option ℕ) → ℕ
 sharedNumber (gives none) = 0
 sharedNumber (gives (some byte)) = byte + 1
 sharedNumber (refuses number place) = refusedNumber number place
+
+-- check: 0 for accepted
+abbrev pub checkNumber : Answer (Unit {0}) → ℕ
+checkNumber (gives u) = 0
+checkNumber (refuses number place) = refusedNumber number place
