@@ -27,24 +27,24 @@ pub fn cases(random: &mut Random) -> Vec<Case> {
 
     let mut bytes = shuffled(full.clone(), random);
     *bytes.last_mut().unwrap() = 0xff;
-    add("refused 2: last byte unknown", bytes);
+    add("last byte unknown", bytes);
     let mut bytes = locks;
     bytes.drain(65_533..65_535);
-    add("refused 6: lock held at END", bytes);
+    add("lock held at END", bytes);
     let mut chunks = small.clone();
     before_end(&mut chunks[0], &region(255, 1));
-    add("refused 8: last team twice", chunks.concat());
+    add("last team forked twice", chunks.concat());
     let mut chunks = wide.clone();
     chunks[503] = member(8, 55);
     end(&mut chunks[503]);
-    add("refused 9: last member too high", chunks.concat());
+    add("last member too high", chunks.concat());
     let mut chunks = wide;
     chunks.remove(503);
-    add("refused 10: last chunk lacking", chunks.concat());
-    add("refused 11: last team too deep", small_teams(true).concat());
+    add("last chunk lacking", chunks.concat());
+    add("last team too deep", small_teams(true).concat());
     let mut chunks = wide_teams(54);
     before_end(&mut chunks[502], &[0x11]);
-    add("refused 12: last barriers unlike", chunks.concat());
+    add("last barrier count unlike", chunks.concat());
     cases
 }
 
@@ -149,4 +149,18 @@ fn shuffled(mut chunks: Vec<Chunk>, random: &mut Random) -> Vec<u8> {
         chunks.swap(i, random.from(0, i as u64) as usize);
     }
     chunks.concat()
+}
+
+/// One change at random: a byte set, some bytes dropped or doubled, or the end cut off.
+pub fn damaged(bytes: &[u8], random: &mut Random) -> Vec<u8> {
+    let mut bytes = bytes.to_vec();
+    let at = random.from(0, bytes.len() as u64 - 1) as usize;
+    let end = bytes.len().min(at + random.one_of(&[1, 2, 4, 12]) as usize);
+    match random.from(0, 3) {
+        0 => bytes[at] = random.one_of(&[0x01, 0x02, 0x10, 0x11, 0x20, 0x21, 0x30, 0x40, 0x00]) as u8,
+        1 => drop(bytes.drain(at..end)),
+        2 => bytes = [&bytes[..end], &bytes[at..]].concat(),
+        _ => bytes.truncate(at),
+    }
+    bytes
 }

@@ -6,7 +6,8 @@ mod generate;
 mod ranges;
 mod reader;
 
-use exports::SharedByte;
+use bundles::Case;
+use exports::{REFUSED, SharedByte};
 use generate::{Pair, Random};
 use std::hint::black_box;
 use std::time::Instant;
@@ -17,6 +18,7 @@ const ODD_PAIRS: usize = 2_000;
 const BLOCK: usize = 5_000;
 const ROUNDS: usize = 5;
 const CHECK_ROUNDS: usize = 200;
+const DAMAGED: usize = 3_000;
 
 fn main() {
     let mut random = Random::new(SEED);
@@ -33,10 +35,12 @@ fn main() {
     all_equal &= equal_answers("any numbers", &odd);
     println!();
     println!("check, microseconds for a bundle");
-    println!("{:<34}{:>8}{:>9}{:>9}{:>9}", "bundle", "bytes", "proved", "rust", "ratio");
-    for case in bundles::cases(&mut random) {
-        all_equal &= time_check(&case);
+    println!("{:<32}{:>7}{:>12}{:>9}{:>9}{:>8}", "bundle", "bytes", "answer", "proved", "rust", "ratio");
+    let cases = bundles::cases(&mut random);
+    for case in &cases {
+        all_equal &= time_check(case);
     }
+    all_equal &= check_damaged(&cases, &mut random);
     println!();
     if !all_equal {
         println!("bench: answers differ");
@@ -119,11 +123,47 @@ fn time_pairs(name: &str, random: &mut Random, make: fn(&mut Random) -> Pair) ->
     true
 }
 
-fn time_check(case: &bundles::Case) -> bool {
-    let rust = || {
-        let _ = black_box(reader::check(black_box(&case.bytes)));
-    };
-    let [rust] = quickest(CHECK_ROUNDS, [&rust]).map(|best| best * 1e6);
-    println!("{:<34}{:>8}{:>9}{rust:>9.1}  {:?}", case.name, case.bytes.len(), "", reader::check(&case.bytes));
+/// The plain reader's answer as the exported function gives it.
+fn check_by_reader(bytes: &[u8]) -> u64 {
+    match reader::check(bytes) {
+        Ok(()) => 0,
+        Err(refusal) => refusal.number as u64 * REFUSED + refusal.place as u64,
+    }
+}
+
+fn equal_checks(name: &str, bytes: &[u8]) -> bool {
+    let (proved, rust) = (exports::check(bytes), check_by_reader(bytes));
+    if proved != rust {
+        println!("{name}: proved {}, rust {}", answer_text(proved), answer_text(rust));
+    }
+    proved == rust
+}
+
+fn answer_text(answer: u64) -> String {
+    match answer {
+        0 => "accepted".to_string(),
+        _ => format!("{} at {}", answer / REFUSED, answer % REFUSED),
+    }
+}
+
+/// Prints a row for a bundle.
+fn time_check(case: &Case) -> bool {
+    let bytes = &case.bytes;
+    if !equal_checks(case.name, bytes) {
+        return false;
+    }
+    let proved = || _ = black_box(exports::check(black_box(bytes)));
+    let rust = || _ = black_box(check_by_reader(black_box(bytes)));
+    let [proved, rust] = quickest(CHECK_ROUNDS, [&proved, &rust]).map(|best| best * 1e6);
+    let answer = answer_text(exports::check(bytes));
+    println!("{:<32}{:>7}{answer:>12}{proved:>9.1}{rust:>9.1}{:>8.2}", case.name, bytes.len(), proved / rust);
     true
+}
+
+/// Compares the answers to bundles with a random change.
+fn check_damaged(cases: &[Case], random: &mut Random) -> bool {
+    (0..DAMAGED).all(|turn| {
+        let case = &cases[turn % cases.len()];
+        equal_checks(case.name, &bundles::damaged(&case.bytes, random))
+    })
 }

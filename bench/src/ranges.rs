@@ -22,7 +22,7 @@ impl Range {
     }
 }
 
-const REFUSED: u64 = 1 << 40;
+const REFUSED: u64 = 1 << 40; // as in exports.rs
 
 /// One more than the byte, 0 for none, or refusal 5 at 1 or 2.
 fn answer(first: Range, second: Range, lowest: impl Fn(Range, Range) -> Option<u64>) -> u64 {
