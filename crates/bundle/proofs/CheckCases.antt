@@ -16,12 +16,12 @@ use borrow.Author.Tests.{lt-ltb, le-ltb}
 use Rattle.bundle.specs.Answer.{Answer, gives, refuses, whenGiven, numberOf}
 use Rattle.bundle.specs.Lists.{first, concatMap, fromOption}
 use Rattle.bundle.specs.Commands.{inRange, bytesOf}
-use Rattle.bundle.specs.Chunks.{Placed, Front, Chunk, frontOf, gather, chunksOf, isOf, chunkOf}
-use Rattle.bundle.specs.Check.{forksOf, shapeOf, checkOf, checkingOf, Bytes}
+use Rattle.bundle.specs.Chunks.{Placed, Front, Chunk, frontOf, gather, chunksOf, partOf, isOf, chunkOf}
+use Rattle.bundle.specs.Check.{forksOf, shapeOf, checkOf, checkingOf, findOf, Bytes}
 use Rattle.bundle.specs.Scan.{start, scanned, scanOf}
 use Rattle.bundle.specs.Rows.{rowOf, rowsOf, chunkRow, forkRow, isRow, indexOf, shapeByRows}
 use Rattle.bundle.specs.Survey.{InTables, Surveyed}
-use Rattle.bundle.specs.Find.{Ends, endsOf, foundOf, nextPlace, endsByRows, countedIn, AcceptedRows, CheckedRows}
+use Rattle.bundle.specs.Find.{Ends, endsOf, foundOf, nextPlace, endsByRows, countedIn, AcceptedRows, CheckedRows, HandedBack, handedBack}
 use Rattle.bundle.specs.declared.refusal.Cause.{Cause}
 use Rattle.bundle.specs.declared.chunk.Scan.{Scan}
 use Rattle.bundle.specs.declared.command.Command.{Command}
@@ -32,7 +32,7 @@ use Rattle.bundle.specs.declared.check.Checking.{Checking}
 use Rattle.bundle.specs.declared.check.Checking.the-variants as Checks
 use Rattle.bundle.specs.declared.check.Checked.{Checked}
 use Rattle.bundle.specs.declared.check.Checked.the-variants as Checkeds
-use Rattle.bundle.proofs.ListLaws.{concatMap-append}
+use Rattle.bundle.proofs.ListLaws.{concatMap-append, first-some}
 use Rattle.bundle.proofs.Scanning.{Room, orderly, orderly-head, orderly-tail, uncounted, Passed, walk-elim, total}
 use Rattle.bundle.proofs.Gathering.{Formed, placedOf, logOf, Outside, all-in-chunks}
 use Rattle.bundle.proofs.ScanChunks.{commands-of-chunks}
@@ -178,7 +178,7 @@ ends-settle t m at (d ∷ ds) =
     go false = refl
 
 -- the chunks of a bundle that passes the scan stand one after another
-orderly-ranged : (k : Scan) (cs : List Command) → orderly k cs ≡ true → (c : Command) → List·Memᴰ c cs → inRange c ≡ true
+pub orderly-ranged : (k : Scan) (cs : List Command) → orderly k cs ≡ true → (c : Command) → List·Memᴰ c cs → inRange c ≡ true
 orderly-ranged k [] o c m = absurd (List·Memᴰ·not-nil m)
 orderly-ranged k (d ∷ ds) o c m =
     ⊎-elim
@@ -216,7 +216,7 @@ one-after-another s k b e =
       placed = out .parts;
     }
 
-accepted-scan : (s : List ℕ) → checkOf s ≡ gives tt → (k : Scan) × (scanOf s ≡ gives k)
+pub accepted-scan : (s : List ℕ) → checkOf s ≡ gives tt → (k : Scan) × (scanOf s ≡ gives k)
 unfolding checkOf
 accepted-scan s e = go (ltb 65536 (length s)) (scanOf s) refl e
   where
@@ -228,6 +228,15 @@ accepted-scan s e = go (ltb 65536 (length s)) (scanOf s) refl e
     go true a q h = let z : _≡_ {A = ℕ} 0 1 = cc in absurd (omega arith)
     go false (gives k) q h = (k, q)
     go false (refuses n p) q h = let z : _≡_ {A = ℕ} 0 1 = cc in absurd (omega arith)
+
+pub accepted-shape : (s : List ℕ) → checkOf s ≡ gives tt → shapeOf (chunksOf s) ≡ gives tt
+unfolding checkOf
+accepted-shape s e = go (ltb 65536 (length s)) (scanOf s) e
+  where
+    go : (b : Bool) (a : Answer Scan) → cond b (refuses 1 0) (whenGiven a (λ k. shapeOf (chunksOf s))) ≡ gives tt → shapeOf (chunksOf s) ≡ gives tt
+    go true a h = let z : _≡_ {A = ℕ} 0 1 = cc in absurd (omega arith)
+    go false (gives k) h = h
+    go false (refuses n p) h = let z : _≡_ {A = ℕ} 0 1 = cc in absurd (omega arith)
 
 pub accepted-chunks : (s : List ℕ) → Bytes s → checkOf s ≡ gives tt → OneAfterAnother s
 accepted-chunks s b e = let k = accepted-scan s e in one-after-another s (k .0) b (k .1)
@@ -264,3 +273,62 @@ pub surveyed-refusal :
     → r ≡ Surveys.Refused cause place
     → scanOf s ≡ refuses (numberOf cause) place
 surveyed-refusal s chunks forks v e = subst (λ (x : Survey). Surveyed s x chunks forks) e v
+
+-- the part between the ends of a chunk
+find-ends-part : (s : List ℕ) (t m : ℕ) → findOf s t m ≡ whenGiven (endsOf s t m) (λ (e : Ends). gives (take (e .end - e .start) (drop (e .start) s)))
+unfolding findOf endsOf partOf
+find-ends-part s t m = go (checkOf s) (chunkOf (chunksOf s) t m)
+  where
+    go :
+        (a : Answer (Unit {0})) (o : Option Chunk)
+        → whenGiven a (λ u. fromOption (refuses 14 0) (λ (c : Chunk). gives (take (c .past - c .place) (drop (c .place) s))) o)
+        ≡ whenGiven (whenGiven a (λ u. endsIn o)) (λ (e : Ends). gives (take (e .end - e .start) (drop (e .start) s)))
+    go (refuses n p) o = refl
+    go (gives u) none = refl
+    go (gives u) (some c) = refl
+
+pub found-part :
+    (s : List ℕ) (t m : ℕ) (e : Ends)
+    → gives e ≡ endsOf s t m
+    → handedBack (findOf s t m) ≡ record { part = take (e .end - e .start) (drop (e .start) s); number = 0; place = 0 }
+found-part s t m e q = rw (find-ends-part s t m, ← q)
+
+pub refused-part :
+    (s : List ℕ) (t m n p : ℕ) → refuses n p ≡ endsOf s t m → handedBack (findOf s t m) ≡ record { part = []; number = n; place = p }
+refused-part s t m n p q = rw (find-ends-part s t m, ← q)
+
+-- the ends lie within the bundle
+settle-within :
+    (at : ℕ) (ds : List Chunk) (c : Chunk)
+    → List·Memᴰ c (settle at ds)
+    → (c .place ≤ c .past) × (c .past ≤ at + length (printed (concatMap logOf ds)))
+unfolding settle settled
+settle-within at [] c m = absurd (List·Memᴰ·not-nil m)
+settle-within at (d ∷ ds) c m =
+    let n = length (printed (logOf d)) in
+    let l = settle-end at d ds in
+    ⊎-elim
+    (λ e. rw e (omega arith, omega arith))
+    (λ k. let w = settle-within (at + n) ds c k in (w .0, omega (arith, w .1)))
+    (List·Memᴰ·cases-cons m)
+
+pub ends-within :
+    (s : List ℕ) (t m : ℕ) (e : Ends) → Bytes s → gives e ≡ endsOf s t m → (e .start ≤ e .end) × (e .end ≤ length s)
+unfolding endsOf chunkOf
+ends-within s t m e b q = go (checkOf s) refl (first (isOf t m) (chunksOf s)) refl q
+  where
+    go :
+        (a : Answer (Unit {0}))
+        → checkOf s ≡ a
+        → (o : Option Chunk)
+        → first (isOf t m) (chunksOf s) ≡ o
+        → gives e ≡ whenGiven a (λ u. endsIn o)
+        → (e .start ≤ e .end) × (e .end ≤ length s)
+    go (refuses n p) h o f r = let z : _≡_ {A = ℕ} 0 1 = cc in absurd (omega arith)
+    go (gives u) h none f r = let z : _≡_ {A = ℕ} 0 1 = cc in absurd (omega arith)
+    go (gives u) h (some c) f r =
+        let o = accepted-chunks s b h in
+        let c-in = rw (o .chunks) at (first-some (isOf t m) (chunksOf s) f .0) in
+        let w = settle-within 0 (chunksOf s) c c-in in
+        let x : e ≡ record { start = c .place; end = c .past } = cc in
+        rw x (w .0, omega (arith, w .1, ap length (o .bytes)))

@@ -24,5 +24,6 @@ pub mod Stepping
 pub mod Passing
 pub mod ShapeRows
 pub mod CheckCases
+pub mod Finding
 pub mod Tables
 pub mod RowTests

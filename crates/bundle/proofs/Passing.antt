@@ -129,11 +129,11 @@ module _ (p : Pass) (next : ℕ) where
       let o : p .chunks + p .forks + 1 ≤ p .scan .segments = rw i at f in
       (record { segments = r .0; accesses = r .1; opened = omega (arith, b .opened) }, rw i (omega arith))
   counts (Com.Acquire a) e l b f =
-      (record { segments = room (p .scan) (Com.Acquire a) l .0; accesses = room (p .scan) (Com.Acquire a) l .1; opened = rw add-zero (b .opened) }, rw add-zero f)
+      (record { segments = room (p .scan) (Com.Acquire a) l .0; accesses = room (p .scan) (Com.Acquire a) l .1; opened = rw (add-zero (p .scan .segments)) (b .opened) }, rw (add-zero (p .scan .segments)) f)
   counts (Com.Release a) e l b f =
-      (record { segments = room (p .scan) (Com.Release a) l .0; accesses = room (p .scan) (Com.Release a) l .1; opened = rw add-zero (b .opened) }, rw add-zero f)
+      (record { segments = room (p .scan) (Com.Release a) l .0; accesses = room (p .scan) (Com.Release a) l .1; opened = rw (add-zero (p .scan .segments)) (b .opened) }, rw (add-zero (p .scan .segments)) f)
   counts (Com.Access a) e l b f =
-      (record { segments = room (p .scan) (Com.Access a) l .0; accesses = room (p .scan) (Com.Access a) l .1; opened = rw add-zero (b .opened) }, rw add-zero f)
+      (record { segments = room (p .scan) (Com.Access a) l .0; accesses = room (p .scan) (Com.Access a) l .1; opened = rw (add-zero (p .scan .segments)) (b .opened) }, rw (add-zero (p .scan .segments)) f)
 
 pass-at : (p : Pass) (c : Command) (k : Scan) (next : ℕ) → (passAfter p c k next .at ≡ next) × (passAfter p c k next .scan ≡ k)
 unfolding passAfter

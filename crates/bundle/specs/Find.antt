@@ -54,3 +54,13 @@ pub record AcceptedRows (s : List ℕ) (n : ℕ) (table : List ℕ) : Type 0 whe
 abbrev pub CheckedRows : List ℕ → Checked → List ℕ → Type 0
 CheckedRows s (Checkeds.Accepted n) table = AcceptedRows s n table
 CheckedRows s (Checkeds.Refused cause place) table = checkOf s ≡ refuses (numberOf cause) place
+
+-- a part handed back with its refusal beside it: 0 at 0 for none
+pub record HandedBack : Type 0 where
+  pub part : List ℕ
+  pub number : ℕ
+  pub place : ℕ
+
+abbrev pub handedBack : Answer (List ℕ) → HandedBack
+handedBack (gives part) = record { part = part; number = 0; place = 0 }
+handedBack (refuses n p) = record { part = []; number = n; place = p }

@@ -7,9 +7,9 @@ use crate::survey::Survey;
 use crate::survey::survey_all;
 ghost use mathlib.Core.Path.{_≡_};
 ghost use lib.ListN.{length, drop};
-ghost use Rattle.bundle.specs.Check.{checkOf, checkingOf};
+ghost use Rattle.bundle.specs.Check.{checkOf, checkingOf, findOf};
 ghost use Rattle.bundle.specs.Rows.{rowsOf};
-ghost use Rattle.bundle.specs.Find.{foundOf, endsByRows, nextPlace, CheckedRows, countedIn, endsOf};
+ghost use Rattle.bundle.specs.Find.{foundOf, endsByRows, nextPlace, CheckedRows, countedIn, endsOf, handedBack};
 
 // What checking a bundle gives.
 pub enum Checking {
@@ -108,5 +108,29 @@ pub fn find_ends(bytes: &[u8], team: u16, member: u8) -> Found
     match check_into(bytes, &mut chunks) {
         Checked::Accepted(count) => ends_of(&chunks[..count], bytes.len(), team, member),
         Checked::Refused { cause, place } => Found::Refused { cause, place },
+    }
+}
+
+// A member's chunk, that part of the bundle, with 0 in number and place. Refused, an empty part, with the refusal's number and place.
+pub fn find_chunk<'a>(
+    bytes: &'a [u8],
+    team: u16,
+    member: u8,
+    number: &mut u8,
+    place: &mut usize,
+) -> &'a [u8]
+    ensures { λ r. ⌜ handedBack (findOf (now (bytes .entry)) team member) ≡ record { part = now r; number = now (number .exit); place = now (place .exit) } ⌝ }
+{
+    match find_ends(bytes, team, member) {
+        Found::At { start, end } => {
+            *number = 0;
+            *place = 0;
+            &bytes[start..end]
+        }
+        Found::Refused { cause, place: at } => {
+            *number = crate::refusal::number(cause);
+            *place = at;
+            &bytes[0..0]
+        }
     }
 }

@@ -9,8 +9,6 @@ use Rattle.bundle.specs.Rows.{rowsOf, isRow, indexOf}
 use Rattle.bundle.proofs.Tables.{search-none, search-more, search-hit, search-end}
 use Rattle.bundle.proofs.rows.index_of.Statement.{statement}
 use Rattle.bundle.proofs.rows.index_of.Tie as tie
-use Rattle.bundle.proofs.rows.index_of.Reads as reads
-use Rattle.bundle.proofs.rows.index_of.Lts as lts
 
 abbrev Inv-loop : tie.InvT-loop
 Inv-loop rows team member key i₀ i =

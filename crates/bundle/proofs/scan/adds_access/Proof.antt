@@ -3,68 +3,31 @@ use Rattle.bundle.specs.Scan.{addsAccess}
 use borrow.Author.Needs.{needs}
 use Rattle.bundle.proofs.scan.adds_access.Statement.{statement}
 use Rattle.bundle.proofs.scan.adds_access.Tie as tie
-use Rattle.bundle.proofs.scan.adds_access.Reads as reads
-use Rattle.bundle.proofs.scan.adds_access.Lts as lts
 
--- src/scan.rt:91:51
-enum-told : tie.Need-enum-told
-enum-told c = search needs
-
--- src/scan.rt:92:25
-enum-told-2 : tie.Need-enum-told-2
-enum-told-2 c = search needs
-
--- src/scan.rt:93:49
-enum-told-3 : tie.Need-enum-told-3
-enum-told-3 c = search needs
-
--- src/scan.rt:94:29
-enum-told-4 : tie.Need-enum-told-4
-enum-told-4 c = search needs
-
--- src/scan.rt:95:32
-enum-told-5 : tie.Need-enum-told-5
-enum-told-5 c = search needs
-
--- src/scan.rt:96:32
-enum-told-6 : tie.Need-enum-told-6
-enum-told-6 c = search needs
-
--- src/scan.rt:97:31
-enum-told-7 : tie.Need-enum-told-7
-enum-told-7 c = search needs
-
--- src/scan.rt:87:1
 returns : tie.Need-returns
 unfolding addsAccess
 returns c = rw (c .enum-told .given .1)
 
--- src/scan.rt:87:1
 returns-2 : tie.Need-returns-2
 unfolding addsAccess
 returns-2 c = rw (c .enum-told2 .given .1)
 
--- src/scan.rt:87:1
 returns-3 : tie.Need-returns-3
 unfolding addsAccess
 returns-3 c = rw (c .enum-told3 .given .1)
 
--- src/scan.rt:87:1
 returns-4 : tie.Need-returns-4
 unfolding addsAccess
 returns-4 c = rw (c .enum-told4 .given .1)
 
--- src/scan.rt:87:1
 returns-5 : tie.Need-returns-5
 unfolding addsAccess
 returns-5 c = rw (c .enum-told5 .given .1)
 
--- src/scan.rt:87:1
 returns-6 : tie.Need-returns-6
 unfolding addsAccess
 returns-6 c = rw (c .enum-told6 .given .1)
 
--- src/scan.rt:87:1
 returns-7 : tie.Need-returns-7
 unfolding addsAccess
 returns-7 c = rw (c .enum-told7 .given .1)
@@ -73,13 +36,13 @@ pub adds-access-spec : {M : Type 1} → statement M
 adds-access-spec =
     tie.close
     (tie.spec
-    enum-told
-    enum-told-2
-    enum-told-3
-    enum-told-4
-    enum-told-5
-    enum-told-6
-    enum-told-7
+    (λ c. search needs)
+    (λ c. search needs)
+    (λ c. search needs)
+    (λ c. search needs)
+    (λ c. search needs)
+    (λ c. search needs)
+    (λ c. search needs)
     returns
     returns-2
     returns-3

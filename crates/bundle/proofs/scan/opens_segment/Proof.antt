@@ -3,68 +3,31 @@ use Rattle.bundle.specs.Scan.{opensSegment}
 use borrow.Author.Needs.{needs}
 use Rattle.bundle.proofs.scan.opens_segment.Statement.{statement}
 use Rattle.bundle.proofs.scan.opens_segment.Tie as tie
-use Rattle.bundle.proofs.scan.opens_segment.Reads as reads
-use Rattle.bundle.proofs.scan.opens_segment.Lts as lts
 
--- src/scan.rt:77:51
-enum-told : tie.Need-enum-told
-enum-told c = search needs
-
--- src/scan.rt:78:25
-enum-told-2 : tie.Need-enum-told-2
-enum-told-2 c = search needs
-
--- src/scan.rt:79:49
-enum-told-3 : tie.Need-enum-told-3
-enum-told-3 c = search needs
-
--- src/scan.rt:80:29
-enum-told-4 : tie.Need-enum-told-4
-enum-told-4 c = search needs
-
--- src/scan.rt:81:32
-enum-told-5 : tie.Need-enum-told-5
-enum-told-5 c = search needs
-
--- src/scan.rt:82:32
-enum-told-6 : tie.Need-enum-told-6
-enum-told-6 c = search needs
-
--- src/scan.rt:83:31
-enum-told-7 : tie.Need-enum-told-7
-enum-told-7 c = search needs
-
--- src/scan.rt:73:1
 returns : tie.Need-returns
 unfolding opensSegment
 returns c = rw (c .enum-told .given .1)
 
--- src/scan.rt:73:1
 returns-2 : tie.Need-returns-2
 unfolding opensSegment
 returns-2 c = rw (c .enum-told2 .given .1)
 
--- src/scan.rt:73:1
 returns-3 : tie.Need-returns-3
 unfolding opensSegment
 returns-3 c = rw (c .enum-told3 .given .1)
 
--- src/scan.rt:73:1
 returns-4 : tie.Need-returns-4
 unfolding opensSegment
 returns-4 c = rw (c .enum-told4 .given .1)
 
--- src/scan.rt:73:1
 returns-5 : tie.Need-returns-5
 unfolding opensSegment
 returns-5 c = rw (c .enum-told5 .given .1)
 
--- src/scan.rt:73:1
 returns-6 : tie.Need-returns-6
 unfolding opensSegment
 returns-6 c = rw (c .enum-told6 .given .1)
 
--- src/scan.rt:73:1
 returns-7 : tie.Need-returns-7
 unfolding opensSegment
 returns-7 c = rw (c .enum-told7 .given .1)
@@ -73,13 +36,13 @@ pub opens-segment-spec : {M : Type 1} → statement M
 opens-segment-spec =
     tie.close
     (tie.spec
-    enum-told
-    enum-told-2
-    enum-told-3
-    enum-told-4
-    enum-told-5
-    enum-told-6
-    enum-told-7
+    (λ c. search needs)
+    (λ c. search needs)
+    (λ c. search needs)
+    (λ c. search needs)
+    (λ c. search needs)
+    (λ c. search needs)
+    (λ c. search needs)
     returns
     returns-2
     returns-3

@@ -5,23 +5,14 @@ use Rattle.bundle.specs.Rows.{sizeByRows}
 use borrow.Author.Needs.{needs}
 use Rattle.bundle.proofs.structure.size_of.Statement.{statement}
 use Rattle.bundle.proofs.structure.size_of.Tie as tie
-use Rattle.bundle.proofs.structure.size_of.Reads as reads
-use Rattle.bundle.proofs.structure.size_of.Lts as lts
-use Rattle.bundle.proofs.rows.look_up.Reads as look-up-reads
 
--- src/structure.rt:36:9
 returns : tie.Need-returns
 unfolding sizeByRows
 returns c = simp (eq-eqb _ _ (c .if1 .taken))
 
--- src/structure.rt:38:9
-look-up-requires : tie.Need-look-up-requires
-look-up-requires c κs = search needs
-
--- src/structure.rt:32:1
 returns-2 : tie.Need-returns-2
 unfolding sizeByRows
 returns-2 c = simp (ne-eqb _ _ (c .before .if1 .left), c .look-up .ensures)
 
 pub size-of-spec : {M : Type 1} → statement M
-size-of-spec = tie.close (tie.spec returns look-up-requires returns-2)
+size-of-spec = tie.close (tie.spec returns (λ c κs. search needs) returns-2)

@@ -8,11 +8,6 @@ use Rattle.bundle.specs.Rows.{rowsOf}
 use Rattle.bundle.proofs.RowTests.{Passed, passed-none, passed-more, passed-not, passed-all}
 use Rattle.bundle.proofs.structure.test_rows.Statement.{statement}
 use Rattle.bundle.proofs.structure.test_rows.Tie as tie
-use Rattle.bundle.proofs.structure.test_rows.Reads as reads
-use Rattle.bundle.proofs.structure.test_rows.Lts as lts
-use Rattle.bundle.proofs.rows.unpack.Reads as unpack-reads
-use Rattle.bundle.proofs.structure.cause_of.Reads as cause-of-reads
-use Rattle.bundle.proofs.structure.fails.Reads as fails-reads
 
 abbrev Inv-loop : tie.InvT-loop
 Inv-loop test rows chunks forks i₀ i = (i ≤ length rows) × Passed test rows (rowsOf chunks) (rowsOf forks) i
@@ -20,55 +15,42 @@ Inv-loop test rows chunks forks i₀ i = (i ≤ length rows) × Passed test rows
 abbrev μ-loop : tie.MeasureT-loop
 μ-loop test rows chunks forks i₀ i = length rows - i
 
--- src/structure.rt:114:5
 loop-holds : tie.Need-loop-holds Inv-loop μ-loop
 loop-holds c = (search needs, passed-none _ _ _ _)
 
--- src/structure.rt:115:26
 mul-unpack : tie.Need-mul-unpack Inv-loop μ-loop
 mul-unpack c = search needs
 
--- src/structure.rt:115:26
 shared-slice-read-unpack : tie.Need-shared-slice-read-unpack Inv-loop μ-loop
 shared-slice-read-unpack c = search needs
 
--- src/structure.rt:115:13
 unpack-requires : tie.Need-unpack-requires Inv-loop μ-loop
 unpack-requires c κs = search needs
 
--- src/structure.rt:116:39
 slice-aggregate-fails : tie.Need-slice-aggregate-fails Inv-loop μ-loop
 slice-aggregate-fails c = sym (length-take-le _ _ (c .before .before .before .before .loop .inv .0))
 
--- src/structure.rt:116:12
 fails-requires : tie.Need-fails-requires Inv-loop μ-loop
 fails-requires c κs = search needs
 
--- src/structure.rt:118:24
 cause-of-requires : tie.Need-cause-of-requires Inv-loop μ-loop
 cause-of-requires c κs = search needs
 
--- src/structure.rt:119:24
 cast-t15 : tie.Need-cast-t15 Inv-loop μ-loop
 cast-t15 c = search needs
 
--- src/structure.rt:117:13
 returns : tie.Need-returns Inv-loop μ-loop
 returns c = passed-not _ _ _ _ _ (c .before .before .before .before .before .before .before .loop-test .taken) (c .before .before .before .before .before .before .before .before .loop .inv .1) _ (c .before .before .before .before .before .unpack .ensures) _ (c .before .cause-of .ensures) (sym (c .before .before .before .fails .ensures) ∙ c .before .before .if1 .taken)
 
--- src/structure.rt:122:9
 add-i : tie.Need-add-i Inv-loop μ-loop
 add-i c = search needs
 
--- src/structure.rt:114:5
 loop-less : tie.Need-loop-less Inv-loop μ-loop
 loop-less c = search needs
 
--- src/structure.rt:114:5
 loop-again : tie.Need-loop-again Inv-loop μ-loop
 loop-again c = (search needs, passed-more _ _ _ _ _ (c .before .before .before .before .before .loop-test .taken) (c .before .before .before .before .before .before .loop .inv .1) _ (c .before .before .before .unpack .ensures) (sym (c .before .fails .ensures) ∙ c .if1 .left))
 
--- src/structure.rt:110:1
 returns-2 : tie.Need-returns-2 Inv-loop μ-loop
 returns-2 c = passed-all _ _ _ _ _ (c .before .loop .inv .0) (c .loop-test .left) (c .before .loop .inv .1)
 

@@ -4,23 +4,14 @@ use Rattle.bundle.specs.Rows.{deepRow}
 use borrow.Author.Needs.{needs}
 use Rattle.bundle.proofs.structure.too_deep.Statement.{statement}
 use Rattle.bundle.proofs.structure.too_deep.Tie as tie
-use Rattle.bundle.proofs.structure.too_deep.Reads as reads
-use Rattle.bundle.proofs.structure.too_deep.Lts as lts
-use Rattle.bundle.proofs.structure.climb.Reads as climb-reads
 
--- src/structure.rt:85:9
 returns : tie.Need-returns
 unfolding deepRow
 returns c = simp (lt-ltb _ _ (c .if1 .taken))
 
--- src/structure.rt:87:5
-climb-requires : tie.Need-climb-requires
-climb-requires c κs = search needs
-
--- src/structure.rt:81:1
 returns-2 : tie.Need-returns-2
 unfolding deepRow
 returns-2 c = simp (le-ltb _ _ (c .before .if1 .left), c .climb .ensures)
 
 pub too-deep-spec : {M : Type 1} → statement M
-too-deep-spec = tie.close (tie.spec returns climb-requires returns-2)
+too-deep-spec = tie.close (tie.spec returns (λ c κs. search needs) returns-2)

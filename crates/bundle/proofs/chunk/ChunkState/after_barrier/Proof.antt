@@ -4,21 +4,13 @@ use Rattle.bundle.specs.Chunks.{afterBarrier}
 use borrow.Author.Needs.{needs}
 use Rattle.bundle.proofs.chunk.ChunkState.after_barrier.Statement.{statement}
 use Rattle.bundle.proofs.chunk.ChunkState.after_barrier.Tie as tie
-use Rattle.bundle.proofs.chunk.ChunkState.after_barrier.Reads as reads
-use Rattle.bundle.proofs.chunk.ChunkState.after_barrier.Lts as lts
 
--- src/chunk.rt:53:27
-add-t4 : tie.Need-add-t4
-add-t4 c = search needs
-
--- src/chunk.rt:52:13
 returns : tie.Need-returns
 unfolding afterBarrier
 returns c = rw (lt-ltb _ _ (c .if1 .taken))
 
--- src/chunk.rt:47:5
 returns-2 : tie.Need-returns-2
 returns-2 c = rw (le-ltb _ _ (c .if1 .left))
 
 pub after-barrier-spec : {M : Type 1} → statement M
-after-barrier-spec = tie.close (tie.spec add-t4 returns returns-2)
+after-barrier-spec = tie.close (tie.spec (λ c. search needs) returns returns-2)

@@ -4,21 +4,13 @@ use Rattle.bundle.specs.Chunks.{afterJoin}
 use borrow.Author.Needs.{needs}
 use Rattle.bundle.proofs.chunk.ChunkState.after_join.Statement.{statement}
 use Rattle.bundle.proofs.chunk.ChunkState.after_join.Tie as tie
-use Rattle.bundle.proofs.chunk.ChunkState.after_join.Reads as reads
-use Rattle.bundle.proofs.chunk.ChunkState.after_join.Lts as lts
 
--- src/chunk.rt:68:26
-add-t4 : tie.Need-add-t4
-add-t4 c = search needs
-
--- src/chunk.rt:66:13
 returns : tie.Need-returns
 unfolding afterJoin
 returns c = rw (lt-ltb _ _ (c .if1 .taken))
 
--- src/chunk.rt:61:5
 returns-2 : tie.Need-returns-2
 returns-2 c = rw (le-ltb _ _ (c .if1 .left))
 
 pub after-join-spec : {M : Type 1} → statement M
-after-join-spec = tie.close (tie.spec add-t4 returns returns-2)
+after-join-spec = tie.close (tie.spec (λ c. search needs) returns returns-2)

@@ -6,35 +6,20 @@ use Rattle.bundle.proofs.LockBits.{one-shifted, none-above, released-th
 use borrow.Author.Needs.{needs}
 use Rattle.bundle.proofs.chunk.ChunkState.after_release.Statement.{statement}
 use Rattle.bundle.proofs.chunk.ChunkState.after_release.Tie as tie
-use Rattle.bundle.proofs.chunk.ChunkState.after_release.Reads as reads
-use Rattle.bundle.proofs.chunk.ChunkState.after_release.Lts as lts
-use Rattle.bundle.proofs.chunk.holds_lock.Reads as holds-lock-reads
 
--- src/chunk.rt:97:13
 returns : tie.Need-returns
 returns c = rw (← none-above (c .before .args .lock) (c .before .args .self .locks) (search needs) (c .if1 .taken))
 
--- src/chunk.rt:99:12
-holds-lock-requires : tie.Need-holds-lock-requires
-holds-lock-requires c κs = search needs
-
--- src/chunk.rt:103:33
-shl-t7 : tie.Need-shl-t7
-shl-t7 c = search needs
-
--- src/chunk.rt:103:24
 sub-t8 : tie.Need-sub-t8
 sub-t8 c = rw (one-shifted _ (c .before .before .if1 .left)) (released-there _ _ (sym (c .before .holds-lock .ensures) ∙ c .if2 .taken))
 
--- src/chunk.rt:100:13
 returns-2 : tie.Need-returns-2
 unfolding afterRelease released
 returns-2 c = rw (sym (c .before .holds-lock .ensures) ∙ c .if2 .taken, one-shifted _ (c .before .before .if1 .left))
 
--- src/chunk.rt:92:5
 returns-3 : tie.Need-returns-3
 returns-3 c = rw (sym (c .before .holds-lock .ensures) ∙ c .if2 .left)
 
 pub after-release-spec : {M : Type 1} → statement M
 after-release-spec =
-    tie.close (tie.spec returns holds-lock-requires shl-t7 sub-t8 returns-2 returns-3)
+    tie.close (tie.spec returns (λ c κs. search needs) (λ c. search needs) sub-t8 returns-2 returns-3)

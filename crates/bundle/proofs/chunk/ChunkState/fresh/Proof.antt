@@ -3,10 +3,7 @@ use mathlib.Core.Path.{refl}
 use Rattle.bundle.specs.Chunks.{fresh}
 use Rattle.bundle.proofs.chunk.ChunkState.fresh.Statement.{statement}
 use Rattle.bundle.proofs.chunk.ChunkState.fresh.Tie as tie
-use Rattle.bundle.proofs.chunk.ChunkState.fresh.Reads as reads
-use Rattle.bundle.proofs.chunk.ChunkState.fresh.Lts as lts
 
--- src/chunk.rt:37:5
 returns : tie.Need-returns
 unfolding fresh
 returns c = refl
