@@ -1,0 +1,166 @@
+//! Bundles as large as document 01 allows, and damaged ones whose fault shows only near the end of the check.
+
+use crate::generate::Random;
+
+pub struct Case {
+    pub name: &'static str,
+    pub bytes: Vec<u8>,
+}
+
+/// A chunk's bytes, MEMBER to END.
+type Chunk = Vec<u8>;
+
+pub fn cases(random: &mut Random) -> Vec<Case> {
+    let mut cases = Vec::new();
+    let mut add = |name, bytes| cases.push(Case { name, bytes });
+
+    let locks = one_chunk(65_528);
+    let wide = wide_teams(55);
+    let small = small_teams(false);
+    let accesses = with_accesses(wide_teams(55), random);
+    let full = with_locks(accesses.clone(), 65_536);
+    add("65,536 bytes of locks", locks.clone());
+    add("504 chunks, 8 teams", shuffled(wide.clone(), random));
+    add("256 chunks, 255 teams", shuffled(small.clone(), random));
+    add("1,024 accesses, 504 chunks", shuffled(accesses, random));
+    add("all limits reached", shuffled(full.clone(), random));
+
+    let mut bytes = shuffled(full.clone(), random);
+    *bytes.last_mut().unwrap() = 0xff;
+    add("last byte unknown", bytes);
+    let mut bytes = locks;
+    bytes.drain(65_533..65_535);
+    add("lock held at END", bytes);
+    let mut chunks = small.clone();
+    before_end(&mut chunks[0], &region(255, 1));
+    add("last team forked twice", chunks.concat());
+    let mut chunks = wide.clone();
+    chunks[503] = member(8, 55);
+    end(&mut chunks[503]);
+    add("last member too high", chunks.concat());
+    let mut chunks = wide;
+    chunks.remove(503);
+    add("last chunk lacking", chunks.concat());
+    add("last team too deep", small_teams(true).concat());
+    let mut chunks = wide_teams(54);
+    before_end(&mut chunks[502], &[0x11]);
+    add("last barrier count unlike", chunks.concat());
+    cases
+}
+
+fn member(team: u16, member: u8) -> Chunk {
+    let [low, high] = team.to_le_bytes();
+    vec![0x01, low, high, member]
+}
+
+fn region(team: u16, size: u8) -> [u8; 4] {
+    let [low, high] = team.to_le_bytes();
+    [0x10, low, high, size]
+}
+
+/// So many bytes, a multiple of 4, of a lock acquired and released.
+fn lock_pairs(bytes: usize) -> Vec<u8> {
+    (0..bytes / 4).flat_map(|turn| [0x20, turn as u8 % 64, 0x21, turn as u8 % 64]).collect()
+}
+
+fn access(random: &mut Random) -> Vec<u8> {
+    let count = random.from(1, 64) as u16;
+    let stride = if count == 1 { 0 } else { random.from(1, 100) as u16 };
+    let mut bytes = vec![random.from(0x30, 0x33) as u8];
+    bytes.extend((random.from(0, 65_535) as u16).to_le_bytes());
+    bytes.extend((random.from(4096, 8192) as u32).to_le_bytes());
+    bytes.extend(stride.to_le_bytes());
+    bytes.extend(count.to_le_bytes());
+    bytes.push(random.one_of(&[1, 2, 4, 8]) as u8);
+    bytes
+}
+
+fn end(chunk: &mut Chunk) {
+    chunk.push(0x02);
+}
+
+fn before_end(chunk: &mut Chunk, bytes: &[u8]) {
+    chunk.pop();
+    chunk.extend(bytes);
+    end(chunk);
+}
+
+/// A root with three barriers and so many bytes of locks.
+fn one_chunk(lock_bytes: usize) -> Vec<u8> {
+    let mut chunk = member(0, 0);
+    chunk.extend([0x11; 3]);
+    chunk.extend(lock_pairs(lock_bytes));
+    end(&mut chunk);
+    chunk
+}
+
+/// The root forks teams 1 to 7 of 64 members, and team 8 of so many; with 55, 512 segments.
+fn wide_teams(last: u8) -> Vec<Chunk> {
+    let size_of = |team| if team == 8 { last } else { 64 };
+    let mut root = member(0, 0);
+    let mut chunks = vec![];
+    for team in 1..=8 {
+        root.extend(region(team, size_of(team)));
+        for number in 0..size_of(team) {
+            chunks.push(member(team, number));
+        }
+    }
+    chunks.insert(0, root);
+    chunks.iter_mut().for_each(end);
+    chunks
+}
+
+/// Teams 1 to 255 of one member each: the root forks every fourth of them, and each of these forks the next, down to
+/// depth 4; 511 segments. Team 255 is forked by team 251, or one level too deep by team 252.
+fn small_teams(too_deep: bool) -> Vec<Chunk> {
+    let mut chunks: Vec<Chunk> = (0..=255).map(|team| member(team, 0)).collect();
+    for team in 1..=255 {
+        let by_team = match team {
+            255 if too_deep => 252,
+            255 => 251,
+            _ if team % 4 == 1 => 0,
+            _ => team - 1,
+        };
+        chunks[by_team].extend(region(team as u16, 1));
+    }
+    chunks.iter_mut().for_each(end);
+    chunks
+}
+
+/// 1,024 accesses, two in each chunk and the rest in the root.
+fn with_accesses(mut chunks: Vec<Chunk>, random: &mut Random) -> Vec<Chunk> {
+    for turn in 0..1024 {
+        let at = if turn < 2 * chunks.len() { turn / 2 } else { 0 };
+        before_end(&mut chunks[at], &access(random));
+    }
+    chunks
+}
+
+/// Locks in the root, up to so many bytes.
+fn with_locks(mut chunks: Vec<Chunk>, bytes: usize) -> Vec<Chunk> {
+    let present: usize = chunks.iter().map(Vec::len).sum();
+    before_end(&mut chunks[0], &lock_pairs((bytes - present) / 4 * 4));
+    chunks
+}
+
+/// The chunks in a random order.
+fn shuffled(mut chunks: Vec<Chunk>, random: &mut Random) -> Vec<u8> {
+    for i in (1..chunks.len()).rev() {
+        chunks.swap(i, random.from(0, i as u64) as usize);
+    }
+    chunks.concat()
+}
+
+/// One change at random: a byte set, some bytes dropped or doubled, or the end cut off.
+pub fn damaged(bytes: &[u8], random: &mut Random) -> Vec<u8> {
+    let mut bytes = bytes.to_vec();
+    let at = random.from(0, bytes.len() as u64 - 1) as usize;
+    let end = bytes.len().min(at + random.one_of(&[1, 2, 4, 12]) as usize);
+    match random.from(0, 3) {
+        0 => bytes[at] = random.one_of(&[0x01, 0x02, 0x10, 0x11, 0x20, 0x21, 0x30, 0x40, 0x00]) as u8,
+        1 => drop(bytes.drain(at..end)),
+        2 => bytes = [&bytes[..end], &bytes[at..]].concat(),
+        _ => bytes.truncate(at),
+    }
+    bytes
+}

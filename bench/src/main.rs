@@ -1,0 +1,169 @@
+//! Proved code beside plain Rust of the same meaning, on the same inputs in one run. The answers must be equal.
+
+mod bundles;
+mod exports;
+mod generate;
+mod ranges;
+mod reader;
+
+use bundles::Case;
+use exports::{REFUSED, SharedByte};
+use generate::{Pair, Random};
+use std::hint::black_box;
+use std::time::Instant;
+
+const SEED: u64 = 20_240_501;
+const PAIRS: usize = 500_000;
+const ODD_PAIRS: usize = 2_000;
+const BLOCK: usize = 5_000;
+const ROUNDS: usize = 5;
+const CHECK_ROUNDS: usize = 200;
+const DAMAGED: usize = 3_000;
+
+fn main() {
+    let mut random = Random::new(SEED);
+    let mut all_equal = true;
+    println!("lowest shared byte, {PAIRS} pairs of ranges, nanoseconds for a pair");
+    println!(
+        "{:<18}{:>8}{:>9}{:>9}{:>9}{:>10}{:>10}",
+        "pairs", "shared", "proved", "loop", "euclid", "to loop", "to euclid"
+    );
+    all_equal &= time_pairs("equal strides", &mut random, generate::equal_strides);
+    all_equal &= time_pairs("word arrays", &mut random, generate::word_arrays);
+    all_equal &= time_pairs("coprime strides", &mut random, generate::coprime_strides);
+    let odd: Vec<Pair> = (0..ODD_PAIRS).map(|_| generate::any_ranges(&mut random)).collect();
+    all_equal &= equal_answers("any numbers", &odd);
+    println!();
+    println!("check, microseconds for a bundle");
+    println!("{:<32}{:>7}{:>12}{:>9}{:>9}{:>8}", "bundle", "bytes", "answer", "proved", "rust", "ratio");
+    let cases = bundles::cases(&mut random);
+    for case in &cases {
+        all_equal &= time_check(case);
+    }
+    all_equal &= check_damaged(&cases, &mut random);
+    println!();
+    if !all_equal {
+        println!("bench: answers differ");
+        std::process::exit(1);
+    }
+    println!("bench: all answers are equal");
+}
+
+#[inline(always)]
+fn ask(shared_byte: SharedByte, (first, second): &Pair) -> u64 {
+    // Any numbers may be passed, so the proved function is safe to call; so are those of Rust.
+    unsafe {
+        shared_byte(
+            first.base,
+            first.stride,
+            first.count,
+            first.size,
+            second.base,
+            second.stride,
+            second.count,
+            second.size,
+        )
+    }
+}
+
+const SHARED_BYTES: [SharedByte; 3] =
+    [exports::LOWEST_SHARED_BYTE, ranges::shared_by_elements, ranges::shared_by_euclid];
+
+fn equal_answers(name: &str, pairs: &[Pair]) -> bool {
+    for pair in pairs {
+        let answers = SHARED_BYTES.map(|shared_byte| ask(shared_byte, pair));
+        if answers[0] != answers[1] || answers[0] != answers[2] {
+            println!("{name}: {pair:?}: proved {}, loop {}, euclid {}", answers[0], answers[1], answers[2]);
+            return false;
+        }
+    }
+    true
+}
+
+/// The quickest of some rounds for each task, in seconds. The tasks take turns, so that a busy machine slows none alone.
+fn quickest<const TASKS: usize>(rounds: usize, tasks: [&dyn Fn(); TASKS]) -> [f64; TASKS] {
+    let mut best = [f64::INFINITY; TASKS];
+    for _ in 0..rounds {
+        for (best, task) in best.iter_mut().zip(tasks) {
+            let began = Instant::now();
+            task();
+            *best = best.min(began.elapsed().as_secs_f64());
+        }
+    }
+    best
+}
+
+fn ask_all(shared_byte: SharedByte, pairs: &[Pair]) {
+    let shared_byte = black_box(shared_byte);
+    let sum = pairs.iter().fold(0u64, |sum, pair| sum.wrapping_add(ask(shared_byte, pair)));
+    black_box(sum);
+}
+
+/// Prints a row for half a million pairs, timed block by block.
+fn time_pairs(name: &str, random: &mut Random, make: fn(&mut Random) -> Pair) -> bool {
+    let pairs: Vec<Pair> = (0..PAIRS).map(|_| make(random)).collect();
+    if !equal_answers(name, &pairs) {
+        return false;
+    }
+    let mut nanoseconds = [0.0; 3];
+    for block in pairs.chunks(BLOCK) {
+        let [proved, elements, euclid] = SHARED_BYTES.map(|shared_byte| move || ask_all(shared_byte, block));
+        for (sum, best) in nanoseconds.iter_mut().zip(quickest(ROUNDS, [&proved, &elements, &euclid])) {
+            *sum += best * 1e9 / PAIRS as f64;
+        }
+    }
+    let [proved, elements, euclid] = nanoseconds;
+    let shared = pairs.iter().filter(|pair| ask(SHARED_BYTES[0], pair) != 0).count();
+    println!(
+        "{name:<18}{:>7.0}%{proved:>9.1}{elements:>9.1}{euclid:>9.1}{:>10.2}{:>10.2}",
+        100.0 * shared as f64 / PAIRS as f64,
+        proved / elements,
+        proved / euclid
+    );
+    true
+}
+
+/// The plain reader's answer as the exported function gives it.
+fn check_by_reader(bytes: &[u8]) -> u64 {
+    match reader::check(bytes) {
+        Ok(()) => 0,
+        Err(refusal) => refusal.number as u64 * REFUSED + refusal.place as u64,
+    }
+}
+
+fn equal_checks(name: &str, bytes: &[u8]) -> bool {
+    let (proved, rust) = (exports::check(bytes), check_by_reader(bytes));
+    if proved != rust {
+        println!("{name}: proved {}, rust {}", answer_text(proved), answer_text(rust));
+    }
+    proved == rust
+}
+
+fn answer_text(answer: u64) -> String {
+    match answer {
+        0 => "accepted".to_string(),
+        _ => format!("{} at {}", answer / REFUSED, answer % REFUSED),
+    }
+}
+
+/// Prints a row for a bundle.
+fn time_check(case: &Case) -> bool {
+    let bytes = &case.bytes;
+    if !equal_checks(case.name, bytes) {
+        return false;
+    }
+    let proved = || _ = black_box(exports::check(black_box(bytes)));
+    let rust = || _ = black_box(check_by_reader(black_box(bytes)));
+    let [proved, rust] = quickest(CHECK_ROUNDS, [&proved, &rust]).map(|best| best * 1e6);
+    let answer = answer_text(exports::check(bytes));
+    println!("{:<32}{:>7}{answer:>12}{proved:>9.1}{rust:>9.1}{:>8.2}", case.name, bytes.len(), proved / rust);
+    true
+}
+
+/// Compares the answers to bundles with a random change.
+fn check_damaged(cases: &[Case], random: &mut Random) -> bool {
+    (0..DAMAGED).all(|turn| {
+        let case = &cases[turn % cases.len()];
+        equal_checks(case.name, &bundles::damaged(&case.bytes, random))
+    })
+}

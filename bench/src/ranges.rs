@@ -1,0 +1,113 @@
+//! The lowest byte that two ranges share, in plain Rust: by a loop over the elements, and by the proved code's own algorithm.
+//! An answer is the number that the exported function gives.
+
+use crate::reader::range_is_good;
+
+/// The bytes base + k * stride + j, with k below count and j below size.
+#[derive(Clone, Copy, Debug)]
+pub struct Range {
+    pub base: u32,
+    pub stride: u16,
+    pub count: u16,
+    pub size: u8,
+}
+
+impl Range {
+    fn is_good(&self) -> bool {
+        range_is_good(self.base, self.stride, self.count, self.size)
+    }
+
+    fn start_of(&self, element: u64) -> u64 {
+        self.base as u64 + element * self.stride as u64
+    }
+}
+
+const REFUSED: u64 = 1 << 40; // as in exports.rs
+
+/// One more than the byte, 0 for none, or refusal 5 at 1 or 2.
+fn answer(first: Range, second: Range, lowest: impl Fn(Range, Range) -> Option<u64>) -> u64 {
+    if !first.is_good() {
+        return 5 * REFUSED + 1;
+    }
+    if !second.is_good() {
+        return 5 * REFUSED + 2;
+    }
+    lowest(first, second).map_or(0, |byte| byte + 1)
+}
+
+/// Steps through the elements of both ranges in the order of their starts.
+fn by_elements(first: Range, second: Range) -> Option<u64> {
+    let (mut i, mut j) = (0, 0);
+    while i < first.count as u64 && j < second.count as u64 {
+        let one = first.start_of(i);
+        let other = second.start_of(j);
+        if one + first.size as u64 <= other {
+            i += 1;
+        } else if other + second.size as u64 <= one {
+            j += 1;
+        } else {
+            return Some(one.max(other));
+        }
+    }
+    None
+}
+
+/// The least (one, other) with other * pace + low <= one * stride <= other * pace + high, one below count and other
+/// below limit.
+fn first_pair(stride: u64, pace: u64, low: u64, high: u64, count: u64, limit: u64) -> Option<(u64, u64)> {
+    if (count - 1) * stride < low {
+        return None;
+    }
+    let element = low.div_ceil(stride);
+    let start = element * stride;
+    if start <= high {
+        return Some((element, 0));
+    }
+    let (one, other) = first_pair(pace % stride, stride, start - high, start - low, limit, count - element)?;
+    let sum = element + other + pace / stride * one;
+    (sum < count).then_some((sum, one))
+}
+
+/// Euclid's algorithm on the strides.
+fn by_euclid(first: Range, second: Range) -> Option<u64> {
+    let (lower, upper) = if first.base <= second.base { (first, second) } else { (second, first) };
+    let distance = (upper.base - lower.base) as u64;
+    if distance < lower.size as u64 {
+        return Some(upper.base as u64);
+    }
+    let low = distance + 1 - lower.size as u64;
+    let high = distance + upper.size as u64 - 1;
+    let (one, other) = first_pair(
+        lower.stride as u64,
+        upper.stride as u64,
+        low,
+        high,
+        lower.count as u64,
+        upper.count as u64,
+    )?;
+    Some(lower.start_of(one).max(upper.start_of(other)))
+}
+
+/// The three functions that are compared have the exported function's form, so that a call costs each the same.
+macro_rules! as_exported {
+    ($name:ident, $lowest:ident) => {
+        #[inline(never)]
+        pub extern "C" fn $name(
+            base: u32,
+            stride: u16,
+            count: u16,
+            size: u8,
+            other_base: u32,
+            other_stride: u16,
+            other_count: u16,
+            other_size: u8,
+        ) -> u64 {
+            let first = Range { base, stride, count, size };
+            let second = Range { base: other_base, stride: other_stride, count: other_count, size: other_size };
+            answer(first, second, $lowest)
+        }
+    };
+}
+
+as_exported!(shared_by_elements, by_elements);
+as_exported!(shared_by_euclid, by_euclid);

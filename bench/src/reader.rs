@@ -1,0 +1,257 @@
+//! A plain reader of bundles, written from document 01: check, with refusals 1 to 12.
+
+const MOST_BYTES: usize = 65_536;
+const MOST_SEGMENTS: u32 = 512;
+const MOST_ACCESSES: u32 = 1_024;
+const MOST_DEPTH: u32 = 4;
+
+#[derive(Clone, Copy, Debug, PartialEq, Eq)]
+pub struct Refusal {
+    pub number: u32,
+    pub place: usize,
+}
+
+fn refuse<T>(number: u32, place: usize) -> Result<T, Refusal> {
+    Err(Refusal { number, place })
+}
+
+/// Refuses the bundle, or accepts it.
+pub fn check(bytes: &[u8]) -> Result<(), Refusal> {
+    if bytes.len() > MOST_BYTES {
+        return refuse(1, 0);
+    }
+    let (chunks, forks) = scan(bytes)?;
+    check_shape(chunks, forks)
+}
+
+/// Of an access, only what check looks at.
+enum Command {
+    Member { team: u16, member: u8 },
+    End,
+    Region { team: u16, size: u8 },
+    Barrier,
+    Acquire(u8),
+    Release(u8),
+    Access { base: u32, stride: u16, count: u16, size: u8 },
+}
+
+/// The command at a position and the position after it, its operands not yet tested; or 2 or 3.
+#[inline]
+fn decode(bytes: &[u8], at: usize) -> Result<(Command, usize), Refusal> {
+    Ok(match bytes[at..] {
+        [0x01, low, high, member, ..] => (Command::Member { team: u16::from_le_bytes([low, high]), member }, at + 4),
+        [0x02, ..] => (Command::End, at + 1),
+        [0x10, low, high, size, ..] => (Command::Region { team: u16::from_le_bytes([low, high]), size }, at + 4),
+        [0x11, ..] => (Command::Barrier, at + 1),
+        [0x20, lock, ..] => (Command::Acquire(lock), at + 2),
+        [0x21, lock, ..] => (Command::Release(lock), at + 2),
+        [0x30..=0x33, _, _, b0, b1, b2, b3, s0, s1, c0, c1, size, ..] => {
+            let base = u32::from_le_bytes([b0, b1, b2, b3]);
+            let stride = u16::from_le_bytes([s0, s1]);
+            let count = u16::from_le_bytes([c0, c1]);
+            (Command::Access { base, stride, count, size }, at + 12)
+        }
+        [0x01 | 0x10 | 0x20 | 0x21 | 0x30..=0x33, ..] => return refuse(3, at),
+        _ => return refuse(2, at),
+    })
+}
+
+/// Count at least 1, stride 0 exactly when it is 1, size 1, 2, 4 or 8, last byte at most 4,294,967,295.
+pub fn range_is_good(base: u32, stride: u16, count: u16, size: u8) -> bool {
+    count >= 1
+        && (stride == 0) == (count == 1)
+        && matches!(size, 1 | 2 | 4 | 8)
+        && base as u64 + (count as u64 - 1) * stride as u64 + (size as u64 - 1) <= u32::MAX as u64
+}
+
+/// A chunk: the offset of its MEMBER, its name, and the barriers that it passes.
+struct Chunk {
+    place: usize,
+    team: u16,
+    member: u8,
+    barriers: u32,
+}
+
+/// A REGION: its offset, the team that it forks with its size, and the team that it stands in.
+struct Fork {
+    place: usize,
+    team: u16,
+    size: u8,
+    by_team: u16,
+}
+
+/// The chunks and REGIONs in the order of the bytes, or the first command that is refused, with 2 to 7.
+fn scan(bytes: &[u8]) -> Result<(Vec<Chunk>, Vec<Fork>), Refusal> {
+    let mut chunks = Vec::new();
+    let mut forks = Vec::new();
+    let mut open = false;
+    let mut chunk = Chunk { place: 0, team: 0, member: 0, barriers: 0 };
+    let mut locks = 0u64;
+    let mut segments = 0;
+    let mut accesses = 0;
+    let mut at = 0;
+    while at < bytes.len() {
+        let (command, next) = decode(bytes, at)?;
+        match command {
+            Command::Member { team, member } => {
+                if open {
+                    return refuse(4, at);
+                }
+                if member > 63 {
+                    return refuse(5, at);
+                }
+                if segments == MOST_SEGMENTS {
+                    return refuse(7, at);
+                }
+                open = true;
+                chunk = Chunk { place: at, team, member, barriers: 0 };
+                segments += 1;
+            }
+            Command::End => {
+                if !open {
+                    return refuse(4, at);
+                }
+                if locks != 0 {
+                    return refuse(6, at);
+                }
+                open = false;
+                chunks.push(Chunk { ..chunk });
+            }
+            Command::Region { team, size } => {
+                if !open {
+                    return refuse(4, at);
+                }
+                if team <= chunk.team || size < 1 || size > 64 {
+                    return refuse(5, at);
+                }
+                if segments == MOST_SEGMENTS {
+                    return refuse(7, at);
+                }
+                forks.push(Fork { place: at, team, size, by_team: chunk.team });
+                segments += 1;
+            }
+            Command::Barrier => {
+                if !open {
+                    return refuse(4, at);
+                }
+                if segments == MOST_SEGMENTS {
+                    return refuse(7, at);
+                }
+                chunk.barriers += 1;
+                segments += 1;
+            }
+            Command::Acquire(lock) => {
+                if !open {
+                    return refuse(4, at);
+                }
+                if lock > 63 {
+                    return refuse(5, at);
+                }
+                if locks >> lock & 1 == 1 {
+                    return refuse(6, at);
+                }
+                locks |= 1 << lock;
+            }
+            Command::Release(lock) => {
+                if !open {
+                    return refuse(4, at);
+                }
+                if lock > 63 {
+                    return refuse(5, at);
+                }
+                if locks >> lock & 1 == 0 {
+                    return refuse(6, at);
+                }
+                locks &= !(1 << lock);
+            }
+            Command::Access { base, stride, count, size } => {
+                if !open {
+                    return refuse(4, at);
+                }
+                if !range_is_good(base, stride, count, size) {
+                    return refuse(5, at);
+                }
+                if accesses == MOST_ACCESSES {
+                    return refuse(7, at);
+                }
+                accesses += 1;
+            }
+        }
+        at = next;
+    }
+    if open {
+        return refuse(4, at);
+    }
+    Ok((chunks, forks))
+}
+
+/// The lowest number of 8 to 12, then the lowest offset.
+fn check_shape(mut chunks: Vec<Chunk>, mut forks: Vec<Fork>) -> Result<(), Refusal> {
+    // Sorted by name, then place: of equal names the first stands lowest in the bundle.
+    chunks.sort_unstable_by_key(|chunk| (chunk.team as u64) << 40 | (chunk.member as u64) << 32 | chunk.place as u64);
+    forks.sort_unstable_by_key(|fork| (fork.team as u64) << 32 | fork.place as u64);
+    refuse_lowest(8, places_forked_before(&forks))?;
+    refuse_lowest(9, places_of_stray_chunks(&chunks, &forks))?;
+    if !chunks.first().is_some_and(|chunk| chunk.team == 0 && chunk.member == 0) {
+        return refuse(10, 0);
+    }
+    refuse_lowest(10, places_lacking_chunks(&chunks, &forks))?;
+    refuse_lowest(11, places_too_deep(&forks))?;
+    refuse_lowest(12, places_of_unlike_barriers(&chunks))
+}
+
+fn refuse_lowest(number: u32, places: impl Iterator<Item = usize>) -> Result<(), Refusal> {
+    match places.min() {
+        Some(place) => refuse(number, place),
+        None => Ok(()),
+    }
+}
+
+/// 8: a team forked before, at the later REGION.
+fn places_forked_before(forks: &[Fork]) -> impl Iterator<Item = usize> + '_ {
+    forks.windows(2).filter(|pair| pair[0].team == pair[1].team).map(|pair| pair[1].place)
+}
+
+/// The chunks of each team, by member.
+fn teams(chunks: &[Chunk]) -> impl Iterator<Item = &[Chunk]> {
+    chunks.chunk_by(|one, other| one.team == other.team)
+}
+
+/// 9: a chunk of a team that is never forked, a member number not below the size, or a second chunk of one member.
+fn places_of_stray_chunks<'a>(chunks: &'a [Chunk], forks: &'a [Fork]) -> impl Iterator<Item = usize> + 'a {
+    let stray = teams(chunks).flat_map(|team| {
+        let size = match team[0].team {
+            0 => 1,
+            number => forks.binary_search_by_key(&number, |fork| fork.team).map_or(0, |i| forks[i].size),
+        };
+        team.iter().filter(move |chunk| chunk.member >= size).map(|chunk| chunk.place)
+    });
+    let second = chunks.windows(2).filter(|pair| (pair[0].team, pair[0].member) == (pair[1].team, pair[1].member));
+    stray.chain(second.map(|pair| pair[1].place))
+}
+
+/// 10: a forked team lacking a chunk, at its REGION. Past 9, each chunk is of a member of its team, and the only one.
+fn places_lacking_chunks<'a>(chunks: &'a [Chunk], forks: &'a [Fork]) -> impl Iterator<Item = usize> + 'a {
+    let chunks_of = |team| {
+        let start = chunks.partition_point(|chunk| chunk.team < team);
+        chunks[start..].partition_point(|chunk| chunk.team == team)
+    };
+    forks.iter().filter(move |fork| chunks_of(fork.team) < fork.size as usize).map(|fork| fork.place)
+}
+
+/// 11: a team more than 4 deep below the root, at its REGION. A team's number is above that of the team that forks it.
+fn places_too_deep(forks: &[Fork]) -> impl Iterator<Item = usize> + '_ {
+    let mut depths = Vec::with_capacity(forks.len());
+    for fork in forks {
+        let outer = forks[..depths.len()].binary_search_by_key(&fork.by_team, |fork| fork.team);
+        depths.push(1 + outer.map_or(0, |i| depths[i]));
+    }
+    forks.iter().zip(depths).filter(|(_, depth)| *depth > MOST_DEPTH).map(|(fork, _)| fork.place)
+}
+
+/// 12: a barrier count unlike that of member 0, which stands first of its team.
+fn places_of_unlike_barriers(chunks: &[Chunk]) -> impl Iterator<Item = usize> + '_ {
+    teams(chunks).flat_map(|team| {
+        team.iter().filter(|chunk| chunk.barriers != team[0].barriers).map(|chunk| chunk.place)
+    })
+}
