@@ -254,23 +254,3 @@ pub step-taken :
     → a ≡ stepAt s at k
 unfolding stepAt
 step-taken s at k t a e q = rw e q
-
-pub opens-few : (c : Command) → opensSegment c ≤ 1
-unfolding opensSegment
-opens-few (Com.Member t m) = omega arith
-opens-few Com.End = omega arith
-opens-few (Com.Region t z) = omega arith
-opens-few Com.Barrier = omega arith
-opens-few (Com.Acquire l) = omega arith
-opens-few (Com.Release l) = omega arith
-opens-few (Com.Access a) = omega arith
-
-pub adds-few : (c : Command) → addsAccess c ≤ 1
-unfolding addsAccess
-adds-few (Com.Member t m) = omega arith
-adds-few Com.End = omega arith
-adds-few (Com.Region t z) = omega arith
-adds-few Com.Barrier = omega arith
-adds-few (Com.Acquire l) = omega arith
-adds-few (Com.Release l) = omega arith
-adds-few (Com.Access a) = omega arith

@@ -11,6 +11,7 @@ use crate::refusal::number;
 ghost use mathlib.Core.Path.{_≡_};
 ghost use mathlib.Core.Bool.{cond, not, true, false};
 ghost use Prim.Native.Nat.{_+_, _<_, _≤_};
+ghost use lib.Dec.{ltb};
 ghost use lib.ListN.{length};
 ghost use Rattle.bundle.specs.Answer.{refuses, numberOf};
 ghost use Rattle.bundle.specs.Chunks.{fresh};
@@ -77,6 +78,14 @@ fn close_chunk(scan: Scan) -> Scan
     }
 }
 
+// 7: whether one more segment is the 513th.
+fn full(scan: Scan) -> bool
+    requires { ⌜ Bounded scan ⌝ }
+    ensures { λ r. ⌜ r ≡ ltb 512 (scan .segments + 1) ⌝ }
+{
+    512 < scan.segments + 1
+}
+
 fn test_member(scan: Scan, team: u16, member: u8, next: usize, place: usize) -> Step
     requires { ⌜ Bounded scan × (inRange (Command.Member team member) ≡ true) ⌝ }
     ensures { λ r. ⌜ stepOf r ≡ testedAt scan place (record { command = Command.Member team member; next = next }) ⌝ }
@@ -84,7 +93,7 @@ fn test_member(scan: Scan, team: u16, member: u8, next: usize, place: usize) -> 
     if scan.inside {
         return refuse(Cause::Misplaced, place);
     }
-    if 512 < scan.segments + 1 {
+    if full(scan) {
         return refuse(Cause::TooManyEntries, place);
     }
     Step::Onward {
@@ -123,7 +132,7 @@ fn test_region(scan: Scan, team: u16, size: u8, next: usize, place: usize) -> St
     if team <= scan.team {
         return refuse(Cause::OutOfRange, place);
     }
-    if 512 < scan.segments + 1 {
+    if full(scan) {
         return refuse(Cause::TooManyEntries, place);
     }
     let state = scan.state;
@@ -141,7 +150,7 @@ fn test_barrier(scan: Scan, next: usize, place: usize) -> Step
     if !scan.inside {
         return refuse(Cause::Misplaced, place);
     }
-    if 512 < scan.segments + 1 {
+    if full(scan) {
         return refuse(Cause::TooManyEntries, place);
     }
     let state = scan.state;

@@ -1,61 +1,32 @@
 -- `bundle::scan::test_barrier` meets its contract. Assumes nothing.
-use mathlib.Core.Path.{refl, _∙_}
-use borrow.Author.Tests.{lt-ltb, le-ltb}
+use mathlib.Core.Path.{refl, sym, _∙_}
 use Rattle.bundle.specs.Scan.{isMember, misplaced, aboveOwnTeam, misusesLock, opensSegment, addsAccess}
 use Rattle.bundle.proofs.Stepping.{tested-4, tested-7, tested-on, many-segments, after-barrier}
 use borrow.Author.Needs.{needs}
 use Rattle.bundle.proofs.scan.test_barrier.Statement.{statement}
 use Rattle.bundle.proofs.scan.test_barrier.Tie as tie
-use Rattle.bundle.proofs.scan.test_barrier.Reads as reads
-use Rattle.bundle.proofs.scan.test_barrier.Lts as lts
-use Rattle.bundle.proofs.chunk.ChunkState.after_barrier.Reads as after-barrier-reads
-use Rattle.bundle.proofs.scan.count.Reads as count-reads
-use Rattle.bundle.proofs.scan.refuse.Reads as refuse-reads
 
--- src/scan.rt:142:9
-refuse-requires : tie.Need-refuse-requires
-refuse-requires c κs = search needs
-
--- src/scan.rt:142:9
 returns : tie.Need-returns
 unfolding misplaced isMember
 returns c = c .refuse .ensures ∙ tested-4 _ _ _ (c .before .if1 .taken)
 
--- src/scan.rt:144:14
-add-if2 : tie.Need-add-if2
-add-if2 c = search needs
-
--- src/scan.rt:145:9
-refuse-requires-2 : tie.Need-refuse-requires-2
-refuse-requires-2 c κs = search needs
-
--- src/scan.rt:145:9
 returns-2 : tie.Need-returns-2
 unfolding misplaced isMember aboveOwnTeam misusesLock opensSegment addsAccess
-returns-2 c = c .refuse2 .ensures ∙ tested-7 _ _ _ (c .before .before .before .if1 .left) (c .before .before .before .before .before .pre .1) refl refl (many-segments _ _ (c .before .before .before .before .before .pre .0) refl refl ∙ lt-ltb _ _ (c .before .if2 .taken))
+returns-2 c = c .refuse2 .ensures ∙ tested-7 _ _ _ (c .before .before .before .if1 .left) (c .before .before .before .before .before .pre .1) refl refl (many-segments _ _ (c .before .before .before .before .before .pre .0) refl refl ∙ sym (c .before .before .full .ensures) ∙ c .before .if2 .taken)
 
--- src/scan.rt:149:27
-after-barrier-requires : tie.Need-after-barrier-requires
-after-barrier-requires c κs = search needs
-
--- src/scan.rt:149:15
-count-requires : tie.Need-count-requires
-count-requires c κs = search needs
-
--- src/scan.rt:137:1
 returns-3 : tie.Need-returns-3
 unfolding misplaced isMember aboveOwnTeam misusesLock opensSegment addsAccess
-returns-3 c = tested-on _ _ _ (c .before .before .before .before .before .if1 .left) (c .before .before .before .before .before .before .before .pre .1) refl refl _ (many-segments _ _ (c .before .before .before .before .before .before .before .pre .0) refl refl ∙ le-ltb _ _ (c .before .before .before .if2 .left)) (after-barrier (c .before .before .before .before .before .before .before .pre .0) (c .before .after-barrier .ensures) (c .count .ensures))
+returns-3 c = tested-on _ _ _ (c .before .before .before .before .before .if1 .left) (c .before .before .before .before .before .before .before .pre .1) refl refl _ (many-segments _ _ (c .before .before .before .before .before .before .before .pre .0) refl refl ∙ sym (c .before .before .before .before .full .ensures) ∙ c .before .before .before .if2 .left) (after-barrier (c .before .before .before .before .before .before .before .pre .0) (c .before .after-barrier .ensures) (c .count .ensures))
 
 pub test-barrier-spec : {M : Type 1} → statement M
 test-barrier-spec =
     tie.close
     (tie.spec
-    refuse-requires
+    (λ c κs. search needs)
     returns
-    add-if2
-    refuse-requires-2
+    (λ c κs. search needs)
+    (λ c κs. search needs)
     returns-2
-    after-barrier-requires
-    count-requires
+    (λ c κs. search needs)
+    (λ c κs. search needs)
     returns-3)
