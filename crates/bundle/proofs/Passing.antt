@@ -51,7 +51,6 @@ use Rattle.bundle.specs.declared.refusal.Cause.the-variants as Causes
 use Rattle.bundle.proofs.Tests.{cond-elim, false-is-true, not-both, decide, is-false}
 use Rattle.bundle.proofs.Decoding.{decode-next}
 use Rattle.bundle.proofs.Scanning.{no-fault, passes, tested}
-use Rattle.bundle.proofs.Stepping.{opens-few}
 
 -- what a command adds to the rows, and what is then still to come
 inside-of : (k : Scan) (c : Command) → isMember c ≡ false → misplaced k c ≡ false → k .inside ≡ true

@@ -6,7 +6,7 @@ use mathlib.Core.List.{List}
 use native.Mathlib.Omega.{arith}
 use lib.Dec.{eqb, ltb, leb}
 use lib.ListN.{length, getD}
-use borrow.Author.Tests.{lt-ltb}
+use borrow.Author.Tests.{lt-ltb, le-ltb, le-leb}
 use Rattle.bundle.specs.Answer.{Answer, gives, refuses, whenGiven, numberOf}
 use Rattle.bundle.specs.Locks.{holds}
 use Rattle.bundle.specs.Commands.{Taken, byteOf, widthOf, commandAt, inRange, decodeByte, decodeAt, ranged, readAt, readingOf}
@@ -73,6 +73,24 @@ module _ {k r : Scan} {st : ChunkState} where
 pub after-access : (k : Scan) {r : Scan} (a : Access) → r ≡ counted k (k .state) 0 1 → r ≡ scanned k (Com.Access a)
 unfolding scanned onward afterCommand opensSegment addsAccess
 after-access k a q = q
+
+-- 7 by what a command adds
+module _ (k : Scan) (c : Command) (b : Bounded k) where
+  pub many-segments : opensSegment c ≡ 1 → addsAccess c ≡ 0 → tooMany k c ≡ ltb 512 (k .segments + 1)
+  unfolding tooMany
+  many-segments e f = rw (e, f, le-ltb 1024 (k .accesses + 0) (omega (arith, b .accesses))) (or-none (ltb 512 (k .segments + 1)))
+    where
+      or-none : (t : Bool) → (t || false) ≡ t
+      or-none true = refl
+      or-none false = refl
+
+  pub many-accesses : opensSegment c ≡ 0 → addsAccess c ≡ 1 → tooMany k c ≡ ltb 1024 (k .accesses + 1)
+  unfolding tooMany
+  many-accesses e f = rw (e, f, le-ltb 512 (k .segments + 0) (omega (arith, b .segments)))
+
+  pub many-none : opensSegment c ≡ 0 → addsAccess c ≡ 0 → tooMany k c ≡ false
+  unfolding tooMany
+  many-none e f = rw (e, f, le-ltb 512 (k .segments + 0) (omega (arith, b .segments)), le-ltb 1024 (k .accesses + 0) (omega (arith, b .accesses)))
 
 -- 4 is seen by MEMBER's byte and by the command alike
 pub seen-place : (k : Scan) (c : Command) {m r : Bool} → m ≡ isMember c → r ≡ cond m (k .inside) (not (k .inside)) → r ≡ misplaced k c
@@ -236,23 +254,3 @@ pub step-taken :
     → a ≡ stepAt s at k
 unfolding stepAt
 step-taken s at k t a e q = rw e q
-
-pub opens-few : (c : Command) → opensSegment c ≤ 1
-unfolding opensSegment
-opens-few (Com.Member t m) = omega arith
-opens-few Com.End = omega arith
-opens-few (Com.Region t z) = omega arith
-opens-few Com.Barrier = omega arith
-opens-few (Com.Acquire l) = omega arith
-opens-few (Com.Release l) = omega arith
-opens-few (Com.Access a) = omega arith
-
-pub adds-few : (c : Command) → addsAccess c ≤ 1
-unfolding addsAccess
-adds-few (Com.Member t m) = omega arith
-adds-few Com.End = omega arith
-adds-few (Com.Region t z) = omega arith
-adds-few Com.Barrier = omega arith
-adds-few (Com.Acquire l) = omega arith
-adds-few (Com.Release l) = omega arith
-adds-few (Com.Access a) = omega arith

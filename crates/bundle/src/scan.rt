@@ -2,6 +2,7 @@
 use crate::chunk::ChunkState;
 use crate::chunk::Scan;
 use crate::chunk::holds_lock;
+use crate::command::Access;
 use crate::command::Command;
 use crate::command::Reading;
 use crate::command::read_command;
@@ -10,12 +11,12 @@ use crate::refusal::number;
 ghost use mathlib.Core.Path.{_≡_};
 ghost use mathlib.Core.Bool.{cond, not, true, false};
 ghost use Prim.Native.Nat.{_+_, _<_, _≤_};
+ghost use lib.Dec.{ltb};
 ghost use lib.ListN.{length};
 ghost use Rattle.bundle.specs.Answer.{refuses, numberOf};
 ghost use Rattle.bundle.specs.Chunks.{fresh};
 ghost use Rattle.bundle.specs.Commands.{inRange, readAt, readingOf};
-ghost use Rattle.bundle.specs.Scan.{isMember, aboveOwnTeam, misusesLock, opensSegment, addsAccess, tooMany, scanned};
-ghost use Rattle.bundle.specs.Survey.{Bounded, Fitting, stepOf, testedAt, stepAt, counted, causeIn};
+ghost use Rattle.bundle.specs.Survey.{Bounded, stepOf, testedAt, stepAt, counted, causeIn};
 
 // What the scan says to a command.
 pub enum Step {
@@ -31,95 +32,11 @@ pub enum Step {
     },
 }
 
-fn is_member(command: Command) -> bool
-    ensures { λ r. ⌜ r ≡ isMember command ⌝ }
-{
-    match command {
-        Command::Member { team: _, member: _ } => true,
-        Command::End => false,
-        Command::Region { team: _, size: _ } => false,
-        Command::Barrier => false,
-        Command::Acquire(_) => false,
-        Command::Release(_) => false,
-        Command::Access(_) => false,
-    }
-}
-
 // 4: not MEMBER outside a chunk, MEMBER inside one.
 fn out_of_place(inside: bool, member: bool) -> bool
     ensures { λ r. ⌜ r ≡ cond member inside (not inside) ⌝ }
 {
     if member { inside } else { !inside }
-}
-
-// 5: the own-team rule.
-fn above_own_team(own: u16, command: Command) -> bool
-    ensures { λ r. ⌜ r ≡ aboveOwnTeam own command ⌝ }
-{
-    match command {
-        Command::Member { team: _, member: _ } => true,
-        Command::End => true,
-        Command::Region { team, size: _ } => own < team,
-        Command::Barrier => true,
-        Command::Acquire(_) => true,
-        Command::Release(_) => true,
-        Command::Access(_) => true,
-    }
-}
-
-// 6: a held lock acquired, an unheld one released, or one held at END.
-fn misuses_lock(locks: u64, command: Command) -> bool
-    ensures { λ r. ⌜ r ≡ misusesLock locks command ⌝ }
-{
-    match command {
-        Command::Member { team: _, member: _ } => false,
-        Command::End => !(locks == 0),
-        Command::Region { team: _, size: _ } => false,
-        Command::Barrier => false,
-        Command::Acquire(lock) => holds_lock(locks, lock),
-        Command::Release(lock) => !holds_lock(locks, lock),
-        Command::Access(_) => false,
-    }
-}
-
-fn opens_segment(command: Command) -> u32
-    ensures { λ r. ⌜ r ≡ opensSegment command ⌝ }
-{
-    match command {
-        Command::Member { team: _, member: _ } => 1,
-        Command::End => 0,
-        Command::Region { team: _, size: _ } => 1,
-        Command::Barrier => 1,
-        Command::Acquire(_) => 0,
-        Command::Release(_) => 0,
-        Command::Access(_) => 0,
-    }
-}
-
-fn adds_access(command: Command) -> u32
-    ensures { λ r. ⌜ r ≡ addsAccess command ⌝ }
-{
-    match command {
-        Command::Member { team: _, member: _ } => 0,
-        Command::End => 0,
-        Command::Region { team: _, size: _ } => 0,
-        Command::Barrier => 0,
-        Command::Acquire(_) => 0,
-        Command::Release(_) => 0,
-        Command::Access(_) => 1,
-    }
-}
-
-// 7: the 513th segment or 1,025th access.
-fn too_many(scan: Scan, command: Command) -> bool
-    requires { ⌜ Bounded scan ⌝ }
-    ensures { λ r. ⌜ r ≡ tooMany scan command ⌝ }
-{
-    let segments = scan.segments;
-    let accesses = scan.accesses;
-    let opens = opens_segment(command);
-    let adds = adds_access(command);
-    (512 < segments + opens) | (1024 < accesses + adds)
 }
 
 // The scan with another state, and so many segments and accesses more.
@@ -161,45 +78,156 @@ fn close_chunk(scan: Scan) -> Scan
     }
 }
 
-// The scan after a command.
-fn after(scan: Scan, command: Command) -> Scan
-    requires { ⌜ Fitting scan command ⌝ }
-    ensures { λ r. ⌜ r ≡ scanned scan command ⌝ }
+// 7: whether one more segment is the 513th.
+fn full(scan: Scan) -> bool
+    requires { ⌜ Bounded scan ⌝ }
+    ensures { λ r. ⌜ r ≡ ltb 512 (scan .segments + 1) ⌝ }
 {
-    let state = scan.state;
-    match command {
-        Command::Member { team, member: _ } => open_chunk(scan, team),
-        Command::End => close_chunk(scan),
-        Command::Region { team: _, size: _ } => count(scan, state.after_join(), 1, 0),
-        Command::Barrier => count(scan, state.after_barrier(), 1, 0),
-        Command::Acquire(lock) => count(scan, state.after_acquire(lock), 0, 0),
-        Command::Release(lock) => count(scan, state.after_release(lock), 0, 0),
-        Command::Access(_) => count(scan, state, 0, 1),
+    512 < scan.segments + 1
+}
+
+fn test_member(scan: Scan, team: u16, member: u8, next: usize, place: usize) -> Step
+    requires { ⌜ Bounded scan × (inRange (Command.Member team member) ≡ true) ⌝ }
+    ensures { λ r. ⌜ stepOf r ≡ testedAt scan place (record { command = Command.Member team member; next = next }) ⌝ }
+{
+    if scan.inside {
+        return refuse(Cause::Misplaced, place);
+    }
+    if full(scan) {
+        return refuse(Cause::TooManyEntries, place);
+    }
+    Step::Onward {
+        scan: open_chunk(scan, team),
+        command: Command::Member { team, member },
+        next,
     }
 }
 
-// A command whose operands are in range.
+fn test_end(scan: Scan, next: usize, place: usize) -> Step
+    requires { ⌜ Bounded scan × (inRange Command.End ≡ true) ⌝ }
+    ensures { λ r. ⌜ stepOf r ≡ testedAt scan place (record { command = Command.End; next = next }) ⌝ }
+{
+    if !scan.inside {
+        return refuse(Cause::Misplaced, place);
+    }
+    let state = scan.state;
+    if !(state.locks == 0) {
+        return refuse(Cause::LockMisused, place);
+    }
+    Step::Onward {
+        scan: close_chunk(scan),
+        command: Command::End,
+        next,
+    }
+}
+
+// 5 is the own-team rule here.
+fn test_region(scan: Scan, team: u16, size: u8, next: usize, place: usize) -> Step
+    requires { ⌜ Bounded scan × (inRange (Command.Region team size) ≡ true) ⌝ }
+    ensures { λ r. ⌜ stepOf r ≡ testedAt scan place (record { command = Command.Region team size; next = next }) ⌝ }
+{
+    if !scan.inside {
+        return refuse(Cause::Misplaced, place);
+    }
+    if team <= scan.team {
+        return refuse(Cause::OutOfRange, place);
+    }
+    if full(scan) {
+        return refuse(Cause::TooManyEntries, place);
+    }
+    let state = scan.state;
+    Step::Onward {
+        scan: count(scan, state.after_join(), 1, 0),
+        command: Command::Region { team, size },
+        next,
+    }
+}
+
+fn test_barrier(scan: Scan, next: usize, place: usize) -> Step
+    requires { ⌜ Bounded scan × (inRange Command.Barrier ≡ true) ⌝ }
+    ensures { λ r. ⌜ stepOf r ≡ testedAt scan place (record { command = Command.Barrier; next = next }) ⌝ }
+{
+    if !scan.inside {
+        return refuse(Cause::Misplaced, place);
+    }
+    if full(scan) {
+        return refuse(Cause::TooManyEntries, place);
+    }
+    let state = scan.state;
+    Step::Onward {
+        scan: count(scan, state.after_barrier(), 1, 0),
+        command: Command::Barrier,
+        next,
+    }
+}
+
+fn test_acquire(scan: Scan, lock: u8, next: usize, place: usize) -> Step
+    requires { ⌜ Bounded scan × (inRange (Command.Acquire lock) ≡ true) ⌝ }
+    ensures { λ r. ⌜ stepOf r ≡ testedAt scan place (record { command = Command.Acquire lock; next = next }) ⌝ }
+{
+    if !scan.inside {
+        return refuse(Cause::Misplaced, place);
+    }
+    let state = scan.state;
+    if holds_lock(state.locks, lock) {
+        return refuse(Cause::LockMisused, place);
+    }
+    Step::Onward {
+        scan: count(scan, state.after_acquire(lock), 0, 0),
+        command: Command::Acquire(lock),
+        next,
+    }
+}
+
+fn test_release(scan: Scan, lock: u8, next: usize, place: usize) -> Step
+    requires { ⌜ Bounded scan × (inRange (Command.Release lock) ≡ true) ⌝ }
+    ensures { λ r. ⌜ stepOf r ≡ testedAt scan place (record { command = Command.Release lock; next = next }) ⌝ }
+{
+    if !scan.inside {
+        return refuse(Cause::Misplaced, place);
+    }
+    let state = scan.state;
+    if !holds_lock(state.locks, lock) {
+        return refuse(Cause::LockMisused, place);
+    }
+    Step::Onward {
+        scan: count(scan, state.after_release(lock), 0, 0),
+        command: Command::Release(lock),
+        next,
+    }
+}
+
+fn test_access(scan: Scan, access: Access, next: usize, place: usize) -> Step
+    requires { ⌜ Bounded scan × (inRange (Command.Access access) ≡ true) ⌝ }
+    ensures { λ r. ⌜ stepOf r ≡ testedAt scan place (record { command = Command.Access access; next = next }) ⌝ }
+{
+    if !scan.inside {
+        return refuse(Cause::Misplaced, place);
+    }
+    if 1024 < scan.accesses + 1 {
+        return refuse(Cause::TooManyEntries, place);
+    }
+    let state = scan.state;
+    Step::Onward {
+        scan: count(scan, state, 0, 1),
+        command: Command::Access(access),
+        next,
+    }
+}
+
+// A command whose operands are in range: 4 to 7 in that order.
 fn test(scan: Scan, command: Command, next: usize, place: usize) -> Step
     requires { ⌜ Bounded scan × (inRange command ≡ true) ⌝ }
     ensures { λ r. ⌜ stepOf r ≡ testedAt scan place (record { command = command; next = next }) ⌝ }
 {
-    if out_of_place(scan.inside, is_member(command)) {
-        return refuse(Cause::Misplaced, place);
-    }
-    if !above_own_team(scan.team, command) {
-        return refuse(Cause::OutOfRange, place);
-    }
-    let state = scan.state;
-    if misuses_lock(state.locks, command) {
-        return refuse(Cause::LockMisused, place);
-    }
-    if too_many(scan, command) {
-        return refuse(Cause::TooManyEntries, place);
-    }
-    Step::Onward {
-        scan: after(scan, command),
-        command,
-        next,
+    match command {
+        Command::Member { team, member } => test_member(scan, team, member, next, place),
+        Command::End => test_end(scan, next, place),
+        Command::Region { team, size } => test_region(scan, team, size, next, place),
+        Command::Barrier => test_barrier(scan, next, place),
+        Command::Acquire(lock) => test_acquire(scan, lock, next, place),
+        Command::Release(lock) => test_release(scan, lock, next, place),
+        Command::Access(access) => test_access(scan, access, next, place),
     }
 }
 
