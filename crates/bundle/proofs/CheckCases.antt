@@ -39,6 +39,7 @@ use Rattle.bundle.proofs.ScanChunks.{commands-of-chunks}
 use Rattle.bundle.proofs.Printing.{printed, placedFrom, prints-front, front-of-printed}
 use Rattle.bundle.proofs.Settling.{settled, settle, gather-settle}
 use Rattle.bundle.proofs.ShapeRows.{shape-rows, of-chunk}
+use Rattle.bundle.proofs.Reorder.{checked, scan-passed, orderly-range}
 
 -- check
 module _ (s : List ℕ) where
@@ -178,21 +179,6 @@ ends-settle t m at (d ∷ ds) =
     go false = refl
 
 -- the chunks of a bundle that passes the scan stand one after another
-pub orderly-ranged : (k : Scan) (cs : List Command) → orderly k cs ≡ true → (c : Command) → List·Memᴰ c cs → inRange c ≡ true
-orderly-ranged k [] o c m = absurd (List·Memᴰ·not-nil m)
-orderly-ranged k (d ∷ ds) o c m =
-    ⊎-elim
-    (λ e. ap inRange e ∙ orderly-head k d ds o .in-range)
-    (orderly-ranged (uncounted (scanned k d)) ds (orderly-tail k d ds o) c)
-    (List·Memᴰ·cases-cons m)
-
-pub scan-passed : (s : List ℕ) (k : Scan) → scanOf s ≡ gives k → Passed (frontOf s .placed) (frontOf s .stop) start
-unfolding scanOf
-scan-passed s k e = walk-elim (frontOf s .placed) (frontOf s .stop) start k room e
-  where
-    room : Room start []
-    room = unfold start total in (record { segments = omega arith; accesses = omega arith })
-
 pub record OneAfterAnother (s : List ℕ) : Type 0 where
   pub chunks : chunksOf s ≡ settle 0 (chunksOf s)
   pub bytes : s ≡ printed (concatMap logOf (chunksOf s))
@@ -205,7 +191,7 @@ one-after-another s k b e =
     let ps = frontOf s .placed in
     let commands = map (λ (q : Placed). q .command) ps in
     let cs = gather ps .chunks in
-    let ranged = orderly-ranged start commands (p .order) in
+    let ranged = orderly-range start commands (p .order) in
     let whole = prints-front s (p .past) b (p .ended) ranged in
     let out = all-in-chunks ps (p .order) in
     let logs : commands ≡ concatMap logOf cs = ap (map (λ (q : Placed). q .command)) (out .parts) ∙ commands-of-chunks cs in
@@ -216,30 +202,8 @@ one-after-another s k b e =
       placed = out .parts;
     }
 
-pub accepted-scan : (s : List ℕ) → checkOf s ≡ gives tt → (k : Scan) × (scanOf s ≡ gives k)
-unfolding checkOf
-accepted-scan s e = go (ltb 65536 (length s)) (scanOf s) refl e
-  where
-    go :
-        (b : Bool) (a : Answer Scan)
-        → scanOf s ≡ a
-        → cond b (refuses 1 0) (whenGiven a (λ k. shapeOf (chunksOf s))) ≡ gives tt
-        → (k : Scan) × (scanOf s ≡ gives k)
-    go true a q h = let z : _≡_ {A = ℕ} 0 1 = cc in absurd (omega arith)
-    go false (gives k) q h = (k, q)
-    go false (refuses n p) q h = let z : _≡_ {A = ℕ} 0 1 = cc in absurd (omega arith)
-
-pub accepted-shape : (s : List ℕ) → checkOf s ≡ gives tt → shapeOf (chunksOf s) ≡ gives tt
-unfolding checkOf
-accepted-shape s e = go (ltb 65536 (length s)) (scanOf s) e
-  where
-    go : (b : Bool) (a : Answer Scan) → cond b (refuses 1 0) (whenGiven a (λ k. shapeOf (chunksOf s))) ≡ gives tt → shapeOf (chunksOf s) ≡ gives tt
-    go true a h = let z : _≡_ {A = ℕ} 0 1 = cc in absurd (omega arith)
-    go false (gives k) h = h
-    go false (refuses n p) h = let z : _≡_ {A = ℕ} 0 1 = cc in absurd (omega arith)
-
 pub accepted-chunks : (s : List ℕ) → Bytes s → checkOf s ≡ gives tt → OneAfterAnother s
-accepted-chunks s b e = let k = accepted-scan s e in one-after-another s (k .0) b (k .1)
+accepted-chunks s b e = let k = checked s e in one-after-another s (k .scan) b (k .scan-ok)
 
 -- find by the rows
 pub find-rows :

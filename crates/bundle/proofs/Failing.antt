@@ -8,7 +8,7 @@ use native.Mathlib.Omega.{arith}
 use Rattle.bundle.specs.Answer.{Answer, gives, refuses}
 use Rattle.bundle.specs.Lists.{any}
 use Rattle.bundle.specs.Check.{failing, refusedAt}
-use Rattle.bundle.proofs.Tests.{not-both, is-false, or-one, or-other, or-cases}
+use Rattle.bundle.proofs.Tests.{not-both, is-false, or-one, or-other, or-cases, or-false}
 use Rattle.bundle.proofs.ListLaws.{any-elim, any-intro, Distinct, distinct-nil, distinct-cons, distinct-head, distinct-tail}
 
 -- no element fails
@@ -49,10 +49,6 @@ pub record Once {A K : Type 0} (key : A → K) (low : A → Bool) (before xs : L
   pub all-low : (x : A) → List·Memᴰ x xs → low x ≡ false
   pub distinct : Distinct (map key xs)
   pub apart : (x y : A) → List·Memᴰ x xs → List·Memᴰ y before → key x ≡ key y → ⊥
-
-or-false : (a b : Bool) → (a || b) ≡ false → (a ≡ false) × (b ≡ false)
-or-false true b e = not-both refl e
-or-false false b e = (refl, e)
 
 module _ {A K : Type 0} (key : A → K) (low : A → Bool) (same : A → A → Bool)
     (same-key : (x y : A) → same x y ≡ true → key x ≡ key y)

@@ -24,7 +24,7 @@ use Rattle.bundle.proofs.Failing.{NoneFails, at-end, one-more, failing-
 use Rattle.bundle.proofs.Decoding.{decode-reads}
 use Rattle.bundle.proofs.Scanning.{Passed}
 use Rattle.bundle.proofs.Gathering.{placedOf, all-in-chunks}
-use Rattle.bundle.proofs.CheckCases.{accepted-scan, accepted-shape, scan-passed, orderly-ranged}
+use Rattle.bundle.proofs.Reorder.{checked, scan-passed, orderly-range}
 
 -- no member has a second chunk
 alone : (fs : List Fork) {before xs : List Chunk} → NoneFails (stray fs) before xs → (c y : Chunk) → List·Memᴰ c xs → List·Memᴰ y before → isOf (c .team) (c .member) y ≡ false
@@ -57,7 +57,7 @@ none-stray cs e =
 
 pub find-known : (s : List ℕ) (c : Chunk) → Accepted s → List·Memᴰ c (chunksOf s) → findOf s (c .team) (c .member) ≡ gives (partOf s c)
 unfolding findOf chunkOf
-find-known s c a m = rw (a, found-first (forksOf (chunksOf s)) (none-stray (chunksOf s) (accepted-shape s a)) c m)
+find-known s c a m = rw (a, found-first (forksOf (chunksOf s)) (none-stray (chunksOf s) (checked s a .shape)) c m)
 
 -- reading at the place of a command
 record Decodes (s : List ℕ) (p : Placed) : Type 0 where
@@ -89,17 +89,17 @@ pub record Reads (s : List ℕ) (p : Placed) : Type 0 where
 
 pub placed-reads : (s : List ℕ) (p : Placed) → Accepted s → List·Memᴰ p (frontOf s .placed) → Reads s p
 placed-reads s p a m =
-    let k = accepted-scan s a in
-    let q = scan-passed s (k .0) (k .1) in
+    let k = checked s a in
+    let q = scan-passed s (k .scan) (k .scan-ok) in
     let d = placed-decodes (length s) s 0 p (unfold frontOf in m) in
-    let r = orderly-ranged start (map (λ (x : Placed). x .command) (frontOf s .placed)) (q .order) (p .command) (Memᴰ·map (λ (x : Placed). x .command) m) in
+    let r = orderly-range start (map (λ (x : Placed). x .command) (frontOf s .placed)) (q .order) (p .command) (Memᴰ·map (λ (x : Placed). x .command) m) in
     record { next = d .next; reads = decode-reads s (p .at) (record { command = p .command; next = d .next }) (d .decodes) r }
 
 -- MEMBER, and each command behind it, of each chunk
 pub chunk-reads : (s : List ℕ) (c : Chunk) (p : Placed) → Accepted s → List·Memᴰ c (chunksOf s) → List·Memᴰ p (placedOf c) → Reads s p
 unfolding chunksOf
 chunk-reads s c p a m l =
-    let k = accepted-scan s a in
-    let q = scan-passed s (k .0) (k .1) in
+    let k = checked s a in
+    let q = scan-passed s (k .scan) (k .scan-ok) in
     let parts = all-in-chunks (frontOf s .placed) (q .order) .parts in
     placed-reads s p a (subst (λ (ps : List Placed). List·Memᴰ p ps) (sym parts) (concatMap-intro placedOf m l))

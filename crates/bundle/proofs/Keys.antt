@@ -60,6 +60,11 @@ module _ {A : Type 0} where
   all-same p q [] h = refl
   all-same p q (x ∷ xs) h = rw (h x, all-same p q xs h)
 
+-- a test over changed elements
+pub any-map : {A B : Type 0} (g : A → B) (p : B → Bool) (q : A → Bool) → ((x : A) → p (g x) ≡ q x) → (xs : List A) → any p (map g xs) ≡ any q xs
+any-map g p q same [] = refl
+any-map g p q same (x ∷ xs) = rw (same x, any-map g p q same xs)
+
 pub distinct-key :
     {A K : Type 0} (key : A → K) {xs : List A} {x y : A}
     → Distinct (map key xs)

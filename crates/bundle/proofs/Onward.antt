@@ -27,7 +27,7 @@ use Rattle.bundle.proofs.Scanning.{total, uncounted, orderly, orderly-h
 use Rattle.bundle.proofs.Gathering.{plain, Body, ends, goes, Formed, placedOf, logOf, all-in-chunks}
 use Rattle.bundle.proofs.ScanChunks.{scan-chunks, commands-of-chunks}
 use Rattle.bundle.proofs.Shape.{Shaped, shaped-elim}
-use Rattle.bundle.proofs.Reorder.{Checked, checked, orderly-range}
+use Rattle.bundle.proofs.Reorder.{Checked, checked, orderly-range, scan-passed}
 
 -- the commands that are read from a position on, up to the end
 pub data Onward (s : List ℕ) : ℕ → List Placed → Type 0 where
@@ -100,12 +100,8 @@ pub record Legible (s : List ℕ) : Type 0 where
   pub order : orderly start (concatMap logOf (chunksOf s)) ≡ true
   pub shaped : Shaped (chunksOf s)
 
-empty-room : Room start []
-unfolding start total
-empty-room = record { segments = omega arith; accesses = omega arith }
-
 pub legible : (s : List ℕ) → Accepted s → Legible s
-legible s a = go (walk-elim ps (frontOf s .stop) start (k .scan) empty-room (unfold scanOf in k .scan-ok))
+legible s a = go (scan-passed s (k .scan) (k .scan-ok))
   where
     k : Checked s
     k = checked s a

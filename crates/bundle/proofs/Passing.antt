@@ -48,7 +48,7 @@ use Rattle.bundle.specs.declared.survey.Turn.the-variants as Turns
 use Rattle.bundle.specs.declared.survey.Survey.{Survey}
 use Rattle.bundle.specs.declared.survey.Survey.the-variants as Surveys
 use Rattle.bundle.specs.declared.refusal.Cause.the-variants as Causes
-use Rattle.bundle.proofs.Tests.{cond-elim, false-is-true, not-both, decide, is-false}
+use Rattle.bundle.proofs.Tests.{cond-elim, false-is-true, not-both, decide, is-false, or-false}
 use Rattle.bundle.proofs.Decoding.{decode-next}
 use Rattle.bundle.proofs.Scanning.{no-fault, passes, tested}
 
@@ -80,10 +80,6 @@ module _ (p : Pass) (next : ℕ) (ps : List Placed) where
   comes (Com.Access a) e = rw (inside-of (p .scan) (Com.Access a) refl e) (refl, refl)
 
 -- the counts after a command
-or-false : (a b : Bool) → (a || b) ≡ false → (a ≡ false) × (b ≡ false)
-or-false true b e = not-both refl e
-or-false false b e = (refl, e)
-
 room : (k : Scan) (c : Command) → tooMany k c ≡ false → (k .segments + opensSegment c ≤ 512) × (k .accesses + addsAccess c ≤ 1024)
 unfolding tooMany
 room k c e =

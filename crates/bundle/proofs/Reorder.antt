@@ -74,12 +74,16 @@ pub record Known (b : List ℕ) : Type 0 where
   pub sound : Sound (chunksOf b)
   pub bytes : b ≡ printed (concatMap logOf (chunksOf b))
 
-empty-room : Room start []
-unfolding start total
-empty-room = record { segments = omega arith; accesses = omega arith }
+-- what a bundle that passes the scan tells
+pub scan-passed : (s : List ℕ) (k : Scan) → scanOf s ≡ gives k → Passed (frontOf s .placed) (frontOf s .stop) start
+unfolding scanOf
+scan-passed s k e = walk-elim (frontOf s .placed) (frontOf s .stop) start k room e
+  where
+    room : Room start []
+    room = unfold start total in (record { segments = omega arith; accesses = omega arith })
 
 pub known : (b : List ℕ) → Bytes b → Accepted b → Known b
-known b bytes a = go (walk-elim ps stop start (k .scan) empty-room (unfold scanOf in k .scan-ok))
+known b bytes a = go (scan-passed b (k .scan) (k .scan-ok))
   where
     k : Checked b
     k = checked b a

@@ -16,7 +16,7 @@ use Rattle.bundle.specs.Scan.{misplaced, aboveOwnTeam, misusesLock, open
 use Rattle.bundle.specs.declared.chunk.Scan.{Scan}
 use Rattle.bundle.specs.declared.command.Command.{Command}
 use Rattle.bundle.specs.declared.command.Command.the-variants as Com
-use Rattle.bundle.proofs.Tests.{false-is-true, both, and-left, and-right, decide, not-both, is-false, not-of-false}
+use Rattle.bundle.proofs.Tests.{false-is-true, both, and-left, and-right, decide, not-both, is-false, not-of-false, or-false}
 
 -- a sum over a list, and over a permutation of it
 unfoldable pub total : {A : Type 0} → (A → ℕ) → List A → ℕ
@@ -132,14 +132,6 @@ none-too-many : (k : Scan) (c : Command) → k .segments + opensSegment c ≤ 51
 unfolding tooMany
 none-too-many k c g a = rw (le-ltb 512 (k .segments + opensSegment c) g, le-ltb 1024 (k .accesses + addsAccess c) a)
 
-or-false-left : (a b : Bool) → (a || b) ≡ false → a ≡ false
-or-false-left true b e = e
-or-false-left false b e = refl
-
-or-false-right : (a b : Bool) → (a || b) ≡ false → b ≡ false
-or-false-right true b e = not-both refl e
-or-false-right false b e = e
-
 room-one : (k : Scan) (c : Command) → tooMany k c ≡ false → Room (scanned k c) []
 unfolding tooMany total
 room-one k c e =
@@ -147,8 +139,8 @@ room-one k c e =
     let a = ltb 1024 (k .accesses + addsAccess c) in
     let n = counted k c in
     record {
-      segments = omega (arith, n .segments, ltb-false 512 (k .segments + opensSegment c) (or-false-left s a e));
-      accesses = omega (arith, n .accesses, ltb-false 1024 (k .accesses + addsAccess c) (or-false-right s a e));
+      segments = omega (arith, n .segments, ltb-false 512 (k .segments + opensSegment c) (or-false s a e .0));
+      accesses = omega (arith, n .accesses, ltb-false 1024 (k .accesses + addsAccess c) (or-false s a e .1));
     }
 
 -- a command with no fault

@@ -13,7 +13,7 @@ use Rattle.bundle.specs.declared.chunk.ChunkState.{ChunkState}
 use Rattle.bundle.specs.declared.command.Command.{Command}
 use Rattle.bundle.specs.declared.command.Command.the-variants as Com
 use Rattle.bundle.proofs.ListLaws.{Distinct, perm-mem, perm-map, perm-concatMap}
-use Rattle.bundle.proofs.Keys.{perm-distinct, perm-any, perm-first, all-same, distinct-key}
+use Rattle.bundle.proofs.Keys.{perm-distinct, perm-any, perm-first, all-same, distinct-key, any-map}
 use Rattle.bundle.proofs.Places.{unplacedCommand, unplaced, memberKey, commandsOf-unplaced}
 use Rattle.bundle.proofs.Shape.{Shaped, isOf-elim}
 
@@ -120,10 +120,6 @@ forks-unplaced (c ∷ cs) =
     rw (forks-from-unplaced (c .team) (c .member) fresh (c .body), forks-unplaced cs)
     (sym (map-append unplacedFork (forksFrom (c .team) (c .member) fresh (c .body)) (concatMap forksIn cs)))
 
-any-map : {A B : Type 0} (g : A → B) (p : B → Bool) (xs : List A) → any p (map g xs) ≡ any (λ x. p (g x)) xs
-any-map g p [] = refl
-any-map g p (x ∷ xs) = ap (λ (t : Bool). p (g x) || t) (any-map g p xs)
-
 mapOption : {A B : Type 0} → (A → B) → Option A → Option B
 mapOption g none = none
 mapOption g (some x) = some (g x)
@@ -162,7 +158,7 @@ depth-unplaced (suc fuel) fs t =
 
 any-unplaced : (cs : List Chunk) (t m : ℕ) → any (isOf t m) (map unplaced cs) ≡ any (isOf t m) cs
 unfolding isOf unplaced
-any-unplaced cs t m = any-map unplaced (isOf t m) cs
+any-unplaced cs t m = any-map unplaced (isOf t m) (isOf t m) (λ c. refl) cs
 
 barriers-unplaced : (c : Chunk) → barriersOf (unplaced c) ≡ barriersOf c
 unfolding barriersOf

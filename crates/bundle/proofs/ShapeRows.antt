@@ -47,13 +47,10 @@ use Rattle.bundle.specs.declared.rows.Row.{Row}
 use Rattle.bundle.specs.declared.structure.Test.{Test}
 use Rattle.bundle.specs.declared.structure.Test.the-variants.{ForkedBefore, Stray, LacksChunk, TooDeep, UnlikeFirst}
 use Rattle.bundle.proofs.Tests.{decide}
+use Rattle.bundle.proofs.Keys.{any-map, all-same}
 
 -- searches in a list whose elements are changed
 module _ {A B : Type 0} (g : A → B) (p : B → Bool) (q : A → Bool) (same : (x : A) → p (g x) ≡ q x) where
-  any-map : (xs : List A) → any p (map g xs) ≡ any q xs
-  any-map [] = refl
-  any-map (x ∷ xs) = ap₂ (λ a b. a || b) (same x) (any-map xs)
-
   from-first : {C : Type 0} (d : C) (f : B → C) (xs : List A) → fromOption d f (first p (map g xs)) ≡ fromOption d (λ x. f (g x)) (first q xs)
   from-first d f [] = refl
   from-first d f (x ∷ xs) = rw (same x) (go (q x) (from-first d f xs))
@@ -68,10 +65,6 @@ module _ {A B : Type 0} (g : A → B) (p : B → Bool) (q : A → Bool) (same : 
 field-of : (field : Row → ℕ) (o : Option Row) → field (rowOf 0) ≡ 0 → field (fromOption (rowOf 0) (λ r. r) o) ≡ fromOption 0 field o
 field-of field none e = e
 field-of field (some r) e = refl
-
-all-same : (p q : ℕ → Bool) → ((n : ℕ) → p n ≡ q n) → (xs : List ℕ) → all p xs ≡ all q xs
-all-same p q h [] = refl
-all-same p q h (x ∷ xs) = ap₂ (λ a b. a && b) (h x) (all-same p q h xs)
 
 -- a fork's row has member 0
 of-fork : (t : ℕ) (f : Fork) → isRow t 0 (forkRow f) ≡ eqb (f .team) t
@@ -94,7 +87,7 @@ any-chunk t m cs = any-map chunkRow (isRow t m) (isOf t m) (of-chunk t m) cs
 
 lacks-rows : (cs : List Chunk) (t size : ℕ) → lacksRow (map chunkRow cs) t size ≡ lacksChunk cs t size
 unfolding lacksRow lacksChunk
-lacks-rows cs t size = ap not (all-same (λ m. any (isRow t m) (map chunkRow cs)) (λ m. any (isOf t m) cs) (λ m. any-chunk t m cs) (upTo size))
+lacks-rows cs t size = ap not (all-same (λ m. any (isRow t m) (map chunkRow cs)) (λ m. any (isOf t m) cs) (upTo size) (λ m. any-chunk t m cs))
 
 -- five climbs decide whether a team is deeper than 4
 climbs-depth : (n fuel : ℕ) (fs : List Fork) (t : ℕ) → n ≤ fuel → climbs n (map forkRow fs) t ≡ leb n (depthFrom fuel fs t)

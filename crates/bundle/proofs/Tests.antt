@@ -28,6 +28,10 @@ pub or-other : (a : Bool) {b : Bool} → b ≡ true → (a || b) ≡ true
 or-other true q = refl
 or-other false q = q
 
+pub or-false : (a b : Bool) → (a || b) ≡ false → (a ≡ false) × (b ≡ false)
+or-false true b e = false-is-true (sym e)
+or-false false b e = (refl, e)
+
 pub is-false : (t : Bool) → (t ≡ true → ⊥) → t ≡ false
 is-false true h = absurd (h refl)
 is-false false h = refl
