@@ -7,7 +7,7 @@ use mathlib.Core.List.{List, [], _∷_, _++_, map, append-assoc, List·Memᴰ, L
 use native.Mathlib.Omega.{arith}
 use Rattle.bundle.specs.Lists.{concatMap}
 use Rattle.bundle.specs.Chunks.{Placed, Chunk, Gathered, gatherOne, gather, commandsOf}
-use Rattle.bundle.specs.Scan.{isMember, misplaced, start, onward, scanned}
+use Rattle.bundle.specs.Scan.{isMember, misplaced, start, scanned}
 use Rattle.bundle.specs.declared.chunk.Scan.{Scan}
 use Rattle.bundle.specs.declared.command.Command.{Command}
 use Rattle.bundle.specs.declared.command.Command.the-variants as Com
@@ -148,7 +148,7 @@ step-behind :
     → not (misplaced k c) ≡ true
     → Behind (uncounted (scanned k c) .inside) ps
     → Behind (k .inside) (p ∷ ps)
-unfolding misplaced isMember uncounted scanned onward plain
+unfolding misplaced isMember uncounted scanned plain
 step-behind k p ps (Com.Member t m) e h b = go (k .inside) h
   where
     go : (i : Bool) → not i ≡ true → Behind i (p ∷ ps)

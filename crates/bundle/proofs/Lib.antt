@@ -2,6 +2,7 @@
 pub mod Computing
 pub mod Examples
 pub mod Tests
+pub mod Delimiters
 pub mod ListLaws
 pub mod Digits
 pub mod Decoding
@@ -17,15 +18,8 @@ pub mod Failing
 pub mod Arms
 pub mod Copying
 pub mod Keys
-pub mod Shape
+pub mod Shaped
 pub mod ShapeOrder
 pub mod Reorder
-pub mod Onward
 pub mod LockBits
 pub mod Stepping
-pub mod Passing
-pub mod ShapeRows
-pub mod CheckCases
-pub mod Finding
-pub mod Tables
-pub mod RowTests

@@ -12,7 +12,7 @@ use borrow.Author.Tests.{eqb-true, ltb-false, le-ltb, eq-eqb}
 use Rattle.bundle.specs.Answer.{Answer, gives, refuses, whenGiven}
 use Rattle.bundle.specs.Commands.{inRange}
 use Rattle.bundle.specs.Chunks.{Placed, fresh, afterCommand}
-use Rattle.bundle.specs.Scan.{misplaced, aboveOwnTeam, misusesLock, opensSegment, addsAccess, tooMany, faultOf, start, onward, scanned, finish, walk}
+use Rattle.bundle.specs.Scan.{misplaced, aboveOwnTeam, misusesLock, opensSegment, addsAccess, tooMany, faultOf, start, scanned, finish, walk}
 use Rattle.bundle.specs.declared.chunk.Scan.{Scan}
 use Rattle.bundle.specs.declared.command.Command.{Command}
 use Rattle.bundle.specs.declared.command.Command.the-variants as Com
@@ -52,7 +52,7 @@ unfolding passes uncounted misplaced
 passes-uncounted k c = refl
 
 scanned-uncounted : (k : Scan) (c : Command) → uncounted (scanned (uncounted k) c) ≡ uncounted (scanned k c)
-unfolding uncounted scanned onward
+unfolding uncounted scanned
 scanned-uncounted k (Com.Member t m) = refl
 scanned-uncounted k Com.End = refl
 scanned-uncounted k (Com.Region t z) = refl
@@ -102,7 +102,7 @@ pub record Counted (k : Scan) (c : Command) : Type 0 where
   pub accesses : scanned k c .accesses ≡ k .accesses + addsAccess c
 
 counted : (k : Scan) (c : Command) → Counted k c
-unfolding scanned onward opensSegment addsAccess
+unfolding scanned opensSegment addsAccess
 counted k (Com.Member t m) = record { segments = refl; accesses = sym (add-zero (k .accesses)) }
 counted k Com.End = record { segments = sym (add-zero (k .segments)); accesses = sym (add-zero (k .accesses)) }
 counted k (Com.Region t z) = record { segments = refl; accesses = refl }

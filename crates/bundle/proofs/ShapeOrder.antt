@@ -15,7 +15,7 @@ use Rattle.bundle.specs.declared.command.Command.the-variants as Com
 use Rattle.bundle.proofs.ListLaws.{Distinct, perm-mem, perm-map, perm-concatMap}
 use Rattle.bundle.proofs.Keys.{perm-distinct, perm-any, perm-first, all-same, distinct-key, any-map}
 use Rattle.bundle.proofs.Places.{unplacedCommand, unplaced, memberKey, commandsOf-unplaced}
-use Rattle.bundle.proofs.Shape.{Shaped, isOf-elim}
+use Rattle.bundle.proofs.Shaped.{Shaped, isOf-elim}
 
 -- what follows from the same forks for each team, and the same chunks for each member
 abbrev SameFork : List Fork → List Fork → Type 0

@@ -11,7 +11,7 @@ use Rattle.bundle.specs.Answer.{Answer, gives, refuses, whenGiven, numbe
 use Rattle.bundle.specs.Locks.{holds}
 use Rattle.bundle.specs.Commands.{Taken, byteOf, widthOf, commandAt, inRange, decodeByte, decodeAt, ranged, readAt, readingOf}
 use Rattle.bundle.specs.Chunks.{fresh, afterBarrier, afterJoin, afterAcquire, afterRelease, afterCommand}
-use Rattle.bundle.specs.Scan.{isMember, misplaced, aboveOwnTeam, misusesLock, opensSegment, addsAccess, tooMany, faultOf, onward, scanned}
+use Rattle.bundle.specs.Scan.{isMember, misplaced, aboveOwnTeam, misusesLock, opensSegment, addsAccess, tooMany, faultOf, scanned}
 use Rattle.bundle.specs.Survey.{Bounded, Fitting, counted, causeIn, Stepped, testedAt, stepAt}
 use Rattle.bundle.specs.declared.refusal.Cause.{Cause}
 use Rattle.bundle.specs.declared.chunk.ChunkState.{ChunkState}
@@ -71,7 +71,7 @@ module _ {k r : Scan} {st : ChunkState} where
       held false h = sym h
 
 pub after-access : (k : Scan) {r : Scan} (a : Access) → r ≡ counted k (k .state) 0 1 → r ≡ scanned k (Com.Access a)
-unfolding scanned onward afterCommand opensSegment addsAccess
+unfolding scanned afterCommand opensSegment addsAccess
 after-access k a q = q
 
 -- 7 by what a command adds

@@ -27,8 +27,8 @@ pub enum Step {
         next: usize,
     },
     Refused {
-        cause: Cause,
         place: usize,
+        cause: Cause,
     },
 }
 

@@ -1,0 +1,79 @@
+-- Each command opens a chunk, closes one, or does neither; and each forks a team or does not: laws of the questions with a default.
+use Prim.Native.Nat.{ℕ}
+use mathlib.Core.Path.{_≡_, refl}
+use mathlib.Core.Bool.{Bool, true, false}
+use Rattle.bundle.specs.Cases.{onDelimiter, onRegion}
+use Rattle.bundle.specs.declared.command.Command.{Command}
+use Rattle.bundle.specs.declared.command.Command.the-variants as Com
+use Rattle.bundle.proofs.Tests.{false-is-true}
+
+-- neither MEMBER nor END
+unfoldable pub plain : Command → Bool
+plain = onDelimiter true (λ t m. false) false
+
+unfoldable pub closes : Command → Bool
+closes = onDelimiter false (λ t m. false) true
+
+module _ {A : Type 0} (other : A) (opening : ℕ → ℕ → A) (closing : A) where
+  pub on-plain : (c : Command) → plain c ≡ true → onDelimiter other opening closing c ≡ other
+  unfolding plain
+  on-plain (Com.Member t m) e = false-is-true e
+  on-plain Com.End e = false-is-true e
+  on-plain (Com.Region t z) e = refl
+  on-plain Com.Barrier e = refl
+  on-plain (Com.Acquire l) e = refl
+  on-plain (Com.Release l) e = refl
+  on-plain (Com.Access a) e = refl
+
+  pub on-closes : (c : Command) → closes c ≡ true → onDelimiter other opening closing c ≡ closing
+  unfolding closes
+  on-closes (Com.Member t m) e = false-is-true e
+  on-closes Com.End e = refl
+  on-closes (Com.Region t z) e = false-is-true e
+  on-closes Com.Barrier e = false-is-true e
+  on-closes (Com.Acquire l) e = false-is-true e
+  on-closes (Com.Release l) e = false-is-true e
+  on-closes (Com.Access a) e = false-is-true e
+
+pub data Delimiter : Command → Type 0 where
+  opens-chunk : (t m : ℕ) → Delimiter (Com.Member t m)
+  closes-chunk : {c : Command} → closes c ≡ true → Delimiter c
+  neither : {c : Command} → plain c ≡ true → Delimiter c
+
+pub delimits : (c : Command) → Delimiter c
+unfolding plain closes
+delimits (Com.Member t m) = opens-chunk t m
+delimits Com.End = closes-chunk refl
+delimits (Com.Region t z) = neither refl
+delimits Com.Barrier = neither refl
+delimits (Com.Acquire l) = neither refl
+delimits (Com.Release l) = neither refl
+delimits (Com.Access a) = neither refl
+
+-- REGION, or a command that forks no team
+unfoldable pub forking : Command → Bool
+forking = onRegion false (λ t z. true)
+
+pub on-other : {A : Type 0} (other : A) (region : ℕ → ℕ → A) (c : Command) → forking c ≡ false → onRegion other region c ≡ other
+unfolding forking
+on-other other region (Com.Member t m) e = refl
+on-other other region Com.End e = refl
+on-other other region (Com.Region t z) e = false-is-true e
+on-other other region Com.Barrier e = refl
+on-other other region (Com.Acquire l) e = refl
+on-other other region (Com.Release l) e = refl
+on-other other region (Com.Access a) e = refl
+
+pub data Forking : Command → Type 0 where
+  forks-team : (t z : ℕ) → Forking (Com.Region t z)
+  forks-none : {c : Command} → forking c ≡ false → Forking c
+
+pub forkings : (c : Command) → Forking c
+unfolding forking
+forkings (Com.Member t m) = forks-none refl
+forkings Com.End = forks-none refl
+forkings (Com.Region t z) = forks-team t z
+forkings Com.Barrier = forks-none refl
+forkings (Com.Acquire l) = forks-none refl
+forkings (Com.Release l) = forks-none refl
+forkings (Com.Access a) = forks-none refl
