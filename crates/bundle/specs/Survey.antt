@@ -163,7 +163,7 @@ chunksToCome p g =
     let cs = map (λ (q : Placed). q .command) (g .body) in
     cond (p .scan .inside)
     (openRow p cs (g .past) ∷ rowsBehind (p .scan) cs (g .chunks))
-    (rowsBehind (p .scan) [] (g .chunks))
+    (rowsFrom (p .scan .segments) (p .scan .accesses) (g .chunks))
 
 unfoldable pub forksToCome : Pass → Gathered → List Fork
 forksToCome p g =
