@@ -230,7 +230,7 @@ read-place s at n p e = ranged-place at n p (decodeAt s at) (decode-place s at) 
 pub refused-reading :
     (s : List ℕ) (at : ℕ) {reading : Reading} {cause c : Cause} {place : ℕ}
     → readingOf reading ≡ readAt s at
-    → reading ≡ Read.Refused cause place
+    → reading ≡ Read.Refused place cause
     → c ≡ causeIn reading
     → refuses (numberOf c) at ≡ readAt s at
 refused-reading s at {cause = cause} {c = c} {place = place} e q w =
@@ -242,7 +242,7 @@ refused-reading s at {cause = cause} {c = c} {place = place} e q w =
 pub taken-reading :
     (s : List ℕ) (at : ℕ) {reading : Reading} {command : Command} {next : ℕ}
     → readingOf reading ≡ readAt s at
-    → reading ≡ Read.Taken command next
+    → reading ≡ Read.Taken next command
     → (decodeAt s at ≡ gives (record { command = command; next = next })) × (inRange command ≡ true)
 taken-reading s at {command = command} {next = next} e q =
     read-decodes s at (record { command = command; next = next }) (sym e ∙ ap readingOf q)

@@ -50,8 +50,8 @@ counted k state opens adds =
     }
 
 abbrev pub causeIn : Reading → Cause
-causeIn (Read.Taken command next) = Causes.OutOfRange
-causeIn (Read.Refused cause place) = cause
+causeIn (Read.Taken next command) = Causes.OutOfRange
+causeIn (Read.Refused place cause) = cause
 
 -- one command of the scan: the scan after it, the command, and the position after it
 pub record Stepped : Type 0 where

@@ -256,10 +256,10 @@ fn refused_cause(reading: Reading) -> Cause
     ensures { λ r. ⌜ r ≡ causeIn reading ⌝ }
 {
     match reading {
-        Reading::Refused { cause, place: _ } => cause,
+        Reading::Refused { place: _, cause } => cause,
         Reading::Taken {
-            command: _,
             next: _,
+            command: _,
         } => Cause::OutOfRange,
     }
 }
@@ -270,7 +270,7 @@ pub fn step_at(bytes: &[u8], at: usize, scan: Scan) -> Step
     ensures { λ r. ⌜ stepOf r ≡ stepAt (now (bytes .entry)) at scan ⌝ }
 {
     let reading = read_command(bytes, at);
-    let Reading::Taken { command, next } = reading else {
+    let Reading::Taken { next, command } = reading else {
         return pass_on(bytes, scan, refused_cause(reading), at);
     };
     test(scan, command, next, at)
