@@ -164,9 +164,9 @@ putAt command buffer at =
 
 -- what the answers of the code say, in document 01's numbers and values
 abbrev pub readingOf : Reading → Answer Taken
-readingOf (Read.Taken command next) = gives (record { command = command; next = next })
-readingOf (Read.Refused cause place) = refuses (numberOf cause) place
+readingOf (Read.Taken next command) = gives (record { command = command; next = next })
+readingOf (Read.Refused place cause) = refuses (numberOf cause) place
 
 abbrev pub puttingOf : Putting → Answer ℕ
 puttingOf (Put.Written next) = gives next
-puttingOf (Put.Refused cause place) = refuses (numberOf cause) place
+puttingOf (Put.Refused place cause) = refuses (numberOf cause) place

@@ -19,8 +19,6 @@ use Rattle.bundle.specs.declared.chunk.ChunkState.{ChunkState}
 use Rattle.bundle.specs.declared.chunk.Scan.{Scan}
 use Rattle.bundle.specs.declared.command.Command.{Command}
 use Rattle.bundle.specs.declared.command.Command.the-variants as Com
-use Rattle.bundle.specs.declared.command.Reading.{Reading}
-use Rattle.bundle.specs.declared.command.Reading.the-variants as Read
 use Rattle.bundle.specs.declared.index.ChunkRow.{ChunkRow}
 use Rattle.bundle.specs.declared.index.Fork.{Fork}
 use Rattle.bundle.specs.declared.survey.Open.{Open}
@@ -38,11 +36,6 @@ pub record Bounded (k : Scan) : Type 0 where
   pub accesses : k .accesses ≤ 1024
   pub opened : k .state .barriers + k .state .regions ≤ k .segments
 
-pub record Fitting (k : Scan) (c : Command) : Type 0 where
-  pub bounded : Bounded k
-  pub in-range : inRange c ≡ true
-  pub locks-ok : misusesLock (k .state .locks) c ≡ false
-
 abbrev pub counted : Scan → ChunkState → ℕ → ℕ → Scan
 counted k state opens adds =
     record {
@@ -53,15 +46,20 @@ counted k state opens adds =
       accesses = k .accesses + adds;
     }
 
-abbrev pub causeIn : Reading → Cause
-causeIn (Read.Taken command next) = Causes.OutOfRange
-causeIn (Read.Refused cause place) = cause
-
 -- one command of the scan: the scan after it, the command, and the position after it
 pub record Stepped : Type 0 where
   pub scan : Scan
   pub command : Command
   pub next : ℕ
+
+-- what was read, with the scan as it stands
+abbrev pub unmoved : Scan → Answer Taken → Answer Stepped
+unmoved k a = whenGiven a (λ t. gives (record { scan = k; command = t .command; next = t .next }))
+
+-- 4 to 7 in that order, where the tests say so
+abbrev pub decided : ℕ → Bool → Bool → Bool → Bool → Answer Stepped → Answer Stepped
+decided at misplaced beyond misused many onward =
+    cond misplaced (refuses 4 at) (cond beyond (refuses 5 at) (cond misused (refuses 6 at) (cond many (refuses 7 at) onward)))
 
 unfoldable pub testedAt : Scan → ℕ → Taken → Answer Stepped
 testedAt k at t =
@@ -73,7 +71,7 @@ unfoldable pub stepAt : List ℕ → ℕ → Scan → Answer Stepped
 stepAt s at k = whenGiven (decodeAt s at) (testedAt k at)
 
 abbrev pub stepOf : Step → Answer Stepped
-stepOf (Steps.Onward scan command next) = gives (record { scan = scan; command = command; next = next })
+stepOf (Steps.Onward next scan command) = gives (record { scan = scan; command = command; next = next })
 stepOf (Steps.Refused place cause) = refuses (numberOf cause) place
 
 -- the pass at the front of a bundle
