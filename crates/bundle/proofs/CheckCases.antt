@@ -67,7 +67,7 @@ module _ (s : List ℕ) where
       (cases r (check-shape (t .scan) h (t .passes) ∙ sym (shape-rows (chunksOf s)) ∙ ap₂ shapeByRows (sym (t .chunk-rows)) (sym (t .fork-rows)) ∙ sym e))
     where
       cases : (r : Checking) → checkOf s ≡ checkingOf r → IndexedAs s (indexedAs n m r) chunks forks
-      cases Checks.Accepted e = record { accepted = e; few = t .few; chunk-rows = t .chunk-rows; fork-rows = t .fork-rows }
+      cases Checks.Accepted e = record { accepted = e; few = t .few; chunk-table = t .chunk-table; fork-table = t .fork-table; chunk-rows = t .chunk-rows; fork-rows = t .fork-rows }
       cases (Checks.Refused place cause) e = e
 
   module _ (chunks forks : List ℕ) {q : Indexing} (v : IndexedAs s q chunks forks) where

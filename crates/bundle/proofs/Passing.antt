@@ -458,12 +458,10 @@ module _ {s : List ℕ} {p : Pass} {chunks forks : List ℕ} (h : p .at < length
 
   pub went-on :
       (r : Pass) (chunks′ forks′ : List ℕ)
-      → length chunks′ ≡ 1024
-      → length forks′ ≡ 1536
       → Noted p (st .command) (st .scan) (st .next) r chunks forks chunks′ forks′
       → (p .at < r .at) × Surveying s r chunks′ forks′
-  went-on r chunks′ forks′ lc lf n =
-      went r chunks′ forks′ lc lf (n .pass ∙ ap (λ (k : Scan). passAfter p (st .command) k (st .next)) (given .scan)) (n .chunk-rows) (n .fork-rows)
+  went-on r chunks′ forks′ n =
+      went r chunks′ forks′ (n .chunk-long ∙ v .chunk-table) (n .fork-long ∙ v .fork-table) (n .pass ∙ ap (λ (k : Scan). passAfter p (st .command) k (st .next)) (given .scan)) (n .chunk-rows) (n .fork-rows)
 
 -- the pass at the front, and at the end
 pub surveying-start :
@@ -543,6 +541,8 @@ module _ {s : List ℕ} {p : Pass} {chunks forks : List ℕ} (h : length s ≤ p
         scan = p .scan;
         passes = scan-end ∙ pick-false (p .scan .inside) (refuses 4 (length s)) (gives (p .scan)) e;
         few = omega (arith, v .few, v .bounded .segments);
+        chunk-table = v .chunk-table;
+        fork-table = v .fork-table;
         chunk-rows = chunk-end e;
         fork-rows = fork-end e;
       })
@@ -561,6 +561,8 @@ module _ (p : Pass) (k : Scan) (next : ℕ) (r : Pass) (chunks forks : List ℕ)
   noted-none c e x y n m =
       record {
         pass = e;
+        chunk-long = refl;
+        fork-long = refl;
         chunk-rows = rw (e, x, n) (sym (append-nil (table (chunkRowAt chunks) (p .chunks))));
         fork-rows = rw (e, y, m) (sym (append-nil (table (forkRowAt forks) (p .forks))));
       }
@@ -575,6 +577,8 @@ module _ (p : Pass) (k : Scan) (next : ℕ) (r : Pass) (chunks forks : List ℕ)
   noted-chunk chunks′ row e w x =
       record {
         pass = e;
+        chunk-long = x .long;
+        fork-long = refl;
         chunk-rows = rw e (table-added chunkRowAt x ∙ ap (λ (z : ChunkRow). table (chunkRowAt chunks) (p .chunks) ++ (z ∷ [])) w);
         fork-rows = rw e (sym (append-nil (table (forkRowAt forks) (p .forks))));
       }
@@ -589,6 +593,8 @@ module _ (p : Pass) (k : Scan) (next : ℕ) (r : Pass) (chunks forks : List ℕ)
   noted-fork forks′ t z row e w x =
       record {
         pass = e;
+        chunk-long = refl;
+        fork-long = x .long;
         chunk-rows = rw e (sym (append-nil (table (chunkRowAt chunks) (p .chunks))));
         fork-rows = rw e (table-added forkRowAt x ∙ ap (λ (y : Fork). table (forkRowAt forks) (p .forks) ++ (y ∷ [])) w);
       }

@@ -29,7 +29,7 @@ module _ {k r : Scan} {st : ChunkState} (b : Bounded k) where
       → st ≡ cond (ltb (k .state .regions) 4294967295) (afterJoin (k .state)) (k .state)
       → r ≡ counted k st 1 0
       → r ≡ scanned k (Com.Region t z)
-  unfolding scanned onward afterCommand opensSegment addsAccess
+  unfolding scanned afterCommand opensSegment addsAccess
   after-region t z e q =
       q ∙ ap (λ (x : ChunkState). counted k x 1 0) (e ∙ rw (lt-ltb (k .state .regions) 4294967295 (omega (arith, b .segments, b .opened))))
 
@@ -37,7 +37,7 @@ module _ {k r : Scan} {st : ChunkState} (b : Bounded k) where
       st ≡ cond (ltb (k .state .barriers) 4294967295) (afterBarrier (k .state)) (k .state)
       → r ≡ counted k st 1 0
       → r ≡ scanned k Com.Barrier
-  unfolding scanned onward afterCommand opensSegment addsAccess
+  unfolding scanned afterCommand opensSegment addsAccess
   after-barrier e q =
       q ∙ ap (λ (x : ChunkState). counted k x 1 0) (e ∙ rw (lt-ltb (k .state .barriers) 4294967295 (omega (arith, b .segments, b .opened))))
 
@@ -49,7 +49,7 @@ module _ (k : Scan) {r : Scan} {st : ChunkState} where
       → st ≡ cond (ltb l 64 && not (holds l (k .state .locks))) (afterAcquire l (k .state)) (k .state)
       → r ≡ counted k st 0 0
       → r ≡ scanned k (Com.Acquire l)
-  unfolding scanned onward afterCommand opensSegment addsAccess inRange misusesLock
+  unfolding scanned afterCommand opensSegment addsAccess inRange misusesLock
   after-acquire l i o e q =
       q ∙ ap (λ (x : ChunkState). counted k x 0 0) (e ∙ rw (i, o))
 
@@ -59,7 +59,7 @@ module _ (k : Scan) {r : Scan} {st : ChunkState} where
       → st ≡ cond (holds l (k .state .locks)) (afterRelease l (k .state)) (k .state)
       → r ≡ counted k st 0 0
       → r ≡ scanned k (Com.Release l)
-  unfolding scanned onward afterCommand opensSegment addsAccess misusesLock
+  unfolding scanned afterCommand opensSegment addsAccess misusesLock
   after-release l o e q =
       q ∙ ap (λ (x : ChunkState). counted k x 0 0) (e ∙ rw (held (holds l (k .state .locks)) o))
     where

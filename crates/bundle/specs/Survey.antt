@@ -136,6 +136,8 @@ pub record Notable (p : Pass) (chunks forks : List ℕ) : Type 0 where
 
 pub record Noted (p : Pass) (c : Command) (k : Scan) (next : ℕ) (r : Pass) (chunks forks chunks′ forks′ : List ℕ) : Type 0 where
   pub pass : r ≡ passAfter p c k next
+  pub chunk-long : length chunks′ ≡ length chunks
+  pub fork-long : length forks′ ≡ length forks
   pub chunk-rows : table (chunkRowAt chunks′) (r .chunks) ≡ table (chunkRowAt chunks) (p .chunks) ++ newChunks p c
   pub fork-rows : table (forkRowAt forks′) (r .forks) ≡ table (forkRowAt forks) (p .forks) ++ newForks p c
 
@@ -198,6 +200,8 @@ pub record InTables (s : List ℕ) (n m : ℕ) (chunks forks : List ℕ) : Type 
   pub scan : Scan
   pub passes : scanOf s ≡ gives scan
   pub few : n + m ≤ 512
+  pub chunk-table : length chunks ≡ 1024
+  pub fork-table : length forks ≡ 1536
   pub chunk-rows : table (chunkRowAt chunks) n ≡ chunkRows (chunksOf s)
   pub fork-rows : table (forkRowAt forks) m ≡ forksOf (chunksOf s)
 

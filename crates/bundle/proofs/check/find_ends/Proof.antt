@@ -1,4 +1,4 @@
-use mathlib.Core.Path.{_∙_}
+use mathlib.Core.Path.{sym, _∙_}
 use Rattle.bundle.proofs.CheckCases.{indexed-accepted, indexed-refused, find-rows, find-refused}
 use borrow.Author.Needs.{needs}
 use Rattle.bundle.proofs.check.find_ends.Statement.{statement}
@@ -18,7 +18,7 @@ enum-known-indexing c = search needs
 
 -- src/check.rt:103:22
 slice-aggregate-ends-in : tie.Need-slice-aggregate-ends-in
-slice-aggregate-ends-in c = search needs
+slice-aggregate-ends-in c = sym (indexed-accepted _ _ _ (c .before .before .before .before .index-bundle .ensures) (c .before .before .indexing .given .1) .chunk-table)
 
 -- src/check.rt:103:14
 ends-in-requires : tie.Need-ends-in-requires

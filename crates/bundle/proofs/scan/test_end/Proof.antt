@@ -1,5 +1,6 @@
 -- `bundle::scan::test_end` meets its contract. Assumes nothing.
 use mathlib.Core.Path.{refl, sym, _∙_}
+use native.Mathlib.Nat.{add-zero}
 use borrow.Author.Needs.{needs}
 use Rattle.bundle.specs.Commands.{inRange}
 use Rattle.bundle.specs.Scan.{isMember, misplaced, aboveOwnTeam, misusesLock, opensSegment, addsAccess, scanned}
@@ -16,7 +17,7 @@ returns c =
     refl
     refl
     (sym (many-none _ _ (c .before .before .before .before .before .pre) refl refl))
-    (λ _ _. c .before .before .before .close-chunk .ensures)
+    (λ _ _. simp add-zero (c .before .before .before .close-chunk .ensures))
 
 pub test-end-spec : {M : Type 1} → statement M
 test-end-spec = tie.close (tie.spec (λ c κs. search needs) (λ c κs. search needs) returns)
