@@ -1,0 +1,4 @@
+-- Laws over the definitions.
+pub mod Insertion
+pub mod Halving
+pub mod KeyOrder

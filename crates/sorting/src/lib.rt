@@ -1,0 +1,2 @@
+// Sorting numbers, and searching sorted ones.
+pub mod search;
