@@ -2,3 +2,4 @@
 pub mod Insertion
 pub mod Halving
 pub mod KeyOrder
+pub mod Merges

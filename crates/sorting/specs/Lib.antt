@@ -1,3 +1,4 @@
 -- Sorting numbers, and searching sorted ones.
 pub mod Order
+pub mod Merging
 pub mod Searching
