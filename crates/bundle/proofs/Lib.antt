@@ -22,6 +22,8 @@ pub mod Keys
 pub mod Shaped
 pub mod ShapeOrder
 pub mod Reorder
+pub mod Onward
+pub mod Finding
 pub mod LockBits
 pub mod Stepping
 pub mod Passing
