@@ -1,7 +1,7 @@
 // The label of a segment, found by climbing from its team to the root.
 use crate::label::Label;
 use crate::label::Triple;
-use bundle::check::Checking;
+use bundle::answer::Checking;
 use bundle::check::check;
 use bundle::command::Command;
 use bundle::command::Reading;
