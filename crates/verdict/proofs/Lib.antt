@@ -10,3 +10,5 @@ pub mod RaceList
 pub mod SameRaces
 pub mod Demand3
 pub mod NextRace
+pub mod Warshall
+pub mod BitRows
