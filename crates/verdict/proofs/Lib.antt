@@ -12,3 +12,5 @@ pub mod Demand3
 pub mod NextRace
 pub mod Warshall
 pub mod BitRows
+pub mod ListPlaces
+pub mod MatrixPaths

@@ -4,8 +4,10 @@ use mathlib.Core.Path.{_≡_}
 use mathlib.Core.Logic.{_↔_}
 use mathlib.Core.Bool.{Bool, true, _&&_, _||_}
 use mathlib.Core.List.{List}
+use mathlib.Core.Option.{some}
 use lib.Dec.{eqb}
-use lib.ListN.{length, getD}
+use lib.ListN.{length, getD, getElem?}
+use Rattle.verdict.specs.Graph.{Segment, joins, closureOf, reaches}
 
 -- the bit in row i and column j
 unfoldable pub bitAt : List ℕ → ℕ → ℕ → Bool
@@ -68,3 +70,15 @@ pub data Walk (n : ℕ) (edge : ℕ → ℕ → Bool) (i : ℕ) : ℕ → Type 0
 pub record Closed (n : ℕ) (before after : List ℕ) : Type 0 where
   pub len : length after ≡ length before
   pub walks : (i j : ℕ) → i < n → j < n → bitAt after i j ≡ true ↔ Walk n (bitAt before) i j
+
+-- the bits say which segments of a list have an edge, by their places in the list
+pub record EdgeBits (segments : List Segment) (m : List ℕ) : Type 0 where
+  pub bits : (i j : ℕ) {a b : Segment} → getElem? segments i ≡ some a → getElem? segments j ≡ some b → bitAt m i j ≡ joins a b
+
+-- the bits say which segments reach which
+pub record PathBits (segments : List Segment) (m : List ℕ) : Type 0 where
+  pub bits :
+      (i j : ℕ) {a b : Segment}
+      → getElem? segments i ≡ some a
+      → getElem? segments j ≡ some b
+      → bitAt m i j ≡ reaches (closureOf segments) (a .node) (b .node)
