@@ -4,3 +4,4 @@ pub mod Races
 pub mod Judge
 pub mod Demand
 pub mod Table
+pub mod Matrix

@@ -1,2 +1,3 @@
 // The races of a bundle: the judgement, and the next race.
+mod matrix;
 pub mod race;
