@@ -1,5 +1,5 @@
 -- Chunks in another order: the same segments, accesses, paths, races and judgement.
-use mathlib.Core.Path.{_≡_, sym, _∙_, ap}
+use mathlib.Core.Path.{_≡_, refl, sym, _∙_, ap}
 use mathlib.Core.List.{List, map, List·Memᴰ, List·Permᴰ, Permᴰ·symm}
 use lib.ListN.{length, length-map}
 use Rattle.bundle.specs.Lists.{concatMap}
