@@ -5,3 +5,4 @@ pub mod Judge
 pub mod Demand
 pub mod Table
 pub mod Matrix
+pub mod Working
