@@ -4,6 +4,8 @@ pub mod Examples
 pub mod Tests
 pub mod ListLaws
 pub mod Digits
+pub mod Operands
+pub mod Forms
 pub mod Decoding
 pub mod RoundTrip
 pub mod Ranges

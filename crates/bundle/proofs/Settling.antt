@@ -9,7 +9,7 @@ use native.Mathlib.Nat.{add-zero, zero-add, add-assoc, add-sub-cancel-left}
 use lib.ListN.{length, take, drop, length-append}
 use lib.Seq.{take-append-seam, drop-append-seam}
 use Rattle.bundle.specs.Lists.{concatMap}
-use Rattle.bundle.specs.Commands.{bytesOf}
+use Rattle.bundle.specs.Commands.{formOf, codeOf, widthsOf, operandBytes, bytesOf}
 use Rattle.bundle.specs.Chunks.{Placed, Chunk, gatherOne, gather, commandsOf, partOf}
 use Rattle.bundle.specs.declared.command.Command.{Command}
 use Rattle.bundle.specs.declared.command.Command.the-variants as Com
@@ -56,7 +56,7 @@ past-placed :
     → Body ps
     → at + length (printed (map (λ (p : Placed). p .command) ps)) ≡ gather (placedFrom at (map (λ (p : Placed). p .command) ps)) .past
 unfolding placedFrom printed gather gatherOne
-past-placed at (ends e) = rw e (unfold bytesOf in refl)
+past-placed at (ends e) = rw e (unfold bytesOf codeOf formOf widthsOf operandBytes in refl)
 past-placed at (goes {p = p} {ps = ps} e b) =
     let w = length (bytesOf (p .command)) in
     let cs = map (λ (q : Placed). q .command) ps in
