@@ -2,9 +2,9 @@
 -- Assumes nothing.
 use mathlib.Core.Path.{_≡_, refl, sym, ap, subst, _∙_}
 use mathlib.Core.Bool.{Bool, true, false, cond, _&&_}
-use mathlib.Core.List.{List, [], _∷_}
+use mathlib.Core.List.{List, _∷_}
 use mathlib.Core.Option.{Option, none, some}
-use Prim.Native.Nat.{ℕ, _^_, _≤_, _<_}
+use Prim.Native.Nat.{ℕ, _≤_, _<_}
 use native.Mathlib.Decide.{ℕ-discrete}
 use native.Mathlib.Omega.{arith}
 use borrow.Author.Tests.{leb-true, ltb-true, eqb-true, ne-eqb}
@@ -13,6 +13,7 @@ use Rattle.bundle.specs.Commands.{
   kindOf,
   byteOf,
   Form,
+  accessWidths,
   accessForm,
   formOf,
   Code,
@@ -28,7 +29,7 @@ use Rattle.bundle.specs.declared.command.Access.{Access}
 use Rattle.bundle.specs.declared.command.Command.{Command}
 use Rattle.bundle.specs.declared.command.Command.the-variants as Com
 use Rattle.bundle.proofs.Tests.{cond-elim, is-false, and-left, and-right}
-use Rattle.bundle.proofs.Operands.{Fits, fit-none, fit-one}
+use Rattle.bundle.proofs.Operands.{Fits}
 
 -- a byte that begins a command
 pub record Known (b : ℕ) : Type 0 where
@@ -117,7 +118,7 @@ made-code b =
     (λ e. record {
       code = λ s at. (λ i. record {
         byte = byte-kind b (leb-true 0x30 b (and-left (leb 0x30 b) (ltb b 0x34) e)) (ltb-true b 0x34 (and-right (leb 0x30 b) (ltb b 0x34) e)) i;
-        operands = operandsFrom s at 1 (2 ∷ 4 ∷ 2 ∷ 2 ∷ 1 ∷ []);
+        operands = operandsFrom s at 1 accessWidths;
       });
     })
     (record { made = λ f q. let z : _≡_ {A = ℕ} 0 1 = cc in absurd (omega arith) })))))))
@@ -147,26 +148,17 @@ no-form {b} n₁ n₂ n₃ n₄ n₅ n₆ n =
     rw (ne-eqb b 0x01 n₁, ne-eqb b 0x02 n₂, ne-eqb b 0x10 n₃, ne-eqb b 0x11 n₄, ne-eqb b 0x20 n₅, ne-eqb b 0x21 n₆, other)
 
 -- an access's widths, whatever its kind
-access-widths : (k : AccessKind) → widthsOf (byteOf k) ≡ 2 ∷ 4 ∷ 2 ∷ 2 ∷ 1 ∷ []
-unfolding widthsOf
-access-widths k = rw (access-known k)
+module _ (a : Access) where
+  access-widths : widthsOf (byteOf (a .kind)) ≡ accessWidths
+  unfolding widthsOf
+  access-widths = rw (access-known (a .kind))
 
-pub access-bytes : (a : Access)
-    → bytesOf (Com.Access a)
-    ≡ byteOf (a .kind)
-    ∷ operandBytes (2 ∷ 4 ∷ 2 ∷ 2 ∷ 1 ∷ []) (a .site ∷ a .range .base ∷ a .range .stride ∷ a .range .count ∷ a .range .size ∷ [])
-unfolding bytesOf codeOf
-access-bytes a = rw (access-widths (a .kind))
+  pub access-bytes : bytesOf (Com.Access a) ≡ byteOf (a .kind) ∷ operandBytes accessWidths (codeOf (Com.Access a) .operands)
+  unfolding bytesOf codeOf
+  access-bytes = rw access-widths
 
-pub access-fits :
-    (a : Access)
-    → a .site < 256 ^ 2
-    → a .range .base < 256 ^ 4
-    → a .range .stride < 256 ^ 2
-    → a .range .count < 256 ^ 2
-    → a .range .size < 256 ^ 1
-    → Fits (widthsOf (codeOf (Com.Access a) .byte)) (codeOf (Com.Access a) .operands)
-unfolding codeOf
-access-fits a site base stride count size =
-    rw (access-widths (a .kind))
-    (fit-one 2 _ site (fit-one 4 _ base (fit-one 2 _ stride (fit-one 2 _ count (fit-one 1 _ size fit-none)))))
+  pub access-fits :
+      Fits accessWidths (codeOf (Com.Access a) .operands)
+      → Fits (widthsOf (codeOf (Com.Access a) .byte)) (codeOf (Com.Access a) .operands)
+  unfolding codeOf
+  access-fits f = rw access-widths f

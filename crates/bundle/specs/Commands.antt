@@ -41,21 +41,25 @@ byteOf Kind.Write = 0x31
 byteOf Kind.AtomicRead = 0x32
 byteOf Kind.AtomicWrite = 0x33
 
--- what a command byte says: the widths of the operands, and the command with these operands
+-- what a command byte says: the widths of the operands in bytes, and the command that operands make
 pub record Form : Type 0 where
   pub widths : List ℕ
   pub command : List ℕ → Command
 
+-- .. where x k is operand number k from 0
 abbrev pub form : List ℕ → ((ℕ → ℕ) → Command) → Option Form
 form widths command = some (record { widths = widths; command = λ operands. command (λ k. getD operands k 0) })
 
 -- site (2), base (4), stride (2), count (2), size (1)
+abbrev pub accessWidths : List ℕ
+accessWidths = 2 ∷ 4 ∷ 2 ∷ 2 ∷ 1 ∷ []
+
 abbrev pub accessForm : AccessKind → Option Form
 accessForm kind =
-    form (2 ∷ 4 ∷ 2 ∷ 2 ∷ 1 ∷ [])
+    form accessWidths
     (λ x. Com.Access (record { kind = kind; site = x 0; range = record { base = x 1; stride = x 2; count = x 3; size = x 4 } }))
 
--- each command's byte, the widths of its operands, and the command that operands number 0, 1, .. make; none for an unknown command byte
+-- each command's byte, the widths of its operands, and the command; none for an unknown command byte
 unfoldable pub formOf : ℕ → Option Form
 formOf b =
     cond (eqb b 0x01) (form (2 ∷ 1 ∷ []) (λ x. Com.Member (x 0) (x 1)))

@@ -34,10 +34,10 @@ unfolding formOf codeOf widthsOf operandsOk
 returns-6 c = ranges-decide (Com.Release _) (fit-one 1 _ (search needs) fit-none) ∙ ap inRange (sym (c .before .command4 .given .1))
 
 returns-7 : tie.Need-returns-7
-unfolding operandsOk
+unfolding codeOf operandsOk
 returns-7 c =
     c .range-ok .ensures
-    ∙ ranges-decide (Com.Access _) (access-fits _ (search needs) (search needs) (search needs) (search needs) (search needs))
+    ∙ ranges-decide (Com.Access _) (access-fits _ (fit-one 2 _ (search needs) (fit-one 4 _ (search needs) (fit-one 2 _ (search needs) (fit-one 2 _ (search needs) (fit-one 1 _ (search needs) fit-none))))))
     ∙ ap inRange (sym (c .before .before .command5 .given .1))
 
 pub in-range-spec : {M : Type 1} → statement M
