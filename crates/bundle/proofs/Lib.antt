@@ -6,6 +6,8 @@ pub mod Tables
 pub mod Delimiters
 pub mod ListLaws
 pub mod Digits
+pub mod Operands
+pub mod Forms
 pub mod Decoding
 pub mod RoundTrip
 pub mod Ranges

@@ -8,7 +8,7 @@ use lib.Dec.{eqb, ltb}
 use borrow.Author.Tests.{lt-ltb, le-ltb}
 use Rattle.bundle.specs.Answer.{Answer, gives, refuses}
 use Rattle.bundle.specs.Locks.{holds}
-use Rattle.bundle.specs.Commands.{Taken, inRange, decodeAt, readingOf}
+use Rattle.bundle.specs.Commands.{Taken, operandsOk, inRange, decodeAt, readingOf}
 use Rattle.bundle.specs.Chunks.{afterBarrier, afterJoin, afterAcquire, afterRelease, afterCommand}
 use Rattle.bundle.specs.Walk.{opensSegment, addsAccess}
 use Rattle.bundle.specs.Scan.{misplaced, aboveOwnTeam, misusesLock, tooMany, faultOf, scanned}
@@ -21,6 +21,7 @@ use Rattle.bundle.specs.declared.command.Command.{Command}
 use Rattle.bundle.specs.declared.command.Command.the-variants as Com
 use Rattle.bundle.specs.declared.command.Reading.{Reading}
 use Rattle.bundle.specs.declared.command.Reading.the-variants as Read
+use Rattle.bundle.proofs.Ranges.{in-range-ok}
 
 -- the scan after a command that passes
 module _ {k r : Scan} {st : ChunkState} (b : Bounded k) where
@@ -49,9 +50,9 @@ module _ (k : Scan) {r : Scan} {st : ChunkState} where
       → st ≡ cond (ltb l 64 && not (holds l (k .state .locks))) (afterAcquire l (k .state)) (k .state)
       → r ≡ counted k st 0 0
       → r ≡ scanned k (Com.Acquire l)
-  unfolding scanned afterCommand opensSegment addsAccess inRange misusesLock
+  unfolding scanned afterCommand opensSegment addsAccess operandsOk misusesLock
   after-acquire l i o e q =
-      q ∙ ap (λ (x : ChunkState). counted k x 0 0) (e ∙ rw (i, o))
+      q ∙ ap (λ (x : ChunkState). counted k x 0 0) (e ∙ rw (in-range-ok (Com.Acquire l) i, o))
 
   pub after-release :
       (l : ℕ)

@@ -1,12 +1,11 @@
 // The commands of a run log: "One byte, then operands of fixed width, low byte first", read from bytes and put into them.
 use crate::refusal::Cause;
 ghost use mathlib.Core.Path.{_≡_};
-ghost use mathlib.Core.Bool.{_&&_};
 ghost use Prim.Native.Nat.{_+_, _-_, _%_, _≤_};
-ghost use lib.Dec.{leb, ltb};
-ghost use mathlib.Core.List.{[], _∷_, _++_};
+ghost use lib.Dec.{leb};
+ghost use mathlib.Core.List.{[], _∷_};
 ghost use lib.ListN.{length};
-ghost use Rattle.bundle.specs.Commands.{numberAt, kindOf, sizeOk, strideOk, lastByte, rangeOk, inRange, decodeAt, readAt, readingOf, lowFirst, byteOf, bytesOf, written, putAt, puttingOf};
+ghost use Rattle.bundle.specs.Commands.{numberAt, kindOf, sizeOk, strideOk, lastByte, rangeOk, inRange, decodeAt, readAt, readingOf, byteOf, operandBytes, bytesOf, written, putAt, puttingOf};
 ghost use Rattle.bundle.specs.Inner.{StandsAt, AccessAt, RangeAt, Holds};
 ghost use Rattle.bundle.specs.Answer.{refuses};
 
@@ -70,7 +69,7 @@ fn stride_ok(stride: u16, count: u16) -> bool
 
 fn last_ok(range: Range) -> bool
     requires { ⌜ (1 ≤ range .count) × (1 ≤ range .size) ⌝ }
-    ensures { λ r. ⌜ r ≡ (leb (lastByte range) 4294967295 && ltb (range .stride) 65536 && ltb (range .count) 65536) ⌝ }
+    ensures { λ r. ⌜ r ≡ leb (lastByte range) 4294967295 ⌝ }
 {
     let base = range.base as u64;
     let stride = range.stride as u64;
@@ -319,7 +318,7 @@ fn encode_plain(byte: u8) -> Encoded
 }
 
 fn encode_lock(byte: u8, lock: u8) -> Encoded
-    ensures { λ r. ⌜ Holds r (byte ∷ lowFirst 1 lock) ⌝ }
+    ensures { λ r. ⌜ Holds r (byte ∷ operandBytes (1 ∷ []) (lock ∷ [])) ⌝ }
 {
     let lock = low(lock as u32);
     Encoded {
@@ -329,7 +328,7 @@ fn encode_lock(byte: u8, lock: u8) -> Encoded
 }
 
 fn encode_team(byte: u8, team: u16, last: u8) -> Encoded
-    ensures { λ r. ⌜ Holds r (byte ∷ lowFirst 2 team ++ lowFirst 1 last) ⌝ }
+    ensures { λ r. ⌜ Holds r (byte ∷ operandBytes (2 ∷ 1 ∷ []) (team ∷ last ∷ [])) ⌝ }
 {
     let team = team as u32;
     let team_0 = low(team);
