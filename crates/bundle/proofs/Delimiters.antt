@@ -6,7 +6,7 @@ use mathlib.Core.Bool.{Bool, true, false}
 use native.Mathlib.Omega.{arith}
 use lib.ListN.{length}
 use Rattle.bundle.specs.Cases.{onDelimiter, onRegion, onAccess}
-use Rattle.bundle.specs.Commands.{bytesOf}
+use Rattle.bundle.specs.Commands.{formOf, codeOf, widthsOf, operandBytes, bytesOf}
 use Rattle.bundle.specs.Chunks.{afterBarrier, afterJoin, afterAcquire, afterRelease, afterCommand}
 use Rattle.bundle.specs.Walk.{opensSegment}
 use Rattle.bundle.specs.declared.chunk.ChunkState.{ChunkState}
@@ -136,7 +136,7 @@ closes-keeps k (Com.Release l) e = false-is-true e
 closes-keeps k (Com.Access a) e = refl
 
 pub closes-width : (c : Command) → closes c ≡ true → length (bytesOf c) ≡ 1
-unfolding closes bytesOf
+unfolding closes bytesOf codeOf formOf widthsOf operandBytes
 closes-width (Com.Member t m) e = false-is-true e
 closes-width Com.End e = refl
 closes-width (Com.Region t z) e = false-is-true e
