@@ -6,10 +6,10 @@ use mathlib.Core.List.{List, [], _∷_, _++_, map}
 use lib.Dec.{eqb, ltb, leb}
 use lib.ListN.{length, take}
 use Rattle.bundle.specs.Answer.{Answer, gives, refuses, whenGiven, numberOf}
-use Rattle.bundle.specs.Commands.{Taken, inRange, decodeAt}
+use Rattle.bundle.specs.Commands.{Taken, decodeAt}
 use Rattle.bundle.specs.Chunks.{Placed, Front, Chunk, Gathered, fresh, afterCommands, frontFrom, gather, chunksOf}
 use Rattle.bundle.specs.Check.{Fork, forksFrom, forksOf}
-use Rattle.bundle.specs.Scan.{misusesLock, faultOf, start, scanned, walk, scanOf}
+use Rattle.bundle.specs.Scan.{faultOf, start, scanned, walk, scanOf}
 use Rattle.bundle.specs.Rows.{rowsOf, chunkRow, forkRow}
 use Rattle.bundle.specs.declared.refusal.Cause.{Cause}
 use Rattle.bundle.specs.declared.refusal.Cause.the-variants as Causes
