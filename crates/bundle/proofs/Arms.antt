@@ -4,18 +4,15 @@ use mathlib.Core.Path.{_≡_, refl, sym, ap, _∙_}
 use mathlib.Core.Bool.{true, false}
 use mathlib.Core.List.{List}
 use mathlib.Core.Option.{none}
-use Prim.Native.Nat.{ℕ, _+_, _-_, _≤_, _<_}
-use native.Mathlib.Nat.{add-assoc}
+use Prim.Native.Nat.{ℕ, suc, _+_, _-_, _≤_, _<_}
 use native.Mathlib.Omega.{arith}
 use borrow.Author.Tests.{ne-eqb, lt-leb, le-leb, lt-ltb, le-ltb}
 use lib.ListN.{length, getD}
 use Rattle.bundle.specs.Answer.{gives, refuses}
-use Rattle.bundle.specs.Commands.{numberAt, kindOf, formOf, total, widthOf, operandsFrom, commandAt, inRange, decodeByte, decodeAt, ranged, readAt, readingOf}
-use Rattle.bundle.specs.Inner.{StandsAt, AccessAt, RangeAt}
+use Rattle.bundle.specs.Commands.{kindOf, accessWidths, accessOf, formOf, total, widthOf, operandsFrom, commandAt, inRange, decodeByte, decodeAt, ranged, readAt, readingOf}
+use Rattle.bundle.specs.Inner.{StandsAt, AccessAt}
 use Rattle.bundle.specs.declared.refusal.Cause.{Cause}
-use Rattle.bundle.specs.declared.command.Access.{Access}
 use Rattle.bundle.specs.declared.command.Command.{Command}
-use Rattle.bundle.specs.declared.command.Command.the-variants as Com
 use Rattle.bundle.specs.declared.command.Reading.{Reading}
 use Rattle.bundle.specs.declared.command.Reading.the-variants as Read
 use Rattle.bundle.proofs.Forms.{form-of-access}
@@ -60,38 +57,24 @@ module _ (s : List ℕ) (at : ℕ) (stands : AccessAt s at) where
   access-stands : StandsAt s at (getD s at 0)
   access-stands = record { within = stands .within; byte = refl }
 
-  access-width : widthOf (getD s at 0) ≡ 12
-  unfolding widthOf total
+  access-width : widthOf (getD s at 0) ≡ suc (total accessWidths)
+  unfolding widthOf
   access-width = rw (form-of-access (getD s at 0) (stands .low) (stands .high))
 
-  pub access-cut : length s - at < 12 → refuses 3 at ≡ decodeAt s at
-  access-cut h = decode-cut s at access-stands (omega (arith, access-width))
+  pub access-cut : length s - at < suc (total accessWidths) → refuses 3 at ≡ decodeAt s at
+  access-cut h = decode-cut s at access-stands (rw access-width h)
 
   pub access-whole :
-      (a : Access)
-      → 12 ≤ length s - at
-      → a .kind ≡ kindOf (getD s at 0)
-      → a .site ≡ numberAt 2 s (at + 1)
-      → RangeAt s (at + 3) (a .range)
-      → gives (record { command = Com.Access a; next = at + 12 }) ≡ decodeAt s at
-  unfolding commandAt operandsFrom
-  access-whole a h k n r =
+      (c : Command)
+      → suc (total accessWidths) ≤ length s - at
+      → c ≡ accessOf (kindOf (getD s at 0)) (λ k. getD (operandsFrom s at 1 accessWidths) k 0)
+      → gives (record { command = c; next = at + suc (total accessWidths) }) ≡ decodeAt s at
+  unfolding commandAt
+  access-whole c h e =
       let w = access-width in
-      ap (λ (m : ℕ). gives (record { command = Com.Access a; next = at + m })) (sym w)
-      ∙ decode-whole s at access-stands (Com.Access a) (omega arith) (omega arith)
-      (rw (form-of-access (getD s at 0) (stands .low) (stands .high))
-      (λ i. Com.Access
-      (record {
-        kind = k i;
-        site = n i;
-        range =
-            record {
-              base = r .base i;
-              stride = (r .stride ∙ ap (numberAt 2 s) (add-assoc at 3 4)) i;
-              count = (r .count ∙ ap (numberAt 2 s) (add-assoc at 3 6)) i;
-              size = (r .size ∙ ap (numberAt 1 s) (add-assoc at 3 8)) i;
-            };
-      })))
+      ap (λ (m : ℕ). gives (record { command = c; next = at + m })) (sym w)
+      ∙ decode-whole s at access-stands c (omega arith) (rw w h)
+      (rw (form-of-access (getD s at 0) (stands .low) (stands .high)) e)
 
 -- what reading makes of what is decoded
 module _ (s : List ℕ) (at : ℕ) {r : Reading} (decodes : readingOf r ≡ decodeAt s at) where

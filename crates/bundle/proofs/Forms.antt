@@ -16,7 +16,6 @@ use Rattle.bundle.specs.Commands.{
   accessWidths,
   accessForm,
   formOf,
-  Code,
   codeOf,
   widthsOf,
   operandsFrom,

@@ -2,7 +2,7 @@
 -- every list of widths.
 -- Assumes nothing.
 use mathlib.Core.Path.{_≡_, refl, sym, ap, ap₂, _∙_}
-use mathlib.Core.Bool.{true, false}
+use mathlib.Core.Bool.{true}
 use mathlib.Core.List.{List, [], _∷_, _++_, append-assoc}
 use Prim.Native.Nat.{ℕ, _+_, _^_, _≤_, _<_}
 use native.Mathlib.Nat.{add-assoc}
@@ -23,9 +23,9 @@ pub fit-none : Fits [] []
 unfolding fitWidths
 fit-none = record { eq = refl }
 
-pub fit-one : (w x : ℕ) {ws xs : List ℕ} → x < 256 ^ w → Fits ws xs → Fits (w ∷ ws) (x ∷ xs)
+pub fit-one : {w x : ℕ} {ws xs : List ℕ} → x < 256 ^ w → Fits ws xs → Fits (w ∷ ws) (x ∷ xs)
 unfolding fitWidths
-fit-one w x h f = record { eq = rw (lt-ltb x (256 ^ w) h, f .eq) }
+fit-one {w} {x} h f = record { eq = rw (lt-ltb x (256 ^ w) h, f .eq) }
 
 -- operands before other bytes, and behind them
 pub operands-before :

@@ -7,7 +7,7 @@ use native.Mathlib.Nat.{mul-le-mul}
 use native.Mathlib.Omega.{arith}
 use borrow.Author.Tests.{leb-true, eqb-true}
 use lib.Dec.{eqb, leb}
-use Rattle.bundle.specs.Commands.{sizeOk, strideOk, lastByte, rangeOk, Code, codeOf, widthsOf, fitWidths, operandsOk, inRange}
+use Rattle.bundle.specs.Commands.{sizeOk, strideOk, lastByte, rangeOk, codeOf, widthsOf, fitWidths, operandsOk, inRange}
 use Rattle.bundle.specs.declared.command.Range.{Range}
 use Rattle.bundle.specs.declared.command.Command.{Command}
 use Rattle.bundle.proofs.Tests.{and-left, and-right}

@@ -54,10 +54,12 @@ form widths command = some (record { widths = widths; command = λ operands. com
 abbrev pub accessWidths : List ℕ
 accessWidths = 2 ∷ 4 ∷ 2 ∷ 2 ∷ 1 ∷ []
 
+abbrev pub accessOf : AccessKind → (ℕ → ℕ) → Command
+accessOf kind x =
+    Com.Access (record { kind = kind; site = x 0; range = record { base = x 1; stride = x 2; count = x 3; size = x 4 } })
+
 abbrev pub accessForm : AccessKind → Option Form
-accessForm kind =
-    form accessWidths
-    (λ x. Com.Access (record { kind = kind; site = x 0; range = record { base = x 1; stride = x 2; count = x 3; size = x 4 } }))
+accessForm kind = form accessWidths (accessOf kind)
 
 -- each command's byte, the widths of its operands, and the command; none for an unknown command byte
 unfoldable pub formOf : ℕ → Option Form

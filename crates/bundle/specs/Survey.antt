@@ -6,12 +6,12 @@ use mathlib.Core.List.{List, [], _∷_, _++_, map}
 use lib.Dec.{eqb, ltb, leb}
 use lib.ListN.{length}
 use Rattle.bundle.specs.Answer.{Answer, gives, refuses, whenGiven, numberOf}
-use Rattle.bundle.specs.Commands.{Taken, inRange, decodeAt}
+use Rattle.bundle.specs.Commands.{Taken, decodeAt}
 use Rattle.bundle.specs.Lists.{concatMap}
 use Rattle.bundle.specs.Cases.{onDelimiter, onRegion}
 use Rattle.bundle.specs.Chunks.{Placed, Chunk, Gathered, afterCommands, frontFrom, gather, chunksOf}
 use Rattle.bundle.specs.Walk.{opensSegment, addsAccess, entriesFrom, forkAt, forksOf}
-use Rattle.bundle.specs.Scan.{misusesLock, faultOf, start, scanned, walk, scanOf}
+use Rattle.bundle.specs.Scan.{faultOf, start, scanned, walk, scanOf}
 use Rattle.bundle.specs.Index.{table, chunkRowAt, forkRowAt, total, rowsFrom, chunkRows}
 use Rattle.bundle.specs.declared.refusal.Cause.{Cause}
 use Rattle.bundle.specs.declared.refusal.Cause.the-variants as Causes

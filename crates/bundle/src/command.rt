@@ -6,7 +6,7 @@ ghost use lib.Dec.{leb};
 ghost use mathlib.Core.List.{[], _∷_};
 ghost use lib.ListN.{length};
 ghost use Rattle.bundle.specs.Commands.{numberAt, kindOf, sizeOk, strideOk, lastByte, rangeOk, inRange, decodeAt, readAt, readingOf, byteOf, operandBytes, bytesOf, written, putAt, puttingOf};
-ghost use Rattle.bundle.specs.Inner.{StandsAt, AccessAt, RangeAt, Holds};
+ghost use Rattle.bundle.specs.Inner.{StandsAt, AccessAt, Holds};
 ghost use Rattle.bundle.specs.Answer.{refuses};
 
 // What an access does: the commands 0x30 to 0x33 in this order.
@@ -214,23 +214,6 @@ fn kind_of(byte: u8) -> AccessKind
     AccessKind::AtomicWrite
 }
 
-// The range whose operands begin at a position.
-fn range_at(bytes: &[u8], at: usize) -> Range
-    requires { ⌜ at + 9 ≤ length (now bytes) ⌝ }
-    ensures { λ r. ⌜ RangeAt (now (bytes .entry)) at r ⌝ }
-{
-    let base = four_bytes(bytes, at);
-    let stride = two_bytes(bytes, at + 4);
-    let count = two_bytes(bytes, at + 6);
-    let size = bytes[at + 8];
-    Range {
-        base,
-        stride,
-        count,
-        size,
-    }
-}
-
 fn decode_access(bytes: &[u8], position: usize) -> Reading
     requires { ⌜ AccessAt (now bytes) position ⌝ }
     ensures { λ r. ⌜ readingOf r ≡ decodeAt (now (bytes .entry)) position ⌝ }
@@ -240,7 +223,16 @@ fn decode_access(bytes: &[u8], position: usize) -> Reading
     }
     let kind = kind_of(bytes[position]);
     let site = two_bytes(bytes, position + 1);
-    let range = range_at(bytes, position + 3);
+    let base = four_bytes(bytes, position + 3);
+    let stride = two_bytes(bytes, position + 7);
+    let count = two_bytes(bytes, position + 9);
+    let size = bytes[position + 11];
+    let range = Range {
+        base,
+        stride,
+        count,
+        size,
+    };
     let access = Access { kind, site, range };
     Reading::Taken {
         next: position + 12,

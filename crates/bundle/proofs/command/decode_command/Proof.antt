@@ -1,5 +1,5 @@
 -- `bundle::command::decode_command` meets its contract. Assumes nothing.
-use mathlib.Core.Path.{_∙_, refl}
+use mathlib.Core.Path.{refl}
 use Rattle.bundle.specs.Commands.{formOf, total, widthOf, commandAt}
 use Rattle.bundle.proofs.Forms.{no-form}
 use Rattle.bundle.proofs.Arms.{decode-past, decode-unknown, decode-whole}

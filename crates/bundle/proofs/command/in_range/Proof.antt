@@ -11,7 +11,7 @@ use Rattle.bundle.proofs.command.in_range.Tie as tie
 
 returns : tie.Need-returns
 unfolding formOf codeOf widthsOf operandsOk
-returns c = ranges-decide (Com.Member _ _) (fit-one 2 _ (search needs) (fit-one 1 _ (search needs) fit-none)) ∙ ap inRange (sym (c .before .command .given .1))
+returns c = ranges-decide (Com.Member _ _) (fit-one (search needs) (fit-one (search needs) fit-none)) ∙ ap inRange (sym (c .before .command .given .1))
 
 returns-2 : tie.Need-returns-2
 unfolding formOf codeOf widthsOf operandsOk
@@ -19,7 +19,7 @@ returns-2 c = ranges-decide Com.End fit-none ∙ ap inRange (sym (c .enum-told .
 
 returns-3 : tie.Need-returns-3
 unfolding formOf codeOf widthsOf operandsOk
-returns-3 c = ranges-decide (Com.Region _ _) (fit-one 2 _ (search needs) (fit-one 1 _ (search needs) fit-none)) ∙ ap inRange (sym (c .before .command2 .given .1))
+returns-3 c = ranges-decide (Com.Region _ _) (fit-one (search needs) (fit-one (search needs) fit-none)) ∙ ap inRange (sym (c .before .command2 .given .1))
 
 returns-4 : tie.Need-returns-4
 unfolding formOf codeOf widthsOf operandsOk
@@ -27,17 +27,17 @@ returns-4 c = ranges-decide Com.Barrier fit-none ∙ ap inRange (sym (c .enum-to
 
 returns-5 : tie.Need-returns-5
 unfolding formOf codeOf widthsOf operandsOk
-returns-5 c = ranges-decide (Com.Acquire _) (fit-one 1 _ (search needs) fit-none) ∙ ap inRange (sym (c .before .command3 .given .1))
+returns-5 c = ranges-decide (Com.Acquire _) (fit-one (search needs) fit-none) ∙ ap inRange (sym (c .before .command3 .given .1))
 
 returns-6 : tie.Need-returns-6
 unfolding formOf codeOf widthsOf operandsOk
-returns-6 c = ranges-decide (Com.Release _) (fit-one 1 _ (search needs) fit-none) ∙ ap inRange (sym (c .before .command4 .given .1))
+returns-6 c = ranges-decide (Com.Release _) (fit-one (search needs) fit-none) ∙ ap inRange (sym (c .before .command4 .given .1))
 
 returns-7 : tie.Need-returns-7
 unfolding codeOf operandsOk
 returns-7 c =
     c .range-ok .ensures
-    ∙ ranges-decide (Com.Access _) (access-fits _ (fit-one 2 _ (search needs) (fit-one 4 _ (search needs) (fit-one 2 _ (search needs) (fit-one 2 _ (search needs) (fit-one 1 _ (search needs) fit-none))))))
+    ∙ ranges-decide (Com.Access _) (access-fits _ (fit-one (search needs) (fit-one (search needs) (fit-one (search needs) (fit-one (search needs) (fit-one (search needs) fit-none))))))
     ∙ ap inRange (sym (c .before .before .command5 .given .1))
 
 pub in-range-spec : {M : Type 1} → statement M
