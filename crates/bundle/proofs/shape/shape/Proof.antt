@@ -1,0 +1,47 @@
+use borrow.Author.Needs.{needs}
+use Rattle.bundle.proofs.shape.shape.Statement.{statement}
+use Rattle.bundle.proofs.shape.shape.Tie as tie
+use Rattle.bundle.proofs.shape.shape.Reads as reads
+use Rattle.bundle.proofs.shape.shape.Lts as lts
+use Rattle.bundle.proofs.shape.order_teams.Reads as order-teams-reads
+use Rattle.bundle.proofs.shape.test_all.Reads as test-all-reads
+
+-- src/shape.rt:324:24
+array-borrow-prefix-order : tie.Need-array-borrow-prefix-order
+array-borrow-prefix-order c = search needs
+
+-- src/shape.rt:324:24
+slice-aggregate-order-teams : tie.Need-slice-aggregate-order-teams
+slice-aggregate-order-teams c = ?
+
+-- src/shape.rt:324:5
+order-teams-requires : tie.Need-order-teams-requires
+order-teams-requires c κs = ?
+
+-- src/shape.rt:325:45
+array-share-prefix-order : tie.Need-array-share-prefix-order
+array-share-prefix-order c = ?
+
+-- src/shape.rt:325:45
+slice-aggregate-test-all : tie.Need-slice-aggregate-test-all
+slice-aggregate-test-all c = ?
+
+-- src/shape.rt:325:5
+test-all-requires : tie.Need-test-all-requires
+test-all-requires c κs = ?
+
+-- src/shape.rt:319:1
+returns : tie.Need-returns
+returns c = search needs
+
+pub shape-spec : {M : Type 1} → statement M
+shape-spec =
+    tie.close
+    (tie.spec
+    array-borrow-prefix-order
+    slice-aggregate-order-teams
+    order-teams-requires
+    array-share-prefix-order
+    slice-aggregate-test-all
+    test-all-requires
+    returns)
