@@ -57,13 +57,14 @@ module _ (f : ℕ → Fork) (n : ℕ) where
   unfolding sizeOf
   size-root t e = rw e
 
-  pub size-none : (t : ℕ) → (t ≡ 0 → ⊥) → n ≤ slotOf fs t → 0 ≡ sizeOf fs t
-  unfolding sizeOf
-  size-none t ne h = rw (ne-eqb t 0 ne, fork-none t h)
+  module _ (t slot : ℕ) (e : slot ≡ slotOf fs t) (ne : t ≡ 0 → ⊥) where
+    pub size-none : n ≤ slot → 0 ≡ sizeOf fs t
+    unfolding sizeOf
+    size-none h = rw (ne-eqb t 0 ne, fork-none t (rw e at h))
 
-  pub size-some : (t : ℕ) → (t ≡ 0 → ⊥) → slotOf fs t < n → f (slotOf fs t) .size ≡ sizeOf fs t
-  unfolding sizeOf
-  size-some t ne h = rw (ne-eqb t 0 ne, fork-some t h)
+    pub size-some : slot < n → (g : Fork) → g ≡ f slot → g .size ≡ sizeOf fs t
+    unfolding sizeOf
+    size-some h g q = rw (ne-eqb t 0 ne, fork-some t (rw e at h), q, e)
 
   -- a team with a member is known
   pub sized-known : (t m : ℕ) → m < sizeOf fs t → Known fs t
@@ -71,7 +72,7 @@ module _ (f : ℕ → Fork) (n : ℕ) where
     where
       go : Dec (t ≡ 0) → t ≡ 0
       go (yes e) = e
-      go (no ne) = let z = size-none t ne (rw (table-length f n) at past) in absurd (omega arith)
+      go (no ne) = let z = size-none t (slotOf fs t) refl ne (rw (table-length f n) at past) in absurd (omega arith)
 
   -- 8
   pub forked-index : (i : ℕ) → i < n → ltb (slotOf fs (f i .team)) i ≡ failsAt forkedBefore f i

@@ -25,9 +25,9 @@ module _ (g : ℕ → ℕ) (words : List ℕ) (i : ℕ) (so-far : take i words �
   pub written-more : (word : ℕ) → i < length words → word ≡ g i → take (i + 1) (set words i word) ≡ table g (i + 1)
   written-more word h e = rw (add-one, take-suc-set words i word h, table-more g i, so-far, e)
 
-  pub written-all : i ≤ length words → length words ≤ i → words ≡ table g (length words)
-  written-all l h =
-      let e : i ≡ length words = omega arith in
+  pub written-all : (n : ℕ) → length words ≡ n → i ≤ n → length words ≤ i → words ≡ table g n
+  written-all n long l h =
+      let e : i ≡ n = omega arith in
       sym (take-all i words h) ∙ so-far ∙ ap (table g) e
 
 -- where there is room, sorting sorts
@@ -60,7 +60,7 @@ key-small key f i zero j h = omega arith
 key-small key f i (suc k) zero h = let l = h i in omega arith
 key-small key f i (suc k) (suc j) h = key-small key f (suc i) k j h
 
-pub teams-ordered :
+teams-ordered :
     (forks order : List ℕ) (n : ℕ)
     → n ≤ 512
     → ((k : ℕ) → getD forks k 0 < 18446744073709551616)
@@ -92,3 +92,15 @@ teams-ordered forks order n few fits e =
           small = small;
           order = e ∙ unfold table in (ap sorted (sym (keyed-table (λ (f : Fork). f .team) (forkRowAt forks) 0 n)));
         }
+
+pub teams-sorted :
+    (forks : List ℕ) {words order : List ℕ} (n room : ℕ) {r : Bool}
+    → n ≤ 512
+    → ((k : ℕ) → getD forks k 0 < 18446744073709551616)
+    → words ≡ table (λ i. forkRowAt forks i .team * 65536 + i) n
+    → (r, order) ≡ sorting words room
+    → 256 ≤ room
+    → ByTeam order (table (forkRowAt forks) n)
+teams-sorted forks {words} {order} n room {r} few fits e q enough =
+    let long : length words ≡ n = rw e (table-length (λ i. forkRowAt forks i .team * 65536 + i) n) in
+    teams-ordered forks order n few fits (sorting-sorts r words order room q (omega arith) ∙ ap sorted e)

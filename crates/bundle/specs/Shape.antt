@@ -29,17 +29,22 @@ firstBarriers rs t = fromOption 0 (λ (q : ChunkRow). q .barriers) (first (isRow
 unfoldable pub unlikeRow : List ChunkRow → ChunkRow → Bool
 unlikeRow rs r = not (eqb (r .barriers) (firstBarriers rs (r .team)))
 
-unfoldable pub shapeByRows : List ChunkRow → List Fork → Answer (Unit {0})
-shapeByRows rs fs =
+-- 10 to 12, past 8 and 9
+unfoldable pub settledByRows : List ChunkRow → List Fork → Answer (Unit {0})
+settledByRows rs fs =
     let atFork : Fork → ℕ = λ f. f .place in
     let atRow : ChunkRow → ℕ = λ r. r .place in
-    refusedAt 8 (failing atFork forkedBefore [] fs)
-    (refusedAt 9 (failing atRow (strayRow fs) [] rs)
-    (refusedAt 10 (cond (lacksRow rs 0 1) (0 ∷ []) [])
+    refusedAt 10 (cond (lacksRow rs 0 1) (0 ∷ []) [])
     (refusedAt 10 (failing atFork (λ before f. lacksRow rs (f .team) (f .size)) [] fs)
     (refusedAt 11 (failing atFork (λ before f. ltb 4 (depthOf fs (f .team))) [] fs)
     (refusedAt 12 (failing atRow (λ before r. unlikeRow rs r) [] rs)
-    (gives tt))))))
+    (gives tt))))
+
+unfoldable pub shapeByRows : List ChunkRow → List Fork → Answer (Unit {0})
+shapeByRows rs fs =
+    refusedAt 8 (failing (λ (f : Fork). f .place) forkedBefore [] fs)
+    (refusedAt 9 (failing (λ (r : ChunkRow). r .place) (strayRow fs) [] rs)
+    (settledByRows rs fs))
 
 -- a test of the i-th element of a table, which sees the elements before too, the last first
 unfoldable pub passed : {A : Type 0} → (ℕ → A) → ℕ → List A
@@ -82,6 +87,13 @@ pub record Met (fs : List Fork) (rs : List ChunkRow) (masks firsts : List ℕ) :
   pub firsts-long : length fs < length firsts
   pub members : (t m : ℕ) → Known fs t → m < 256 → metAt masks (slotOf fs t) m ≡ any (isRow t m) rs
   pub barriers : (t : ℕ) → Known fs t → getD firsts (slotOf fs t) 0 ≡ firstBarriers rs t
+
+-- what is known past 8 and 9
+pub record Settled (chunks forks order masks firsts : List ℕ) (count regions : ℕ) : Type 0 where
+  pub by-team : ByTeam order (table (forkRowAt forks) regions)
+  pub once-forked : (i : ℕ) → i < regions → failsAt forkedBefore (forkRowAt forks) i ≡ false
+  pub no-stray : (i : ℕ) → i < count → failsAt (strayRow (table (forkRowAt forks) regions)) (chunkRowAt chunks) i ≡ false
+  pub met : Met (table (forkRowAt forks) regions) (table (chunkRowAt chunks) count) masks firsts
 
 -- the tests by these tables; 11: whether so many REGIONs can be climbed from a team
 unfoldable pub climbs : ℕ → List ℕ → List ℕ → ℕ → Bool

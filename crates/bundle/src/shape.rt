@@ -14,7 +14,7 @@ ghost use lib.ListN.{length, getD, set};
 ghost use Rattle.sorting.specs.Searching.{firstWithKey};
 ghost use Rattle.bundle.specs.Check.{sizeOf, checkingOf};
 ghost use Rattle.bundle.specs.Index.{table, chunkRowAt, forkRowAt};
-ghost use Rattle.bundle.specs.Shape.{strayRow, shapeByRows, failsAt, FirstFailing, slotOf, ByTeam, metAt, markedAt, Met, climbs, deepBy, lacksBy, failsBy};
+ghost use Rattle.bundle.specs.Shape.{strayRow, settledByRows, shapeByRows, failsAt, FirstFailing, slotOf, ByTeam, metAt, markedAt, Met, Settled, climbs, deepBy, lacksBy, failsBy};
 ghost use Rattle.bundle.specs.declared.answer.Checking.the-variants as Checks;
 
 // The tests of a row by tables that are complete.
@@ -257,40 +257,62 @@ fn at_chunk(chunks: &[u64], i: u32, cause: Cause) -> Checking
     }
 }
 
-// "the lowest number, then lowest offset", by the REGIONs in the order of their teams.
-fn test_all(chunks: &[u64], count: u32, forks: &[u64], regions: u32, order: &[u64]) -> Checking
-    requires { ⌜ ByTeam (now order) (table (forkRowAt (now forks)) regions) ⌝ }
-    ensures { λ r. ⌜ checkingOf r ≡ shapeByRows (table (chunkRowAt (now (chunks .entry))) count) (table (forkRowAt (now (forks .entry))) regions) ⌝ }
+// 10 to 12, past 8 and 9.
+fn test_settled(
+    chunks: &[u64],
+    count: u32,
+    forks: &[u64],
+    regions: u32,
+    order: &[u64],
+    masks: &[u64],
+    firsts: &[u32],
+) -> Checking
+    requires { ⌜ Settled (now chunks) (now forks) (now order) (now masks) (now firsts) count regions ⌝ }
+    ensures { λ r. ⌜ checkingOf r ≡ settledByRows (table (chunkRowAt (now (chunks .entry))) count) (table (forkRowAt (now (forks .entry))) regions) ⌝ }
 {
-    let mut masks = [0u64; 2052];
-    let mut firsts = [0u32; 513];
-    let i = first_failing(Test::ForkedBefore, regions, chunks, forks, order, &masks, &firsts);
-    if i < regions {
-        return at_fork(forks, i, Cause::ForkedBefore);
-    }
-    let i = first_stray(chunks, count, forks, regions, order, &mut masks, &mut firsts);
-    if i < count {
-        return at_chunk(chunks, i, Cause::StrayChunk);
-    }
-    if !met(&masks, slot_of(order, 0), 0) {
+    if !met(masks, slot_of(order, 0), 0) {
         return Checking::Refused {
             place: 0,
             cause: Cause::MissingChunk,
         };
     }
-    let i = first_failing(Test::LacksChunk, regions, chunks, forks, order, &masks, &firsts);
+    let i = first_failing(Test::LacksChunk, regions, chunks, forks, order, masks, firsts);
     if i < regions {
         return at_fork(forks, i, Cause::MissingChunk);
     }
-    let i = first_failing(Test::TooDeep, regions, chunks, forks, order, &masks, &firsts);
+    let i = first_failing(Test::TooDeep, regions, chunks, forks, order, masks, firsts);
     if i < regions {
         return at_fork(forks, i, Cause::TooDeep);
     }
-    let i = first_failing(Test::UnlikeFirst, count, chunks, forks, order, &masks, &firsts);
+    let i = first_failing(Test::UnlikeFirst, count, chunks, forks, order, masks, firsts);
     if i < count {
         return at_chunk(chunks, i, Cause::BarrierCount);
     }
     Checking::Accepted
+}
+
+// "the lowest number, then lowest offset"
+fn test_all(
+    chunks: &[u64],
+    count: u32,
+    forks: &[u64],
+    regions: u32,
+    order: &[u64],
+    masks: &mut [u64],
+    firsts: &mut [u32],
+) -> Checking
+    requires { ⌜ ByTeam (now order) (table (forkRowAt (now forks)) regions) × Met (table (forkRowAt (now forks)) regions) (table (chunkRowAt (now chunks)) 0) (now masks) (now firsts) ⌝ }
+    ensures { λ r. ⌜ checkingOf r ≡ shapeByRows (table (chunkRowAt (now (chunks .entry))) count) (table (forkRowAt (now (forks .entry))) regions) ⌝ }
+{
+    let i = first_failing(Test::ForkedBefore, regions, chunks, forks, order, masks, firsts);
+    if i < regions {
+        return at_fork(forks, i, Cause::ForkedBefore);
+    }
+    let i = first_stray(chunks, count, forks, regions, order, masks, firsts);
+    if i < count {
+        return at_chunk(chunks, i, Cause::StrayChunk);
+    }
+    test_settled(chunks, count, forks, regions, order, masks, firsts)
 }
 
 // Writes the team of each REGION with its index, as first_with_key reads them.
@@ -321,6 +343,16 @@ pub fn shape(chunks: &[u64], count: u32, forks: &[u64], regions: u32) -> Checkin
     ensures { λ r. ⌜ checkingOf r ≡ shapeByRows (table (chunkRowAt (now (chunks .entry))) count) (table (forkRowAt (now (forks .entry))) regions) ⌝ }
 {
     let mut order = [0u64; 512];
+    let mut masks = [0u64; 2052];
+    let mut firsts = [0u32; 513];
     order_teams(forks, &mut order[..regions as usize]);
-    test_all(chunks, count, forks, regions, &order[..regions as usize])
+    test_all(
+        chunks,
+        count,
+        forks,
+        regions,
+        &order[..regions as usize],
+        &mut masks,
+        &mut firsts,
+    )
 }

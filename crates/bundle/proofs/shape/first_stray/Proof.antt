@@ -49,7 +49,7 @@ same-length-2 c = c .before .before .before .before .before .before .loop .inv .
 
 -- src/shape.rt:122:13
 returns : tie.Need-returns Inv-loop μ-loop
-returns c = ?
+returns c = (record { within = search needs; before = c .before .before .before .before .before .before .loop .inv .3; here = λ h. sym (stray-is _ _ _ _ (c .before .before .before .before .before .before .before .before .before .before .before .before .pre .0) _ (c .before .before .before .before .before .before .loop .inv .4) (c .before .before .before .before .chunk-at .ensures) (c .before .before .before .slot-of .ensures) (c .before .is-stray .ensures)) ∙ c .if1 .taken }, c .before .before .before .before .before .before .loop .inv .4)
 
 -- src/shape.rt:124:9
 note-requires : tie.Need-note-requires Inv-loop μ-loop
@@ -65,7 +65,13 @@ loop-less c = search needs
 
 -- src/shape.rt:118:5
 loop-again : tie.Need-loop-again Inv-loop μ-loop
-loop-again c = ?
+loop-again c = (
+  search needs,
+  c .before .before .before .masks .given ∙ c .before .before .before .before .before .before .before .before .before .before .before .before .before .loop .inv .1,
+  c .before .firsts .given ∙ c .before .before .before .before .before .before .before .before .before .before .before .before .before .loop .inv .2,
+  below-more _ _ (c .before .before .before .before .before .before .before .before .before .before .before .before .before .loop .inv .3) (sym (stray-is _ _ _ _ (c .before .before .before .before .before .before .before .before .before .before .before .before .before .before .before .before .before .before .before .pre .0) _ (c .before .before .before .before .before .before .before .before .before .before .before .before .before .loop .inv .4) (c .before .before .before .before .before .before .before .before .before .before .before .chunk-at .ensures) (c .before .before .before .before .before .before .before .before .before .before .slot-of .ensures) (c .before .before .before .before .before .before .before .before .is-stray .ensures)) ∙ c .before .before .before .before .before .before .before .if1 .left),
+  stray-noted _ _ _ _ (c .before .before .before .before .before .before .before .before .before .before .before .before .before .before .before .before .before .before .before .pre .0) _ (c .before .before .before .before .before .before .before .before .before .before .before .before .before .loop .inv .4) (c .before .before .before .before .before .before .before .before .before .before .before .chunk-at .ensures) (c .before .before .before .before .before .before .before .before .before .before .slot-of .ensures) (c .before .before .before .before .before .before .before .before .is-stray .ensures) (c .before .before .before .before .before .before .before .if1 .left) (c .before .before .before .before .note .ensures .0) (c .before .before .before .before .note .ensures .1),
+)
 
 -- src/shape.rt:105:1
 same-length-3 : tie.Need-same-length-3 Inv-loop μ-loop

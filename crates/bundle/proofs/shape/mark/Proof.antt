@@ -51,7 +51,7 @@ same-length c = search needs
 -- src/shape.rt:47:1
 returns : tie.Need-returns
 unfolding markedAt
-returns c = rw (one-shifted (c .before .before .args .member % 64) (omega arith))
+returns c = rw (one-shifted (c .before .args .member % 64) (omega arith))
 
 pub mark-spec : {M : Type 1} → statement M
 mark-spec =

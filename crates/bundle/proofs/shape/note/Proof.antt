@@ -1,3 +1,4 @@
+use borrow.Author.Tests.{eq-eqb, ne-eqb}
 use borrow.Author.Needs.{needs}
 use Rattle.bundle.proofs.shape.note.Statement.{statement}
 use Rattle.bundle.proofs.shape.note.Tie as tie
@@ -27,7 +28,7 @@ same-length-2 c = search needs
 
 -- src/shape.rt:92:1
 returns : tie.Need-returns
-returns c = ?
+returns c = (c .before .before .before .mark .ensures, simp (eq-eqb _ _ (c .if1 .taken)))
 
 -- src/shape.rt:92:1
 same-length-3 : tie.Need-same-length-3
@@ -35,7 +36,7 @@ same-length-3 c = search needs
 
 -- src/shape.rt:92:1
 returns-2 : tie.Need-returns-2
-returns-2 c = ?
+returns-2 c = (c .before .before .before .mark .ensures, simp (ne-eqb _ _ (c .if1 .left)))
 
 pub note-spec : {M : Type 1} → statement M
 note-spec =

@@ -68,7 +68,7 @@ same-length c = c .before .loop .inv .1
 
 -- src/shape.rt:297:1
 returns : tie.Need-returns Inv-loop μ-loop
-returns c = ?
+returns c = written-all _ _ _ (c .before .loop .inv .2) _ (c .before .loop .inv .1) (c .before .loop .inv .0) (c .loop-test .left)
 
 pub number-teams-spec : {M : Type 1} → statement M
 number-teams-spec =

@@ -1,3 +1,5 @@
+use native.Mathlib.Omega.{arith}
+use Rattle.bundle.proofs.TeamOrder.{teams-sorted}
 use borrow.Author.Needs.{needs}
 use Rattle.bundle.proofs.shape.order_teams.Statement.{statement}
 use Rattle.bundle.proofs.shape.order_teams.Tie as tie
@@ -24,7 +26,7 @@ same-length c = search needs
 
 -- src/shape.rt:309:1
 returns : tie.Need-returns
-returns c = ?
+returns c = teams-sorted (c .before .before .before .before .before .before .before .before .before .before .before .before .args .forks .now) _ _ (c .before .before .before .before .before .before .before .before .before .before .before .before .pre) (λ k. omega (arith, c .before .before .before .before .before .before .before .before .before .before .before .shared-slice-known .given k)) (c .before .before .before .before .before .before .before .before .number-teams .ensures) (c .before .before .before .sort .ensures) (search needs)
 
 pub order-teams-spec : {M : Type 1} → statement M
 order-teams-spec =

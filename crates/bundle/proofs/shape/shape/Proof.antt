@@ -1,4 +1,3 @@
-use borrow.Author.Needs.{needs}
 use Rattle.bundle.proofs.shape.shape.Statement.{statement}
 use Rattle.bundle.proofs.shape.shape.Tie as tie
 use Rattle.bundle.proofs.shape.shape.Reads as reads
@@ -6,33 +5,41 @@ use Rattle.bundle.proofs.shape.shape.Lts as lts
 use Rattle.bundle.proofs.shape.order_teams.Reads as order-teams-reads
 use Rattle.bundle.proofs.shape.test_all.Reads as test-all-reads
 
--- src/shape.rt:324:24
+-- src/shape.rt:348:24
 array-borrow-prefix-order : tie.Need-array-borrow-prefix-order
-array-borrow-prefix-order c = search needs
+array-borrow-prefix-order c = ?
 
--- src/shape.rt:324:24
+-- src/shape.rt:348:24
 slice-aggregate-order-teams : tie.Need-slice-aggregate-order-teams
 slice-aggregate-order-teams c = ?
 
--- src/shape.rt:324:5
+-- src/shape.rt:348:5
 order-teams-requires : tie.Need-order-teams-requires
 order-teams-requires c κs = ?
 
--- src/shape.rt:325:45
+-- src/shape.rt:354:9
 array-share-prefix-order : tie.Need-array-share-prefix-order
 array-share-prefix-order c = ?
 
--- src/shape.rt:325:45
+-- src/shape.rt:354:9
 slice-aggregate-test-all : tie.Need-slice-aggregate-test-all
 slice-aggregate-test-all c = ?
 
--- src/shape.rt:325:5
+-- src/shape.rt:355:9
+slice-aggregate-test-all-2 : tie.Need-slice-aggregate-test-all-2
+slice-aggregate-test-all-2 c = ?
+
+-- src/shape.rt:356:9
+slice-aggregate-test-all-3 : tie.Need-slice-aggregate-test-all-3
+slice-aggregate-test-all-3 c = ?
+
+-- src/shape.rt:349:5
 test-all-requires : tie.Need-test-all-requires
 test-all-requires c κs = ?
 
--- src/shape.rt:319:1
+-- src/shape.rt:341:1
 returns : tie.Need-returns
-returns c = search needs
+returns c = ?
 
 pub shape-spec : {M : Type 1} → statement M
 shape-spec =
@@ -43,5 +50,7 @@ shape-spec =
     order-teams-requires
     array-share-prefix-order
     slice-aggregate-test-all
+    slice-aggregate-test-all-2
+    slice-aggregate-test-all-3
     test-all-requires
     returns)

@@ -13,7 +13,7 @@ returns c = size-root _ _ _ (c .if1 .taken)
 
 -- src/shape.rt:75:9
 returns-2 : tie.Need-returns-2
-returns-2 c = size-none _ _ _ (c .before .if1 .left) (rw (c .before .before .before .pre) at (c .if2 .taken))
+returns-2 c = size-none _ _ _ _ (c .before .before .before .pre) (c .before .if1 .left) (c .if2 .taken)
 
 -- src/shape.rt:77:9
 fork-at-requires : tie.Need-fork-at-requires
@@ -21,7 +21,7 @@ fork-at-requires c κs = search needs
 
 -- src/shape.rt:67:1
 returns-3 : tie.Need-returns-3
-returns-3 c = rw (c .fork-at .ensures, c .before .before .before .before .pre) (size-some _ _ _ (c .before .before .if1 .left) (rw (c .before .before .before .before .pre) at (omega (arith, c .before .if2 .left))))
+returns-3 c = size-some _ _ _ _ (c .before .before .before .before .pre) (c .before .before .if1 .left) (c .before .if2 .left) _ (c .fork-at .ensures)
 
 pub size-of-spec : {M : Type 1} → statement M
 size-of-spec = tie.close (tie.spec returns returns-2 fork-at-requires returns-3)

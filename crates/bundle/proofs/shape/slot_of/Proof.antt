@@ -1,3 +1,4 @@
+use native.Mathlib.Omega.{arith}
 use Rattle.bundle.proofs.Slots.{key-fits}
 use borrow.Author.Needs.{needs}
 use Rattle.bundle.proofs.shape.slot_of.Statement.{statement}
@@ -12,7 +13,7 @@ first-with-key-requires c κs = search needs
 
 -- src/shape.rt:33:5
 cast-result : tie.Need-cast-result
-cast-result c = rw (c .first-with-key .ensures) (key-fits _ _ (c .before .pre))
+cast-result c = omega (arith, c .first-with-key .ensures, key-fits (c .before .before .args .order .now) (c .before .before .args .team) (c .before .before .pre))
 
 -- src/shape.rt:29:1
 returns : tie.Need-returns

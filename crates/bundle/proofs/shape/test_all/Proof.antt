@@ -1,4 +1,6 @@
-use borrow.Author.Needs.{needs}
+use Rattle.bundle.proofs.ShapeTests.{forked-twice, one-stray, none-stray, past-9}
+use Rattle.bundle.specs.Check.{checkingOf}
+use mathlib.Core.Path.{refl, ap, _∙_}
 use Rattle.bundle.proofs.shape.test_all.Statement.{statement}
 use Rattle.bundle.proofs.shape.test_all.Tie as tie
 use Rattle.bundle.proofs.shape.test_all.Reads as reads
@@ -7,160 +9,79 @@ use Rattle.bundle.proofs.shape.at_chunk.Reads as at-chunk-reads
 use Rattle.bundle.proofs.shape.at_fork.Reads as at-fork-reads
 use Rattle.bundle.proofs.shape.first_failing.Reads as first-failing-reads
 use Rattle.bundle.proofs.shape.first_stray.Reads as first-stray-reads
-use Rattle.bundle.proofs.shape.met.Reads as met-reads
-use Rattle.bundle.proofs.shape.slot_of.Reads as slot-of-reads
+use Rattle.bundle.proofs.shape.test_settled.Reads as test-settled-reads
 
--- src/shape.rt:267:78
-slice-aggregate-first-failing : tie.Need-slice-aggregate-first-failing
-slice-aggregate-first-failing c = search needs
-
--- src/shape.rt:267:86
-slice-aggregate-first-failing-2 : tie.Need-slice-aggregate-first-failing-2
-slice-aggregate-first-failing-2 c = search needs
-
--- src/shape.rt:267:9
+-- src/shape.rt:307:9
 first-failing-requires : tie.Need-first-failing-requires
-first-failing-requires c κs = search needs
+first-failing-requires c κs = c .before .before .before .before .before .before .before .pre .0 .few
 
--- src/shape.rt:269:9
+-- src/shape.rt:309:9
 at-fork-requires : tie.Need-at-fork-requires
-at-fork-requires c κs = search needs
+at-fork-requires c κs = tt
 
--- src/shape.rt:269:9
+-- src/shape.rt:309:9
+same-length : tie.Need-same-length
+same-length c = refl
+
+-- src/shape.rt:309:9
+same-length-2 : tie.Need-same-length-2
+same-length-2 c = refl
+
+-- src/shape.rt:309:9
 returns : tie.Need-returns
-returns c = ?
+returns c = ap checkingOf (c .at-fork .ensures) ∙ forked-twice _ _ _ _ _ _ _ (c .before .before .before .before .before .before .before .before .before .before .pre .0) (c .before .before .first-failing .ensures) (c .before .if1 .taken)
 
--- src/shape.rt:271:63
-slice-aggregate-first-stray : tie.Need-slice-aggregate-first-stray
-slice-aggregate-first-stray c = search needs
-
--- src/shape.rt:271:75
-slice-aggregate-first-stray-2 : tie.Need-slice-aggregate-first-stray-2
-slice-aggregate-first-stray-2 c = search needs
-
--- src/shape.rt:271:9
+-- src/shape.rt:311:9
 first-stray-requires : tie.Need-first-stray-requires
-first-stray-requires c κs = ?
+first-stray-requires c κs = c .before .before .before .before .before .before .before .before .before .before .before .pre
 
--- src/shape.rt:273:9
+-- src/shape.rt:313:9
 at-chunk-requires : tie.Need-at-chunk-requires
-at-chunk-requires c κs = search needs
+at-chunk-requires c κs = tt
 
--- src/shape.rt:273:9
+-- src/shape.rt:313:9
+same-length-3 : tie.Need-same-length-3
+same-length-3 c = c .before .before .before .before .before .masks .given
+
+-- src/shape.rt:313:9
+same-length-4 : tie.Need-same-length-4
+same-length-4 c = c .before .before .before .firsts .given
+
+-- src/shape.rt:313:9
 returns-2 : tie.Need-returns-2
-returns-2 c = ?
+returns-2 c = ap checkingOf (c .at-chunk .ensures) ∙ one-stray _ _ _ _ _ _ _ (c .before .before .before .before .before .before .before .before .before .before .before .before .before .before .before .before .before .before .pre .0) (c .before .before .before .before .before .before .before .before .before .before .first-failing .ensures) (c .before .before .before .before .before .before .before .before .before .if1 .left) (c .before .before .before .before .before .before .first-stray .ensures .0) (c .before .before .before .before .before .before .first-stray .ensures .1) (c .before .if2 .taken)
 
--- src/shape.rt:275:13
-slice-aggregate-met : tie.Need-slice-aggregate-met
-slice-aggregate-met c = search needs
+-- src/shape.rt:315:5
+test-settled-requires : tie.Need-test-settled-requires
+test-settled-requires c κs = none-stray _ _ _ _ _ _ _ (c .before .before .before .before .before .before .before .before .before .before .before .before .before .before .before .before .before .before .before .pre .0) (c .before .before .before .before .before .before .before .before .before .before .before .first-failing .ensures) (c .before .before .before .before .before .before .before .before .before .before .if1 .left) (c .before .before .before .before .before .before .before .first-stray .ensures .0) (c .before .before .before .before .before .before .before .first-stray .ensures .1) (c .before .before .if2 .left)
 
--- src/shape.rt:275:21
-slot-of-requires : tie.Need-slot-of-requires
-slot-of-requires c κs = search needs
+-- src/shape.rt:295:1
+same-length-5 : tie.Need-same-length-5
+same-length-5 c = c .before .before .before .before .before .before .before .masks .given
 
--- src/shape.rt:275:9
-met-requires : tie.Need-met-requires
-met-requires c κs = search needs
+-- src/shape.rt:295:1
+same-length-6 : tie.Need-same-length-6
+same-length-6 c = c .before .before .before .before .before .firsts .given
 
--- src/shape.rt:276:9
+-- src/shape.rt:295:1
 returns-3 : tie.Need-returns-3
-returns-3 c = ?
-
--- src/shape.rt:281:76
-slice-aggregate-first-failing-3 : tie.Need-slice-aggregate-first-failing-3
-slice-aggregate-first-failing-3 c = search needs
-
--- src/shape.rt:281:84
-slice-aggregate-first-failing-4 : tie.Need-slice-aggregate-first-failing-4
-slice-aggregate-first-failing-4 c = search needs
-
--- src/shape.rt:281:9
-first-failing-requires-2 : tie.Need-first-failing-requires-2
-first-failing-requires-2 c κs = search needs
-
--- src/shape.rt:283:9
-at-fork-requires-2 : tie.Need-at-fork-requires-2
-at-fork-requires-2 c κs = search needs
-
--- src/shape.rt:283:9
-returns-4 : tie.Need-returns-4
-returns-4 c = ?
-
--- src/shape.rt:285:73
-slice-aggregate-first-failing-5 : tie.Need-slice-aggregate-first-failing-5
-slice-aggregate-first-failing-5 c = search needs
-
--- src/shape.rt:285:81
-slice-aggregate-first-failing-6 : tie.Need-slice-aggregate-first-failing-6
-slice-aggregate-first-failing-6 c = search needs
-
--- src/shape.rt:285:9
-first-failing-requires-3 : tie.Need-first-failing-requires-3
-first-failing-requires-3 c κs = ?
-
--- src/shape.rt:287:9
-at-fork-requires-3 : tie.Need-at-fork-requires-3
-at-fork-requires-3 c κs = search needs
-
--- src/shape.rt:287:9
-returns-5 : tie.Need-returns-5
-returns-5 c = ?
-
--- src/shape.rt:289:75
-slice-aggregate-first-failing-7 : tie.Need-slice-aggregate-first-failing-7
-slice-aggregate-first-failing-7 c = search needs
-
--- src/shape.rt:289:83
-slice-aggregate-first-failing-8 : tie.Need-slice-aggregate-first-failing-8
-slice-aggregate-first-failing-8 c = search needs
-
--- src/shape.rt:289:9
-first-failing-requires-4 : tie.Need-first-failing-requires-4
-first-failing-requires-4 c κs = ?
-
--- src/shape.rt:291:9
-at-chunk-requires-2 : tie.Need-at-chunk-requires-2
-at-chunk-requires-2 c κs = search needs
-
--- src/shape.rt:291:9
-returns-6 : tie.Need-returns-6
-returns-6 c = ?
-
--- src/shape.rt:261:1
-returns-7 : tie.Need-returns-7
-returns-7 c = ?
+returns-3 c = c .test-settled .ensures ∙ past-9 _ _ _ _ _ _ _ (c .before .before .before .before .before .before .before .before .before .before .before .before .before .before .before .before .before .before .before .before .pre .0) (c .before .before .before .before .before .before .before .before .before .before .before .before .first-failing .ensures) (c .before .before .before .before .before .before .before .before .before .before .before .if1 .left) (c .before .before .before .before .before .before .before .before .first-stray .ensures .0) (c .before .before .before .before .before .before .before .before .first-stray .ensures .1) (c .before .before .before .if2 .left)
 
 pub test-all-spec : {M : Type 1} → statement M
 test-all-spec =
     tie.close
     (tie.spec
-    slice-aggregate-first-failing
-    slice-aggregate-first-failing-2
     first-failing-requires
     at-fork-requires
+    same-length
+    same-length-2
     returns
-    slice-aggregate-first-stray
-    slice-aggregate-first-stray-2
     first-stray-requires
     at-chunk-requires
+    same-length-3
+    same-length-4
     returns-2
-    slice-aggregate-met
-    slot-of-requires
-    met-requires
-    returns-3
-    slice-aggregate-first-failing-3
-    slice-aggregate-first-failing-4
-    first-failing-requires-2
-    at-fork-requires-2
-    returns-4
-    slice-aggregate-first-failing-5
-    slice-aggregate-first-failing-6
-    first-failing-requires-3
-    at-fork-requires-3
-    returns-5
-    slice-aggregate-first-failing-7
-    slice-aggregate-first-failing-8
-    first-failing-requires-4
-    at-chunk-requires-2
-    returns-6
-    returns-7)
+    test-settled-requires
+    same-length-5
+    same-length-6
+    returns-3)
