@@ -129,7 +129,7 @@ zeros zero k = refl
 zeros (suc n) zero = refl
 zeros (suc n) (suc k) = zeros n k
 
-pub met-nothing :
+met-nothing :
     (fs : List Fork) {rs : List ChunkRow} (a b : ℕ)
     → 4 * length fs + 3 < a
     → length fs < b
@@ -143,6 +143,11 @@ met-nothing fs a b h l e =
       members = λ t m k s. rw (e, zeros a (4 * slotOf fs t + m / 64)) (sym (zero-bit (m % 64)));
       barriers = λ t k. rw e (zeros b (slotOf fs t));
     }
+
+pub nothing-met : (f : ℕ → Fork) (n : ℕ) (rs : List ChunkRow) → n ≤ 512 → rs ≡ [] → Met (table f n) rs (replicate 2052 0) (replicate 513 0)
+nothing-met f n rs h e =
+    let l = table-length f n in
+    met-nothing (table f n) 2052 513 (omega arith) (omega arith) e
 
 -- one chunk more, of a member that was not met
 module _ (f : ℕ → Fork) (n : ℕ) (rs : List ChunkRow) (r : ChunkRow) (masks firsts : List ℕ)

@@ -6,8 +6,8 @@ use mathlib.Core.List.{List, [], _∷_, _++_, map}
 use native.Mathlib.Omega.{arith}
 use native.Mathlib.Numerals.{add-one}
 use lib.Dec.{eqb, leb}
-use lib.ListN.{length, getD, take, set, length-map}
-use lib.Seq.{take-suc-set, take-all}
+use lib.ListN.{length, getD, take, set, replicate, length-map, length-append, length-replicate}
+use lib.Seq.{take-suc-set, take-all, take-at, length-take-le}
 use borrow.Author.Tests.{le-leb, eqb-true, eq-eqb}
 use Rattle.sorting.specs.Order.{sorted}
 use Rattle.sorting.specs.Merging.{sorting}
@@ -104,3 +104,31 @@ pub teams-sorted :
 teams-sorted forks {words} {order} n room {r} few fits e q enough =
     let long : length words ≡ n = rw e (table-length (λ i. forkRowAt forks i .team * 65536 + i) n) in
     teams-ordered forks order n few fits (sorting-sorts r words order room q (omega arith) ∙ ap sorted e)
+
+pub few : (count n : ℕ) → count + n ≤ 512 → n ≤ 512
+few count n h = omega arith
+
+-- the first k of n words, written over
+module _ (n k : ℕ) (h : k ≤ n) where
+  front-length : length (take k (replicate {A = ℕ} n 0)) ≡ k
+  front-length = length-take-le k (replicate {A = ℕ} n 0) (rw (length-replicate {A = ℕ} n 0) h)
+
+  pub front-is : k ≡ length (take k (replicate {A = ℕ} n 0))
+  front-is = sym front-length
+
+  pub front-few : length (take k (replicate {A = ℕ} n 0)) ≤ n
+  front-few = rw front-length h
+
+  module _ (part rest : List ℕ) (e : length part ≡ length (take k (replicate {A = ℕ} n 0))) where
+    pub front-within : k ≤ length (part ++ rest)
+    front-within = let l = e ∙ front-length in rw (length-append part rest) (omega arith)
+
+    front-part : take k (part ++ rest) ≡ part
+    front-part = take-at part rest k (e ∙ front-length)
+
+    pub front-same : k ≡ length (take k (part ++ rest))
+    front-same = sym (ap length front-part ∙ e ∙ front-length)
+
+    pub front-ordered :
+        (f : ℕ → Fork) → ByTeam part (table f (length (take k (replicate {A = ℕ} n 0)))) → ByTeam (take k (part ++ rest)) (table f k)
+    front-ordered f by = rw front-part (rw front-length at by)
