@@ -69,6 +69,11 @@ module _ {A : Type 0} where
   all-intro p [] h = refl
   all-intro p (x ∷ xs) h = both (h x (List·Memᴰ·head refl)) (all-intro p xs (λ y m. h y (List·Memᴰ·tail m)))
 
+  -- tests that agree at each element of a list
+  pub all-agree : (p q : A → Bool) (xs : List A) → ((x : A) → List·Memᴰ x xs → p x ≡ q x) → all p xs ≡ all q xs
+  all-agree p q [] h = refl
+  all-agree p q (x ∷ xs) h = rw (h x (List·Memᴰ·head refl), all-agree p q xs (λ y m. h y (List·Memᴰ·tail m)))
+
   pub passing-elim : (p : A → Bool) {x : A} (xs : List A) → List·Memᴰ x (passing p xs) → List·Memᴰ x xs × (p x ≡ true)
   passing-elim p [] m = absurd (List·Memᴰ·not-nil m)
   passing-elim p {x} (y ∷ ys) m = go (passing-elim p ys) (p y) refl m

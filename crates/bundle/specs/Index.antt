@@ -1,10 +1,11 @@
 -- The index of a bundle: the rows that lent words hold, and which rows the chunks and REGIONs of a bundle have.
 use Prim.Native.Nat.{ℕ, zero, suc, _+_, _*_, _/_, _%_, _≤_, _<_}
 use mathlib.Core.Path.{_≡_}
-use mathlib.Core.Bool.{Bool, cond, _&&_}
+use mathlib.Core.Bool.{Bool, _&&_}
 use mathlib.Core.List.{List, [], _∷_}
 use lib.ListN.{length, getD}
 use lib.Dec.{eqb}
+unfoldable pub use Rattle.sorting.specs.Searching.{indexOf}
 use Rattle.bundle.specs.Answer.{gives}
 use Rattle.bundle.specs.Chunks.{Chunk, chunksOf, commandsOf}
 use Rattle.bundle.specs.Walk.{opensSegment, addsAccess, barriersOf, forksOf}
@@ -87,11 +88,6 @@ pub record Added {A : Type 0} (at : List ℕ → ℕ → A) (words words′ : Li
 -- whether a row is that of a team's member
 unfoldable pub isRow : ℕ → ℕ → ChunkRow → Bool
 isRow t m r = eqb (r .team) t && eqb (r .member) m
-
--- the index of the first element that passes; the length where there is none
-unfoldable pub indexOf : {A : Type 0} → (A → Bool) → List A → ℕ
-indexOf p [] = 0
-indexOf p (x ∷ xs) = cond (p x) 0 (suc (indexOf p xs))
 
 -- a sum over a list
 unfoldable pub total : {A : Type 0} → (A → ℕ) → List A → ℕ
