@@ -29,5 +29,10 @@ pub mod Finding
 pub mod LockBits
 pub mod Stepping
 pub mod Passing
+pub mod FailingAt
+pub mod Slots
+pub mod TeamOrder
+pub mod MetTables
+pub mod ShapeTests
 pub mod ShapeRows
 pub mod CheckCases

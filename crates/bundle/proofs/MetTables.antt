@@ -171,7 +171,7 @@ module _ (f : ℕ → Fork) (n : ℕ) (rs : List ChunkRow) (r : ChunkRow) (masks
           rw (e, ← q .0, ← q .1) (marked-here masks (slotOf fs (r .team)) (r .member) small room)
       go (inr e) =
           let apart : slotOf fs t ≡ slotOf fs (r .team) → m ≡ r .member → ⊥ =
-              λ p q. not-both (is-row r t m (sym (slots-differ f n t (r .team) k known p)) (sym q)) e
+          λ p q. not-both (is-row r t m (sym (slots-differ f n t (r .team) k known p)) (sym q)) e
           in
           marked-other masks (slotOf fs (r .team)) (r .member) small room (slotOf fs t) m h apart
           ∙ met .members t m k h
@@ -197,7 +197,7 @@ module _ (f : ℕ → Fork) (n : ℕ) (rs : List ChunkRow) (r : ChunkRow) (masks
           (getD-set-same firsts (slotOf fs t) (r .barriers) 0 (rw (q .0) at room))
       go (inr e) (inl z) =
           let apart : slotOf fs t ≡ slotOf fs (r .team) → ⊥ =
-              λ p. not-both (is-row r t 0 (sym (slots-differ f n t (r .team) k known p)) (eqb-true (r .member) 0 z)) e
+          λ p. not-both (is-row r t 0 (sym (slots-differ f n t (r .team) k known p)) (eqb-true (r .member) 0 z)) e
           in
           rw (first-skip (isRow t 0) rs r e, z) (getD-set-other firsts (slotOf fs (r .team)) (slotOf fs t) (r .barriers) 0 apart ∙ met .barriers t k)
       go (inr e) (inr z) = rw (first-skip (isRow t 0) rs r e, z) (met .barriers t k)

@@ -142,11 +142,10 @@ comes-opens : (p : Pass) (next : ℕ) (ps : List Placed) (t m : ℕ) → p .scan
 unfolding chunksToCome forksToCome newChunks newForks passAfter scanned gatherOne openRow rowsBehind openedAt rowsFrom chunkRow total logOf barriersOf commandsOf forksOf forksIn entriesOf opensSegment addsAccess
 comes-opens p next ps t m e =
     let cs = map (λ (q : Placed). q .command) (gather ps .body) in
-    rw e
-    (
+    rw e (
       ap₂ (λ (g n : ℕ). openRow (after p next ps (Com.Member t m)) cs (gather ps .past) ∷ rowsFrom g n (gather ps .chunks))
-      (sym (add-assoc (p .scan .segments) 1 (total opensSegment cs)))
-      (sym (add-assoc (p .scan .accesses) 0 (total addsAccess cs))),
+          (sym (add-assoc (p .scan .segments) 1 (total opensSegment cs)))
+          (sym (add-assoc (p .scan .accesses) 0 (total addsAccess cs))),
       refl,
     )
 
@@ -177,13 +176,12 @@ comes-plain p next ps c h e =
       d .scan,
       e,
       on-plain [] (λ t m. []) (closedRow p ∷ []) c h,
-    )
-    (
+    ) (
       ap₂ (λ (g n : ℕ). openRow p (c ∷ cs) (gather ps .past) ∷ rowsFrom g n (gather ps .chunks))
-      (sym (add-assoc (p .scan .segments) (opensSegment c) (total opensSegment cs)))
-      (sym (add-assoc (p .scan .accesses) (addsAccess c) (total addsAccess cs))),
+          (sym (add-assoc (p .scan .segments) (opensSegment c) (total opensSegment cs)))
+          (sym (add-assoc (p .scan .accesses) (addsAccess c) (total addsAccess cs))),
       append-assoc (newForks p c) (concatMap (forkAt (p .scan .team) (p .chunk .member)) (entriesFrom k (0 + opensSegment c) (0 + addsAccess c) (gather ps .body))) (forksOf (gather ps .chunks))
-      ∙ ap (λ (fs : List Fork). newForks p c ++ (fs ++ forksOf (gather ps .chunks))) (forks-any (p .scan .team) (p .chunk .member) k (0 + opensSegment c) (0 + addsAccess c) (gather ps .body)),
+          ∙ ap (λ (fs : List Fork). newForks p c ++ (fs ++ forksOf (gather ps .chunks))) (forks-any (p .scan .team) (p .chunk .member) k (0 + opensSegment c) (0 + addsAccess c) (gather ps .body)),
     )
 
 comes : (p : Pass) (next : ℕ) (ps : List Placed) (c : Command) → misplaced (p .scan) c ≡ false → Comes p next ps c

@@ -276,7 +276,15 @@ fn test_settled(
             cause: Cause::MissingChunk,
         };
     }
-    let i = first_failing(Test::LacksChunk, regions, chunks, forks, order, masks, firsts);
+    let i = first_failing(
+        Test::LacksChunk,
+        regions,
+        chunks,
+        forks,
+        order,
+        masks,
+        firsts,
+    );
     if i < regions {
         return at_fork(forks, i, Cause::MissingChunk);
     }
@@ -284,7 +292,15 @@ fn test_settled(
     if i < regions {
         return at_fork(forks, i, Cause::TooDeep);
     }
-    let i = first_failing(Test::UnlikeFirst, count, chunks, forks, order, masks, firsts);
+    let i = first_failing(
+        Test::UnlikeFirst,
+        count,
+        chunks,
+        forks,
+        order,
+        masks,
+        firsts,
+    );
     if i < count {
         return at_chunk(chunks, i, Cause::BarrierCount);
     }
@@ -304,7 +320,15 @@ fn test_all(
     requires { ⌜ ByTeam (now order) (table (forkRowAt (now forks)) regions) × Met (table (forkRowAt (now forks)) regions) (table (chunkRowAt (now chunks)) 0) (now masks) (now firsts) ⌝ }
     ensures { λ r. ⌜ checkingOf r ≡ shapeByRows (table (chunkRowAt (now (chunks .entry))) count) (table (forkRowAt (now (forks .entry))) regions) ⌝ }
 {
-    let i = first_failing(Test::ForkedBefore, regions, chunks, forks, order, masks, firsts);
+    let i = first_failing(
+        Test::ForkedBefore,
+        regions,
+        chunks,
+        forks,
+        order,
+        masks,
+        firsts,
+    );
     if i < regions {
         return at_fork(forks, i, Cause::ForkedBefore);
     }
