@@ -2,6 +2,7 @@
 pub mod Computing
 pub mod Examples
 pub mod Tests
+pub mod Tables
 pub mod Delimiters
 pub mod ListLaws
 pub mod Digits
@@ -23,3 +24,9 @@ pub mod ShapeOrder
 pub mod Reorder
 pub mod LockBits
 pub mod Stepping
+pub mod FailingAt
+pub mod Slots
+pub mod MetTables
+pub mod TeamOrder
+pub mod ShapeTests
+pub mod ShapeRows

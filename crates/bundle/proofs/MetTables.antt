@@ -2,9 +2,9 @@
 use Prim.Native.Nat.{ℕ, zero, suc, _+_, _-_, _*_, _/_, _%_, _^_, _≤_, _<_}
 use mathlib.Core.Path.{_≡_, refl, sym, _∙_, ap}
 use mathlib.Core.Logic.{_⊎_, inl, inr}
-use mathlib.Core.Bool.{Bool, true, false, cond, not, _&&_, _||_}
-use mathlib.Core.List.{List, [], _∷_, _++_, List·Memᴰ}
-use mathlib.Core.Option.{Option, none, some}
+use mathlib.Core.Bool.{Bool, true, false, cond, not, _||_}
+use mathlib.Core.List.{List, [], _∷_, _++_}
+use mathlib.Core.Option.{some}
 use native.Mathlib.Omega.{arith}
 use native.Mathlib.Nat.{div-eq-of-lt, one-mul}
 use native.Mathlib.Decide.{ℕ-discrete, decLt}
@@ -13,13 +13,13 @@ use lib.Bits.{bitOr, or-shr, or-mod, or-zero-r, shifted-even}
 use lib.ListN.{length, getD, set, replicate, length-set, length-replicate, List·getD-eq-default}
 use lib.Pow.{pow-pos, pow-lt, pow-add, shl-shr}
 use lib.Seq.{getD-set-same, getD-set-other}
-use borrow.Author.Tests.{eqb-true, eqb-false, eq-eqb, ne-eqb}
+use borrow.Author.Tests.{eqb-true, eq-eqb}
 use Rattle.bundle.specs.Lists.{upTo, any, all, first, fromOption}
 use Rattle.bundle.specs.Index.{table, isRow}
 use Rattle.bundle.specs.Shape.{firstBarriers, slotOf, metAt, markedAt, Known, Met, lacksBy}
 use Rattle.bundle.specs.declared.index.ChunkRow.{ChunkRow}
 use Rattle.bundle.specs.declared.index.Fork.{Fork}
-use Rattle.bundle.proofs.Tests.{both, and-left, and-right, or-other, or-false, not-both, is-false, decide}
+use Rattle.bundle.proofs.Tests.{both, and-left, and-right, or-false, not-both, is-false, decide}
 use Rattle.bundle.proofs.ListLaws.{all-elim, all-intro, upTo-elim, upTo-intro}
 use Rattle.bundle.proofs.Tables.{table-length}
 use Rattle.bundle.proofs.FailingAt.{any-last}
@@ -171,7 +171,7 @@ module _ (f : ℕ → Fork) (n : ℕ) (rs : List ChunkRow) (r : ChunkRow) (masks
           rw (e, ← q .0, ← q .1) (marked-here masks (slotOf fs (r .team)) (r .member) small room)
       go (inr e) =
           let apart : slotOf fs t ≡ slotOf fs (r .team) → m ≡ r .member → ⊥ =
-              λ p q. not-both (is-row r t m (sym (slots-differ f n t (r .team) k known p)) (sym q)) e
+          λ p q. not-both (is-row r t m (sym (slots-differ f n t (r .team) k known p)) (sym q)) e
           in
           marked-other masks (slotOf fs (r .team)) (r .member) small room (slotOf fs t) m h apart
           ∙ met .members t m k h
@@ -197,7 +197,7 @@ module _ (f : ℕ → Fork) (n : ℕ) (rs : List ChunkRow) (r : ChunkRow) (masks
           (getD-set-same firsts (slotOf fs t) (r .barriers) 0 (rw (q .0) at room))
       go (inr e) (inl z) =
           let apart : slotOf fs t ≡ slotOf fs (r .team) → ⊥ =
-              λ p. not-both (is-row r t 0 (sym (slots-differ f n t (r .team) k known p)) (eqb-true (r .member) 0 z)) e
+          λ p. not-both (is-row r t 0 (sym (slots-differ f n t (r .team) k known p)) (eqb-true (r .member) 0 z)) e
           in
           rw (first-skip (isRow t 0) rs r e, z) (getD-set-other firsts (slotOf fs (r .team)) (slotOf fs t) (r .barriers) 0 apart ∙ met .barriers t k)
       go (inr e) (inr z) = rw (first-skip (isRow t 0) rs r e, z) (met .barriers t k)
