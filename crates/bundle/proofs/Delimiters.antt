@@ -1,8 +1,16 @@
--- Each command opens a chunk, closes one, or does neither; and each forks a team or does not: laws of the questions with a default.
-use Prim.Native.Nat.{ℕ}
-use mathlib.Core.Path.{_≡_, refl}
+-- Each command opens a chunk, closes one, or does neither; each forks a team or
+-- does not, and is an access or is not: laws of the questions with a default.
+use Prim.Native.Nat.{ℕ, _+_, _≤_}
+use mathlib.Core.Path.{_≡_, refl, sym}
 use mathlib.Core.Bool.{Bool, true, false}
-use Rattle.bundle.specs.Cases.{onDelimiter, onRegion}
+use native.Mathlib.Omega.{arith}
+use lib.ListN.{length}
+use Rattle.bundle.specs.Cases.{onDelimiter, onRegion, onAccess}
+use Rattle.bundle.specs.Commands.{formOf, codeOf, widthsOf, operandBytes, bytesOf}
+use Rattle.bundle.specs.Chunks.{afterBarrier, afterJoin, afterAcquire, afterRelease, afterCommand}
+use Rattle.bundle.specs.Walk.{opensSegment}
+use Rattle.bundle.specs.declared.chunk.ChunkState.{ChunkState}
+use Rattle.bundle.specs.declared.command.Access.{Access}
 use Rattle.bundle.specs.declared.command.Command.{Command}
 use Rattle.bundle.specs.declared.command.Command.the-variants as Com
 use Rattle.bundle.proofs.Tests.{false-is-true}
@@ -58,7 +66,7 @@ pub on-other : {A : Type 0} (other : A) (region : ℕ → ℕ → A) (c : Comman
 unfolding forking
 on-other other region (Com.Member t m) e = refl
 on-other other region Com.End e = refl
-on-other other region (Com.Region t z) e = false-is-true e
+on-other other region (Com.Region t z) e = false-is-true (sym e)
 on-other other region Com.Barrier e = refl
 on-other other region (Com.Acquire l) e = refl
 on-other other region (Com.Release l) e = refl
@@ -77,3 +85,74 @@ forkings Com.Barrier = forks-none refl
 forkings (Com.Acquire l) = forks-none refl
 forkings (Com.Release l) = forks-none refl
 forkings (Com.Access a) = forks-none refl
+
+-- an access, or a command that touches no byte
+unfoldable pub accessing : Command → Bool
+accessing = onAccess false (λ a. true)
+
+pub on-no-access : {A : Type 0} (other : A) (access : Access → A) (c : Command) → accessing c ≡ false → onAccess other access c ≡ other
+unfolding accessing
+on-no-access other access (Com.Member t m) e = refl
+on-no-access other access Com.End e = refl
+on-no-access other access (Com.Region t z) e = refl
+on-no-access other access Com.Barrier e = refl
+on-no-access other access (Com.Acquire l) e = refl
+on-no-access other access (Com.Release l) e = refl
+on-no-access other access (Com.Access a) e = false-is-true (sym e)
+
+pub data Accessing : Command → Type 0 where
+  accesses-some : (a : Access) → Accessing (Com.Access a)
+  accesses-none : {c : Command} → accessing c ≡ false → Accessing c
+
+pub accessings : (c : Command) → Accessing c
+unfolding accessing
+accessings (Com.Member t m) = accesses-none refl
+accessings Com.End = accesses-none refl
+accessings (Com.Region t z) = accesses-none refl
+accessings Com.Barrier = accesses-none refl
+accessings (Com.Acquire l) = accesses-none refl
+accessings (Com.Release l) = accesses-none refl
+accessings (Com.Access a) = accesses-some a
+
+-- what closes a chunk forks no team, leaves the state as it is, and has one byte
+pub closes-forks-none : (c : Command) → closes c ≡ true → forking c ≡ false
+unfolding closes forking
+closes-forks-none (Com.Member t m) e = false-is-true e
+closes-forks-none Com.End e = refl
+closes-forks-none (Com.Region t z) e = false-is-true e
+closes-forks-none Com.Barrier e = refl
+closes-forks-none (Com.Acquire l) e = refl
+closes-forks-none (Com.Release l) e = refl
+closes-forks-none (Com.Access a) e = refl
+
+pub closes-keeps : (k : ChunkState) (c : Command) → closes c ≡ true → afterCommand k c ≡ k
+unfolding closes afterCommand
+closes-keeps k (Com.Member t m) e = refl
+closes-keeps k Com.End e = refl
+closes-keeps k (Com.Region t z) e = false-is-true e
+closes-keeps k Com.Barrier e = false-is-true e
+closes-keeps k (Com.Acquire l) e = false-is-true e
+closes-keeps k (Com.Release l) e = false-is-true e
+closes-keeps k (Com.Access a) e = refl
+
+pub closes-width : (c : Command) → closes c ≡ true → length (bytesOf c) ≡ 1
+unfolding closes bytesOf codeOf formOf widthsOf operandBytes
+closes-width (Com.Member t m) e = false-is-true e
+closes-width Com.End e = refl
+closes-width (Com.Region t z) e = false-is-true e
+closes-width Com.Barrier e = refl
+closes-width (Com.Acquire l) e = false-is-true e
+closes-width (Com.Release l) e = false-is-true e
+closes-width (Com.Access a) e = false-is-true e
+
+-- a barrier or a join opens a segment
+pub state-counts :
+    (k : ChunkState) (c : Command) → afterCommand k c .barriers + afterCommand k c .regions ≤ k .barriers + k .regions + opensSegment c
+unfolding afterCommand afterBarrier afterJoin afterAcquire afterRelease opensSegment
+state-counts k (Com.Member t m) = omega arith
+state-counts k Com.End = omega arith
+state-counts k (Com.Region t z) = omega arith
+state-counts k Com.Barrier = omega arith
+state-counts k (Com.Acquire l) = omega arith
+state-counts k (Com.Release l) = omega arith
+state-counts k (Com.Access a) = omega arith

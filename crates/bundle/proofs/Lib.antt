@@ -6,6 +6,8 @@ pub mod Tables
 pub mod Delimiters
 pub mod ListLaws
 pub mod Digits
+pub mod Operands
+pub mod Forms
 pub mod Decoding
 pub mod RoundTrip
 pub mod Ranges
@@ -22,11 +24,15 @@ pub mod Keys
 pub mod Shaped
 pub mod ShapeOrder
 pub mod Reorder
+pub mod Onward
+pub mod Finding
 pub mod LockBits
 pub mod Stepping
+pub mod Passing
 pub mod FailingAt
 pub mod Slots
 pub mod MetTables
 pub mod TeamOrder
 pub mod ShapeTests
 pub mod ShapeRows
+pub mod CheckCases

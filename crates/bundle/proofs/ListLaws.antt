@@ -242,6 +242,10 @@ module _ {A B : Type 0} where
 
 module _ {A B : Type 0} where
   -- what does not see that the elements are changed
+  pub concatMap-along : (f : A → List B) (g : A → A) (h : B → B) → ((x : A) → f (g x) ≡ map h (f x)) → (xs : List A) → concatMap f (map g xs) ≡ map h (concatMap f xs)
+  concatMap-along f g h e [] = refl
+  concatMap-along f g h e (x ∷ xs) = rw (e x, concatMap-along f g h e xs) (sym (map-append h (f x) (concatMap f xs)))
+
   pub concatMap-map : (f : A → List B) (g : A → A) → ((x : A) → f (g x) ≡ f x) → (xs : List A) → concatMap f (map g xs) ≡ concatMap f xs
   concatMap-map f g same [] = refl
   concatMap-map f g same (x ∷ xs) = rw (same x, concatMap-map f g same xs)

@@ -10,16 +10,15 @@ use lib.Dec.{eqb, ltb, leb}
 use borrow.Author.Tests.{eqb-true, eq-eqb}
 use Rattle.bundle.specs.Answer.{Answer, gives, refuses}
 use Rattle.bundle.specs.Lists.{upTo, any, all, first, concatMap, fromOption}
-use Rattle.bundle.specs.Chunks.{Placed, Chunk, fresh, afterCommand, afterCommands, commandsOf, isOf, chunkOf}
-use Rattle.bundle.specs.Check.{Fork, forkHere, forksFrom, forksIn, forksOf, forkOf, sizeOf, depthFrom, depthOf, barriersOf, failing, forkedBefore, stray, lacksChunk, unlikeFirst, refusedAt, shapeOf}
-use Rattle.bundle.specs.declared.chunk.ChunkState.{ChunkState}
-use Rattle.bundle.specs.declared.command.Command.{Command}
-use Rattle.bundle.specs.declared.command.Command.the-variants as Com
+use Rattle.bundle.specs.Chunks.{Chunk, isOf, chunkOf}
+use Rattle.bundle.specs.Walk.{forksOf}
+use Rattle.bundle.specs.declared.index.Fork.{Fork}
+use Rattle.bundle.specs.Check.{forkOf, sizeOf, depthOf, failing, forkedBefore, stray, lacksChunk, unlikeFirst, refusedAt, shapeOf}
 use Rattle.bundle.proofs.Tests.{both, and-left, and-right, is-false, not-both}
 use Rattle.bundle.proofs.ListLaws.{Distinct, perm-mem, perm-map, perm-concatMap}
 use Rattle.bundle.proofs.Keys.{perm-distinct, perm-any, perm-first, all-same, distinct-key}
 use Rattle.bundle.proofs.Failing.{failing-none, none-failing, each-passes, passes-each, once-elim, once-intro, refused-none, none-refused}
-use Rattle.bundle.proofs.Places.{unplacedCommand, unplaced, memberKey, commandsOf-unplaced}
+use Rattle.bundle.proofs.Places.{memberKey}
 
 -- what a list of chunks has that passes 8 to 12
 pub record Shaped (cs : List Chunk) : Type 0 where

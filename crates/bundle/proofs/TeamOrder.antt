@@ -9,8 +9,7 @@ use lib.Dec.{eqb}
 use lib.ListN.{length, getD, take, set, replicate, length-map, length-append, length-replicate}
 use lib.Seq.{take-suc-set, take-all, take-at, length-take-le}
 use borrow.Author.Tests.{le-leb, eqb-true, eq-eqb}
-use Rattle.sorting.specs.Order.{sorted}
-use Rattle.sorting.specs.Merging.{sorting}
+use Rattle.sorting.specs.Order.{sorted, sorting}
 use Rattle.sorting.specs.Searching.{keyedFrom, Keyed}
 use Rattle.sorting.proofs.Insertion.{sorted-length}
 use Rattle.sorting.proofs.KeyOrder.{first-with-key}

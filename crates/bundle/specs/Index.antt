@@ -122,5 +122,7 @@ chunkRows cs = rowsFrom 0 0 cs
 pub record Indexed (s : List ℕ) (n m : ℕ) (chunks forks : List ℕ) : Type 0 where
   pub accepted : checkOf s ≡ gives tt
   pub few : n + m ≤ 512
+  pub chunk-table : length chunks ≡ 1024
+  pub fork-table : length forks ≡ 1536
   pub chunk-rows : table (chunkRowAt chunks) n ≡ chunkRows (chunksOf s)
   pub fork-rows : table (forkRowAt forks) m ≡ forksOf (chunksOf s)

@@ -6,12 +6,12 @@ use mathlib.Core.List.{List, [], _∷_, _++_, map}
 use lib.Dec.{eqb, ltb, leb}
 use lib.ListN.{length}
 use Rattle.bundle.specs.Answer.{Answer, gives, refuses, whenGiven, numberOf}
-use Rattle.bundle.specs.Commands.{Taken, inRange, decodeAt}
+use Rattle.bundle.specs.Commands.{Taken, decodeAt}
 use Rattle.bundle.specs.Lists.{concatMap}
 use Rattle.bundle.specs.Cases.{onDelimiter, onRegion}
 use Rattle.bundle.specs.Chunks.{Placed, Chunk, Gathered, afterCommands, frontFrom, gather, chunksOf}
 use Rattle.bundle.specs.Walk.{opensSegment, addsAccess, entriesFrom, forkAt, forksOf}
-use Rattle.bundle.specs.Scan.{misusesLock, faultOf, start, scanned, walk, scanOf}
+use Rattle.bundle.specs.Scan.{faultOf, start, scanned, walk, scanOf}
 use Rattle.bundle.specs.Index.{table, chunkRowAt, forkRowAt, total, rowsFrom, chunkRows}
 use Rattle.bundle.specs.declared.refusal.Cause.{Cause}
 use Rattle.bundle.specs.declared.refusal.Cause.the-variants as Causes
@@ -19,8 +19,6 @@ use Rattle.bundle.specs.declared.chunk.ChunkState.{ChunkState}
 use Rattle.bundle.specs.declared.chunk.Scan.{Scan}
 use Rattle.bundle.specs.declared.command.Command.{Command}
 use Rattle.bundle.specs.declared.command.Command.the-variants as Com
-use Rattle.bundle.specs.declared.command.Reading.{Reading}
-use Rattle.bundle.specs.declared.command.Reading.the-variants as Read
 use Rattle.bundle.specs.declared.index.ChunkRow.{ChunkRow}
 use Rattle.bundle.specs.declared.index.Fork.{Fork}
 use Rattle.bundle.specs.declared.survey.Open.{Open}
@@ -38,11 +36,6 @@ pub record Bounded (k : Scan) : Type 0 where
   pub accesses : k .accesses ≤ 1024
   pub opened : k .state .barriers + k .state .regions ≤ k .segments
 
-pub record Fitting (k : Scan) (c : Command) : Type 0 where
-  pub bounded : Bounded k
-  pub in-range : inRange c ≡ true
-  pub locks-ok : misusesLock (k .state .locks) c ≡ false
-
 abbrev pub counted : Scan → ChunkState → ℕ → ℕ → Scan
 counted k state opens adds =
     record {
@@ -53,15 +46,20 @@ counted k state opens adds =
       accesses = k .accesses + adds;
     }
 
-abbrev pub causeIn : Reading → Cause
-causeIn (Read.Taken command next) = Causes.OutOfRange
-causeIn (Read.Refused cause place) = cause
-
 -- one command of the scan: the scan after it, the command, and the position after it
 pub record Stepped : Type 0 where
   pub scan : Scan
   pub command : Command
   pub next : ℕ
+
+-- what was read, with the scan as it stands
+abbrev pub unmoved : Scan → Answer Taken → Answer Stepped
+unmoved k a = whenGiven a (λ t. gives (record { scan = k; command = t .command; next = t .next }))
+
+-- 4 to 7 in that order, where the tests say so
+abbrev pub decided : ℕ → Bool → Bool → Bool → Bool → Answer Stepped → Answer Stepped
+decided at misplaced beyond misused many onward =
+    cond misplaced (refuses 4 at) (cond beyond (refuses 5 at) (cond misused (refuses 6 at) (cond many (refuses 7 at) onward)))
 
 unfoldable pub testedAt : Scan → ℕ → Taken → Answer Stepped
 testedAt k at t =
@@ -73,7 +71,7 @@ unfoldable pub stepAt : List ℕ → ℕ → Scan → Answer Stepped
 stepAt s at k = whenGiven (decodeAt s at) (testedAt k at)
 
 abbrev pub stepOf : Step → Answer Stepped
-stepOf (Steps.Onward scan command next) = gives (record { scan = scan; command = command; next = next })
+stepOf (Steps.Onward next scan command) = gives (record { scan = scan; command = command; next = next })
 stepOf (Steps.Refused place cause) = refuses (numberOf cause) place
 
 -- the pass at the front of a bundle
@@ -138,6 +136,8 @@ pub record Notable (p : Pass) (chunks forks : List ℕ) : Type 0 where
 
 pub record Noted (p : Pass) (c : Command) (k : Scan) (next : ℕ) (r : Pass) (chunks forks chunks′ forks′ : List ℕ) : Type 0 where
   pub pass : r ≡ passAfter p c k next
+  pub chunk-long : length chunks′ ≡ length chunks
+  pub fork-long : length forks′ ≡ length forks
   pub chunk-rows : table (chunkRowAt chunks′) (r .chunks) ≡ table (chunkRowAt chunks) (p .chunks) ++ newChunks p c
   pub fork-rows : table (forkRowAt forks′) (r .forks) ≡ table (forkRowAt forks) (p .forks) ++ newForks p c
 
@@ -163,7 +163,7 @@ chunksToCome p g =
     let cs = map (λ (q : Placed). q .command) (g .body) in
     cond (p .scan .inside)
     (openRow p cs (g .past) ∷ rowsBehind (p .scan) cs (g .chunks))
-    (rowsBehind (p .scan) [] (g .chunks))
+    (rowsFrom (p .scan .segments) (p .scan .accesses) (g .chunks))
 
 unfoldable pub forksToCome : Pass → Gathered → List Fork
 forksToCome p g =
@@ -200,6 +200,8 @@ pub record InTables (s : List ℕ) (n m : ℕ) (chunks forks : List ℕ) : Type 
   pub scan : Scan
   pub passes : scanOf s ≡ gives scan
   pub few : n + m ≤ 512
+  pub chunk-table : length chunks ≡ 1024
+  pub fork-table : length forks ≡ 1536
   pub chunk-rows : table (chunkRowAt chunks) n ≡ chunkRows (chunksOf s)
   pub fork-rows : table (forkRowAt forks) m ≡ forksOf (chunksOf s)
 

@@ -171,9 +171,9 @@ fn turn_at(bytes: &[u8], pass: Pass, chunks: &mut [u64], forks: &mut [u64]) -> T
 {
     match step_at(bytes, pass.at, pass.scan) {
         Step::Onward {
+            next,
             scan,
             command,
-            next,
         } => Turn::Onward(note(pass, command, scan, next, chunks, forks)),
         Step::Refused { place, cause } => Turn::Refused { place, cause },
     }

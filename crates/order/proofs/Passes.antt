@@ -78,7 +78,7 @@ module _ {A : Type 0} {from : Segment → List Placed → A} {whole : A} {s : Li
       → Pass from whole s at k
       → at < length s
       → readingOf r ≡ readAt s at
-      → r ≡ Read.Refused cause place
+      → r ≡ Read.Refused place cause
       → ⊥
   not-refused {at} {k} {r} {cause} {place} p h e q = onward-read s at (numberOf cause) place (p .onwards) h (sym e ∙ ap readingOf q)
 
@@ -86,7 +86,7 @@ module _ {A : Type 0} {from : Segment → List Placed → A} {whole : A} {s : Li
       {at : ℕ} {k : Segment} {r : Reading} {c : Command} {next : ℕ}
       → Pass from whole s at k
       → readingOf r ≡ readAt s at
-      → r ≡ Read.Taken c next
+      → r ≡ Read.Taken next c
       → Turn from whole s at k c next
   turns {at} {k} {r} {c} {next} p e q =
       let t : Taken = record { command = c; next = next } in

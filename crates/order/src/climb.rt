@@ -1,7 +1,7 @@
 // The label of a segment, found by climbing from its team to the root.
 use crate::label::Label;
 use crate::label::Triple;
-use bundle::check::Checking;
+use bundle::answer::Checking;
 use bundle::check::check;
 use bundle::command::Command;
 use bundle::command::Reading;
@@ -120,7 +120,7 @@ fn find_fork(bytes: &[u8], team: u16) -> Forking
     };
     while at < bytes.len() {
         let reading = read_command(bytes, at);
-        let Reading::Taken { command, next } = reading else {
+        let Reading::Taken { next, command } = reading else {
             return Forking::Nothing;
         };
         let here = fork_here(segment, command, team);
@@ -157,7 +157,7 @@ fn find_segment(bytes: &[u8], team: u16, member: u8, number: u32) -> Seeking
     };
     while at < bytes.len() {
         let reading = read_command(bytes, at);
-        let Reading::Taken { command, next } = reading else {
+        let Reading::Taken { next, command } = reading else {
             return Seeking::Nothing;
         };
         segment = after(segment, command);

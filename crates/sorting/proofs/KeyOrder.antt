@@ -1,14 +1,14 @@
 -- The first row with a key, found in the sorted words of the rows' keys and indices.
 use Prim.Native.Nat.{ℕ, zero, suc, _+_, _*_, _/_, _%_, _≤_, _<_}
 use mathlib.Core.Path.{_≡_, refl, sym, _∙_, ap}
-use mathlib.Core.Bool.{Bool, true, false, cond, _&&_}
 use mathlib.Core.List.{List, [], _∷_}
 use native.Mathlib.Omega.{arith}
 use native.Mathlib.Decide.{ℕ-discrete, decLt}
-use lib.Dec.{eqb, ltb}
+use lib.Dec.{eqb}
 use lib.ListN.{length, getD}
+use lib.Seq.{ext-getD}
 use borrow.Author.Tests.{lt-ltb, le-ltb, eq-eqb, ne-eqb}
-use Rattle.sorting.specs.Order.{sorted, All}
+use Rattle.sorting.specs.Order.{sorted}
 use Rattle.sorting.specs.Searching.{lowerBound, LowerBound, keyedFrom, Keyed, firstWithKey, indexOf}
 use Rattle.sorting.proofs.Insertion.{all-at, at-all, sorted-all, all-sorted, sorted-length, sorted-ascending, ascending-at}
 use Rattle.sorting.proofs.Halving.{lower-bound}
@@ -45,7 +45,7 @@ index-first key (k ∷ ks) (suc j) h is no-other =
     rw (ne-eqb key k (λ e. no-other 0 (omega arith) (sym e)))
     (ap suc (index-first key ks j (omega arith) (λ l. is (omega arith)) (λ i l. no-other (suc i) (omega arith))))
 
-keyed-length : (n : ℕ) (keys : List ℕ) → length (keyedFrom n keys) ≡ length keys
+pub keyed-length : (n : ℕ) (keys : List ℕ) → length (keyedFrom n keys) ≡ length keys
 unfolding keyedFrom
 keyed-length n [] = refl
 keyed-length n (k ∷ ks) = ap suc (keyed-length (suc n) ks)
@@ -55,6 +55,16 @@ unfolding keyedFrom
 keyed-at n [] i h = absurd (omega arith)
 keyed-at n (k ∷ ks) zero h = omega arith
 keyed-at n (k ∷ ks) (suc i) h = omega (arith, keyed-at (suc n) ks i (omega arith))
+
+-- words that hold each key and index are these words
+pub keyed-of :
+    (keys words : List ℕ)
+    → length words ≡ length keys
+    → ((i : ℕ) → i < length keys → getD words i 0 ≡ getD keys i 0 * 65536 + i)
+    → words ≡ keyedFrom 0 keys
+keyed-of keys words e each =
+    ext-getD 0 words (keyedFrom 0 keys) (e ∙ sym (keyed-length 0 keys))
+    (λ i h. let l : i < length keys = omega arith in omega (arith, each i l, keyed-at 0 keys i l))
 
 -- a word of a row
 record OfRow (keys : List ℕ) (word : ℕ) : Type 0 where

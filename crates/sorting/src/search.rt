@@ -20,7 +20,7 @@ pub fn lower_bound(words: &[u64], word: u64) -> usize
 }
 
 // Where the words are `key * 65536 + index` of the rows of a table, sorted: the index of the first row with this key, or the number of rows
-// where there is none (`first-with-key` of proofs/Keyed.antt).
+// where there is none (`first-with-key` of proofs/KeyOrder.antt).
 pub fn first_with_key(order: &[u64], key: u64) -> usize
     ensures { λ r. ⌜ r ≡ firstWithKey (now (order .entry)) key ⌝ }
 {

@@ -4,7 +4,7 @@ use crate::numbers::four_bytes;
 use crate::numbers::two_bytes;
 use crate::text;
 use crate::text::Line;
-use bundle::check::Checking;
+use bundle::answer::Checking;
 use order::climb::LabelAnswer;
 use order::climb::Labelling;
 use order::label::Label;

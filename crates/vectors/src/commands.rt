@@ -66,8 +66,8 @@ fn put_taken(out: &mut [u8], used: usize, command: Command, next: usize) -> usiz
 
 fn put_reading(out: &mut [u8], used: usize, reading: Reading) -> usize {
     match reading {
-        Reading::Taken { command, next } => put_taken(out, used, command, next),
-        Reading::Refused { cause, place } => text::put_refusal(out, used, cause, place),
+        Reading::Taken { next, command } => put_taken(out, used, command, next),
+        Reading::Refused { place, cause } => text::put_refusal(out, used, cause, place),
     }
 }
 
@@ -125,7 +125,7 @@ fn put_putting(out: &mut [u8], used: usize, putting: Putting) -> usize {
             let then = text::put_text(out, used, b"put");
             text::put_field(out, then, next as u64)
         }
-        Putting::Refused { cause, place } => text::put_refusal(out, used, cause, place),
+        Putting::Refused { place, cause } => text::put_refusal(out, used, cause, place),
     }
 }
 

@@ -10,3 +10,7 @@ pub mod RaceList
 pub mod SameRaces
 pub mod Demand3
 pub mod NextRace
+pub mod Warshall
+pub mod BitRows
+pub mod ListPlaces
+pub mod MatrixPaths

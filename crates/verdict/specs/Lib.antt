@@ -4,3 +4,5 @@ pub mod Races
 pub mod Judge
 pub mod Demand
 pub mod Table
+pub mod Matrix
+pub mod Working

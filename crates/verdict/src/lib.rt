@@ -1,2 +1,4 @@
 // The races of a bundle: the judgement, and the next race.
+mod matrix;
 pub mod race;
+mod rows;

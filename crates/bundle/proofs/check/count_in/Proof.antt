@@ -14,11 +14,11 @@ enum-known-checking c = search needs
 
 -- src/check.rt:27:1
 returns : tie.Need-returns
-returns c = ?
+returns c = rw (c .enum-told .given .1)
 
 -- src/check.rt:27:1
 returns-2 : tie.Need-returns-2
-returns-2 c = ?
+returns-2 c = rw (c .before .checking .given .1)
 
 pub count-in-spec : {M : Type 1} → statement M
 count-in-spec = tie.close (tie.spec enum-told enum-known-checking returns returns-2)

@@ -1,3 +1,6 @@
+use native.Mathlib.Omega.{arith}
+use lib.ListN.{length-set}
+use Rattle.bundle.proofs.Tables.{fork-added, stored-fork}
 use borrow.Author.Needs.{needs}
 use Rattle.bundle.proofs.index.add_fork.Statement.{statement}
 use Rattle.bundle.proofs.index.add_fork.Tie as tie
@@ -47,7 +50,7 @@ mul-forks-2 c = search needs
 
 -- src/index.rt:148:5
 slice-write-forks-2 : tie.Need-slice-write-forks-2
-slice-write-forks-2 c = ?
+slice-write-forks-2 c = simp length-set (omega (arith, c .before .before .before .before .before .before .before .pre .0))
 
 -- src/index.rt:155:11
 add-forks-2 : tie.Need-add-forks-2
@@ -67,7 +70,7 @@ same-length c = search needs
 
 -- src/index.rt:135:1
 returns : tie.Need-returns
-returns c = ?
+returns c = fork-added _ _ _ _ _ _ (c .before .before .before .before .before .before .before .pre .0) (stored-fork _ _ _ (c .before .before .before .pack .ensures) (c .pack2 .ensures))
 
 pub add-fork-spec : {M : Type 1} → statement M
 add-fork-spec =

@@ -1,3 +1,4 @@
+use Rattle.bundle.specs.Index.{chunkRowAt, chunkRowOf}
 use borrow.Author.Needs.{needs}
 use Rattle.bundle.proofs.index.chunk_at.Statement.{statement}
 use Rattle.bundle.proofs.index.chunk_at.Tie as tie
@@ -56,7 +57,8 @@ cast-t12 c = search needs
 
 -- src/index.rt:73:1
 returns : tie.Need-returns
-returns c = ?
+unfolding chunkRowAt chunkRowOf
+returns c = rw (c .before .before .before .before .before .unpack2 .ensures, c .before .before .before .before .before .before .word-at2 .ensures, c .before .before .before .before .before .before .before .unpack .ensures, c .before .before .before .before .before .before .before .before .word-at .ensures)
 
 pub chunk-at-spec : {M : Type 1} → statement M
 chunk-at-spec =

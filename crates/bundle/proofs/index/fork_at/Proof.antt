@@ -1,3 +1,4 @@
+use Rattle.bundle.specs.Index.{forkRowAt, forkRowOf}
 use borrow.Author.Needs.{needs}
 use Rattle.bundle.proofs.index.fork_at.Statement.{statement}
 use Rattle.bundle.proofs.index.fork_at.Tie as tie
@@ -52,7 +53,8 @@ cast-t10 c = search needs
 
 -- src/index.rt:91:1
 returns : tie.Need-returns
-returns c = ?
+unfolding forkRowAt forkRowOf
+returns c = rw (c .before .before .before .word-at3 .ensures, c .before .before .before .before .unpack2 .ensures, c .before .before .before .before .before .word-at2 .ensures, c .before .before .before .before .before .before .unpack .ensures, c .before .before .before .before .before .before .before .word-at .ensures)
 
 pub fork-at-spec : {M : Type 1} → statement M
 fork-at-spec =

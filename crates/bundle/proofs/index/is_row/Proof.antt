@@ -1,3 +1,4 @@
+use Rattle.bundle.specs.Index.{isRow}
 use borrow.Author.Needs.{needs}
 use Rattle.bundle.proofs.index.is_row.Statement.{statement}
 use Rattle.bundle.proofs.index.is_row.Tie as tie
@@ -11,7 +12,8 @@ chunk-at-requires c κs = search needs
 
 -- src/index.rt:159:1
 returns : tie.Need-returns
-returns c = ?
+unfolding isRow
+returns c = rw (c .before .before .chunk-at .ensures)
 
 pub is-row-spec : {M : Type 1} → statement M
 is-row-spec = tie.close (tie.spec chunk-at-requires returns)

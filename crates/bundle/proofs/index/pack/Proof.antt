@@ -1,3 +1,4 @@
+use Rattle.bundle.proofs.Tables.{packed}
 use borrow.Author.Needs.{needs}
 use Rattle.bundle.proofs.index.pack.Statement.{statement}
 use Rattle.bundle.proofs.index.pack.Tie as tie
@@ -58,7 +59,7 @@ add-result-4 c = search needs
 
 -- src/index.rt:39:1
 returns : tie.Need-returns
-returns c = ?
+returns c = packed _ (search needs) (search needs) (search needs) (search needs)
 
 pub pack-spec : {M : Type 1} → statement M
 pack-spec =

@@ -1,3 +1,4 @@
+use Rattle.bundle.specs.Survey.{openedAt}
 use borrow.Author.Needs.{needs}
 use Rattle.bundle.proofs.survey.opened.Statement.{statement}
 use Rattle.bundle.proofs.survey.opened.Tie as tie
@@ -18,7 +19,8 @@ cast-t6 c = search needs
 
 -- src/survey.rt:71:1
 returns : tie.Need-returns
-returns c = ?
+unfolding openedAt
+returns c = search needs
 
 pub opened-spec : {M : Type 1} → statement M
 opened-spec = tie.close (tie.spec cast-t4 cast-t5 cast-t6 returns)

@@ -1,72 +1,62 @@
+use Rattle.bundle.proofs.Passing.{turned-on, turned-off, fewer-left, surveyed-finish}
+-- `bundle::survey::survey_all` meets its contract. The invariant: what the rest of the bundle adds is the whole. The measure: the bytes
+-- left. Assumes nothing.
+use borrow.Author.Needs.{needs}
+use mathlib.Core.Path.{sym, _∙_, ap, subst}
+use Prim.Native.Nat.{_-_, _≤_}
+use lib.ListN.{length}
+use Rattle.bundle.specs.Survey.{Surveying, Turned, Surveyed}
+use Rattle.bundle.proofs.Passing.{surveying-start, surveyed-end}
 use Rattle.bundle.proofs.survey.survey_all.Statement.{statement}
 use Rattle.bundle.proofs.survey.survey_all.Tie as tie
-use Rattle.bundle.proofs.survey.survey_all.Reads as reads
-use Rattle.bundle.proofs.survey.survey_all.Lts as lts
-use Rattle.bundle.proofs.survey.begin.Reads as begin-reads
-use Rattle.bundle.proofs.survey.finish.Reads as finish-reads
-use Rattle.bundle.proofs.survey.turn_at.Reads as turn-at-reads
 
 abbrev Inv-loop : tie.InvT-loop
-Inv-loop bytes chunks₀ forks₀ pass₀ chunks forks pass = ?
+Inv-loop bytes chunks₀ forks₀ pass₀ chunks forks pass = Surveying bytes pass chunks forks
 
 abbrev μ-loop : tie.MeasureT-loop
-μ-loop bytes chunks₀ forks₀ pass₀ chunks forks pass = ?
+μ-loop bytes chunks₀ forks₀ pass₀ chunks forks pass = length bytes - pass .at
 
--- src/survey.rt:204:9
 begin-requires : tie.Need-begin-requires Inv-loop μ-loop
-begin-requires c κs = ?
+begin-requires c κs = search needs
 
--- src/survey.rt:205:5
 loop-holds : tie.Need-loop-holds Inv-loop μ-loop
-loop-holds c = ?
+loop-holds c = surveying-start _ _ _ _ (c .begin .ensures) (c .before .before .before .before .pre .0) (c .before .before .before .before .pre .1) (c .before .before .before .before .pre .2)
 
--- src/survey.rt:206:15
 turn-at-requires : tie.Need-turn-at-requires Inv-loop μ-loop
-turn-at-requires c κs = ?
+turn-at-requires c κs = (c .before .before .if1 .taken, c .before .before .before .before .loop .inv)
 
--- src/survey.rt:207:26
 enum-known-next : tie.Need-enum-known-next Inv-loop μ-loop
-enum-known-next c = ?
+enum-known-next c = search needs
 
--- src/survey.rt:205:5
 loop-less : tie.Need-loop-less Inv-loop μ-loop
-loop-less c = ?
+loop-less c = fewer-left _ _ _ (c .before .before .before .before .before .before .before .before .before .before .if1 .taken) (turned-on _ _ _ _ (c .before .before .before .before .before .before .before .turn-at .ensures) (c .before .next .given .1) .0)
 
--- src/survey.rt:205:5
 loop-again : tie.Need-loop-again Inv-loop μ-loop
-loop-again c = ?
+loop-again c = turned-on _ _ _ _ (c .before .before .before .before .before .before .before .turn-at .ensures) (c .before .next .given .1) .1
 
--- src/survey.rt:210:29
 enum-known-place : tie.Need-enum-known-place Inv-loop μ-loop
-enum-known-place c = ?
+enum-known-place c = search needs
 
--- src/survey.rt:211:17
 same-length : tie.Need-same-length Inv-loop μ-loop
-same-length c = ?
+same-length c = search needs
 
--- src/survey.rt:211:17
 same-length-2 : tie.Need-same-length-2 Inv-loop μ-loop
-same-length-2 c = ?
+same-length-2 c = search needs
 
--- src/survey.rt:211:17
 returns : tie.Need-returns Inv-loop μ-loop
-returns c = ?
+returns c = turned-off _ _ _ _ (c .before .before .before .before .before .before .before .turn-at .ensures) (c .before .place .given .1)
 
--- src/survey.rt:215:5
 finish-requires : tie.Need-finish-requires Inv-loop μ-loop
-finish-requires c κs = ?
+finish-requires c κs = search needs
 
--- src/survey.rt:200:1
 same-length-3 : tie.Need-same-length-3 Inv-loop μ-loop
-same-length-3 c = ?
+same-length-3 c = search needs
 
--- src/survey.rt:200:1
 same-length-4 : tie.Need-same-length-4 Inv-loop μ-loop
-same-length-4 c = ?
+same-length-4 c = search needs
 
--- src/survey.rt:200:1
 returns-2 : tie.Need-returns-2 Inv-loop μ-loop
-returns-2 c = ?
+returns-2 c = surveyed-finish _ _ _ _ (c .before .if1 .left) (c .before .before .before .loop .inv) (c .finish .ensures)
 
 pub survey-all-spec : {M : Type 1} → statement M
 survey-all-spec =
