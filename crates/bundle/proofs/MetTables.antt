@@ -2,9 +2,9 @@
 use Prim.Native.Nat.{ℕ, zero, suc, _+_, _-_, _*_, _/_, _%_, _^_, _≤_, _<_}
 use mathlib.Core.Path.{_≡_, refl, sym, _∙_, ap}
 use mathlib.Core.Logic.{_⊎_, inl, inr}
-use mathlib.Core.Bool.{Bool, true, false, cond, not, _&&_, _||_}
-use mathlib.Core.List.{List, [], _∷_, _++_, List·Memᴰ}
-use mathlib.Core.Option.{Option, none, some}
+use mathlib.Core.Bool.{Bool, true, false, cond, not, _||_}
+use mathlib.Core.List.{List, [], _∷_, _++_}
+use mathlib.Core.Option.{some}
 use native.Mathlib.Omega.{arith}
 use native.Mathlib.Nat.{div-eq-of-lt, one-mul}
 use native.Mathlib.Decide.{ℕ-discrete, decLt}
@@ -13,13 +13,13 @@ use lib.Bits.{bitOr, or-shr, or-mod, or-zero-r, shifted-even}
 use lib.ListN.{length, getD, set, replicate, length-set, length-replicate, List·getD-eq-default}
 use lib.Pow.{pow-pos, pow-lt, pow-add, shl-shr}
 use lib.Seq.{getD-set-same, getD-set-other}
-use borrow.Author.Tests.{eqb-true, eqb-false, eq-eqb, ne-eqb}
+use borrow.Author.Tests.{eqb-true, eq-eqb}
 use Rattle.bundle.specs.Lists.{upTo, any, all, first, fromOption}
 use Rattle.bundle.specs.Index.{table, isRow}
 use Rattle.bundle.specs.Shape.{firstBarriers, slotOf, metAt, markedAt, Known, Met, lacksBy}
 use Rattle.bundle.specs.declared.index.ChunkRow.{ChunkRow}
 use Rattle.bundle.specs.declared.index.Fork.{Fork}
-use Rattle.bundle.proofs.Tests.{both, and-left, and-right, or-other, or-false, not-both, is-false, decide}
+use Rattle.bundle.proofs.Tests.{both, and-left, and-right, or-false, not-both, is-false, decide}
 use Rattle.bundle.proofs.ListLaws.{all-elim, all-intro, upTo-elim, upTo-intro}
 use Rattle.bundle.proofs.Tables.{table-length}
 use Rattle.bundle.proofs.FailingAt.{any-last}

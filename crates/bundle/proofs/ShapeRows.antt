@@ -1,14 +1,13 @@
 -- The tests 8 to 12 over the rows of a bundle's chunks are those over the chunks.
-use Prim.Native.Nat.{ℕ, _+_}
-use mathlib.Core.Path.{_≡_, refl, sym, _∙_, ap}
-use mathlib.Core.Bool.{Bool, true, false, cond, not, _||_}
+use Prim.Native.Nat.{ℕ}
+use mathlib.Core.Path.{_≡_, refl, ap}
+use mathlib.Core.Bool.{Bool, true, false, cond, not}
 use mathlib.Core.List.{List, [], _∷_}
-use mathlib.Core.Option.{Option, none, some}
-use lib.Dec.{eqb, leb}
-use Rattle.bundle.specs.Lists.{upTo, any, all, first, fromOption}
+use mathlib.Core.Option.{some}
+use Rattle.bundle.specs.Lists.{upTo, any, first, fromOption}
 use Rattle.bundle.specs.Chunks.{Chunk, isOf, chunkOf}
 use Rattle.bundle.specs.Walk.{barriersOf, forksOf}
-use Rattle.bundle.specs.Check.{Fork, sizeOf, failing, stray, lacksChunk, unlikeFirst, shapeOf}
+use Rattle.bundle.specs.Check.{Fork, failing, stray, lacksChunk, unlikeFirst, shapeOf}
 use Rattle.bundle.specs.Index.{isRow, chunkRow, rowsFrom, chunkRows}
 use Rattle.bundle.specs.Shape.{strayRow, lacksRow, firstBarriers, unlikeRow, settledByRows, shapeByRows}
 use Rattle.bundle.specs.declared.index.ChunkRow.{ChunkRow}

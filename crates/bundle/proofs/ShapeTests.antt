@@ -2,22 +2,21 @@
 use Prim.Native.Nat.{ℕ, _+_, _*_, _≤_, _<_}
 use mathlib.Core.Path.{_≡_, refl, sym, _∙_, ap}
 use mathlib.Core.Logic.{_⊎_, inl, inr}
-use mathlib.Core.Bool.{Bool, true, false, cond, not, _&&_, _||_, and-true}
-use mathlib.Core.List.{List, [], _∷_, _++_}
+use mathlib.Core.Bool.{Bool, true, false, cond, not, _||_, and-true}
+use mathlib.Core.List.{List, []}
 use native.Mathlib.Omega.{arith}
 use native.Mathlib.Numerals.{add-one}
 use lib.Dec.{eqb, ltb, leb}
-use lib.ListN.{length, getD, set}
+use lib.ListN.{length, set}
 use borrow.Author.Tests.{leb-false}
 use Rattle.sorting.specs.Searching.{firstWithKey}
 use Rattle.bundle.specs.Answer.{Answer, gives, refuses}
-use Rattle.bundle.specs.Lists.{upTo, any, all}
+use Rattle.bundle.specs.Lists.{upTo, any}
 use Rattle.bundle.specs.Check.{sizeOf, depthOf, failing, forkedBefore, refusedAt}
 use Rattle.bundle.specs.Index.{chunkRowOf, chunkRowAt, forkRowOf, forkRowAt, table, isRow}
-use Rattle.bundle.specs.Shape.{strayRow, lacksRow, firstBarriers, unlikeRow, settledByRows, shapeByRows, passed, failsAt, FirstFailing, slotOf, ByTeam, metAt, markedAt, Known, Met, Settled, lacksBy, failsBy}
+use Rattle.bundle.specs.Shape.{strayRow, lacksRow, unlikeRow, settledByRows, shapeByRows, passed, failsAt, FirstFailing, slotOf, ByTeam, metAt, markedAt, Known, Met, Settled, lacksBy, failsBy}
 use Rattle.bundle.specs.declared.index.ChunkRow.{ChunkRow}
 use Rattle.bundle.specs.declared.index.Fork.{Fork}
-use Rattle.bundle.specs.declared.shape.Test.{Test}
 use Rattle.bundle.specs.declared.shape.Test.the-variants.{ForkedBefore, LacksChunk, TooDeep, UnlikeFirst}
 use Rattle.bundle.proofs.Tests.{decide, or-false}
 use Rattle.bundle.proofs.ListLaws.{all-agree, upTo-elim}

@@ -1,5 +1,5 @@
 -- The slot of a team, and what the tests 8 and 11 and the size of a team are by it.
-use Prim.Native.Nat.{ℕ, zero, suc, _+_, _-_, _*_, _/_, _%_, _≤_, _<_}
+use Prim.Native.Nat.{ℕ, zero, suc, _-_, _*_, _/_, _%_, _≤_, _<_}
 use mathlib.Core.Path.{_≡_, refl, sym, _∙_, ap}
 use mathlib.Core.Logic.{_⊎_, inl, inr}
 use mathlib.Core.Bool.{Bool, true, false, cond, _&&_}
@@ -9,12 +9,12 @@ use native.Mathlib.Omega.{arith}
 use native.Mathlib.Decide.{ℕ-discrete, decLt}
 use lib.Dec.{eqb, ltb, leb, leb·suc-suc}
 use lib.ListN.{length, getD}
-use borrow.Author.Tests.{ltb-true, ltb-false, le-ltb, le-leb, lt-leb, leb-false, eqb-true, eq-eqb, ne-eqb}
+use borrow.Author.Tests.{ltb-true, ltb-false, le-ltb, le-leb, lt-leb, eqb-true, eq-eqb, ne-eqb}
 use Rattle.sorting.specs.Searching.{lowerBound, firstWithKey}
-use Rattle.bundle.specs.Lists.{any, first, fromOption}
+use Rattle.bundle.specs.Lists.{fromOption}
 use Rattle.bundle.specs.Check.{forkOf, sizeOf, depthFrom, depthOf, forkedBefore}
-use Rattle.bundle.specs.Index.{forkRowAt, table, indexOf}
-use Rattle.bundle.specs.Shape.{passed, failsAt, FirstFailing, slotOf, ByTeam, Known, climbs, deepBy}
+use Rattle.bundle.specs.Index.{forkRowAt, table}
+use Rattle.bundle.specs.Shape.{failsAt, FirstFailing, slotOf, ByTeam, Known, climbs, deepBy}
 use Rattle.bundle.specs.declared.index.Fork.{Fork}
 use Rattle.bundle.proofs.Tests.{decide, not-both}
 use Rattle.bundle.proofs.Tables.{table-length, first-at, first-past}

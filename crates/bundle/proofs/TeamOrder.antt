@@ -1,16 +1,16 @@
 -- The REGIONs in the order of their teams: in the sorted words a team's slot is found by its number.
 use Prim.Native.Nat.{ℕ, zero, suc, _+_, _*_, _/_, _≤_, _<_}
 use mathlib.Core.Path.{_≡_, refl, sym, _∙_, ap}
-use mathlib.Core.Bool.{Bool, true, false, cond}
+use mathlib.Core.Bool.{Bool, true}
 use mathlib.Core.List.{List, [], _∷_, _++_, map}
 use native.Mathlib.Omega.{arith}
 use native.Mathlib.Numerals.{add-one}
-use lib.Dec.{eqb, leb}
+use lib.Dec.{eqb}
 use lib.ListN.{length, getD, take, set, replicate, length-map, length-append, length-replicate}
 use lib.Seq.{take-suc-set, take-all, take-at, length-take-le}
 use borrow.Author.Tests.{le-leb, eqb-true, eq-eqb}
 use Rattle.sorting.specs.Order.{sorted, sorting}
-use Rattle.sorting.specs.Searching.{keyedFrom, Keyed, firstWithKey}
+use Rattle.sorting.specs.Searching.{keyedFrom, Keyed}
 use Rattle.sorting.proofs.Insertion.{sorted-length}
 use Rattle.sorting.proofs.KeyOrder.{first-with-key}
 use Rattle.bundle.specs.Index.{forkRowOf, forkRowAt, tableFrom, table, indexOf}

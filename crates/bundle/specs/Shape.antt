@@ -88,6 +88,15 @@ pub record Met (fs : List Fork) (rs : List ChunkRow) (masks firsts : List ℕ) :
   pub members : (t m : ℕ) → Known fs t → m < 256 → metAt masks (slotOf fs t) m ≡ any (isRow t m) rs
   pub barriers : (t : ℕ) → Known fs t → getD firsts (slotOf fs t) 0 ≡ firstBarriers rs t
 
+-- the tables where no chunk was met, and where those before the first stray one were
+pub record Ready (chunks forks order masks firsts : List ℕ) (regions : ℕ) : Type 0 where
+  pub by-team : ByTeam order (table (forkRowAt forks) regions)
+  pub met : Met (table (forkRowAt forks) regions) (table (chunkRowAt chunks) 0) masks firsts
+
+pub record MetTo (chunks forks masks firsts : List ℕ) (count regions r : ℕ) : Type 0 where
+  pub first : FirstFailing (failsAt (strayRow (table (forkRowAt forks) regions)) (chunkRowAt chunks)) count r
+  pub met : Met (table (forkRowAt forks) regions) (table (chunkRowAt chunks) r) masks firsts
+
 -- what is known past 8 and 9
 pub record Settled (chunks forks order masks firsts : List ℕ) (count regions : ℕ) : Type 0 where
   pub by-team : ByTeam order (table (forkRowAt forks) regions)

@@ -14,7 +14,7 @@ ghost use lib.ListN.{length, getD, set};
 ghost use Rattle.sorting.specs.Searching.{firstWithKey};
 ghost use Rattle.bundle.specs.Check.{sizeOf, checkingOf};
 ghost use Rattle.bundle.specs.Index.{table, chunkRowAt, forkRowAt};
-ghost use Rattle.bundle.specs.Shape.{strayRow, settledByRows, shapeByRows, failsAt, FirstFailing, slotOf, ByTeam, metAt, markedAt, Met, Settled, climbs, deepBy, lacksBy, failsBy};
+ghost use Rattle.bundle.specs.Shape.{settledByRows, shapeByRows, FirstFailing, slotOf, ByTeam, metAt, markedAt, Ready, MetTo, Settled, climbs, deepBy, lacksBy, failsBy};
 ghost use Rattle.bundle.specs.declared.answer.Checking.the-variants as Checks;
 
 // The tests of a row by tables that are complete.
@@ -111,8 +111,8 @@ fn first_stray(
     masks: &mut [u64],
     firsts: &mut [u32],
 ) -> u32
-    requires { ⌜ ByTeam (now order) (table (forkRowAt (now forks)) regions) × Met (table (forkRowAt (now forks)) regions) (table (chunkRowAt (now chunks)) 0) (now masks) (now firsts) ⌝ }
-    ensures { λ r. ⌜ FirstFailing (failsAt (strayRow (table (forkRowAt (now (forks .entry))) regions)) (chunkRowAt (now (chunks .entry)))) count r × Met (table (forkRowAt (now (forks .entry))) regions) (table (chunkRowAt (now (chunks .entry))) r) (now (masks .exit)) (now (firsts .exit)) ⌝ }
+    requires { ⌜ Ready (now chunks) (now forks) (now order) (now masks) (now firsts) regions ⌝ }
+    ensures { λ r. ⌜ MetTo (now (chunks .entry)) (now (forks .entry)) (now (masks .exit)) (now (firsts .exit)) count regions r ⌝ }
 {
     let mut i = 0;
     while i < count {
@@ -227,16 +227,17 @@ fn first_failing(
     requires { ⌜ length (now order) ≤ 512 ⌝ }
     ensures { λ r. ⌜ FirstFailing (failsBy test (now (chunks .entry)) (now (forks .entry)) (now (order .entry)) (now (masks .entry)) (now (firsts .entry))) rows r ⌝ }
 {
-    let mut i = 0;
-    while i < rows {
-        if fails(test, i, chunks, forks, order, masks, firsts) {
-            return i;
+    let mut row = 0;
+    while row < rows {
+        if fails(test, row, chunks, forks, order, masks, firsts) {
+            return row;
         }
-        i += 1;
+        row += 1;
     }
-    i
+    row
 }
 
+// A refusal at a REGION, or at a chunk.
 fn at_fork(forks: &[u64], i: u32, cause: Cause) -> Checking
     ensures { λ r. ⌜ r ≡ Checks.Refused (forkRowAt (now (forks .entry)) i .place) cause ⌝ }
 {
@@ -317,7 +318,7 @@ fn test_all(
     masks: &mut [u64],
     firsts: &mut [u32],
 ) -> Checking
-    requires { ⌜ ByTeam (now order) (table (forkRowAt (now forks)) regions) × Met (table (forkRowAt (now forks)) regions) (table (chunkRowAt (now chunks)) 0) (now masks) (now firsts) ⌝ }
+    requires { ⌜ Ready (now chunks) (now forks) (now order) (now masks) (now firsts) regions ⌝ }
     ensures { λ r. ⌜ checkingOf r ≡ shapeByRows (table (chunkRowAt (now (chunks .entry))) count) (table (forkRowAt (now (forks .entry))) regions) ⌝ }
 {
     let i = first_failing(

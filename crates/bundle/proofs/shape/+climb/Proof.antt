@@ -1,3 +1,4 @@
+-- `bundle::shape::climb` meets its contract. Assumes nothing.
 use borrow.Author.Needs.{needs}
 use Rattle.bundle.proofs.Slots.{climbs-none, climbs-ends, climbs-goes}
 use mathlib.Core.Path.{_∙_}
@@ -21,7 +22,6 @@ climb-at t = and 2 climb-kinds.ps (is 2 climb-kinds.ps μ-climb t) climb.Pre
 abbrev climb-below : ℕ → In 2 climb-kinds.ps
 climb-below t = and 2 climb-kinds.ps (falls 2 climb-kinds.ps _<_ μ-climb t) climb.Pre
 
--- src/shape.rt:150:9
 climb-returns : (t : ℕ) → climb-lts.Need-returns (
   slot-of-reads.Asked,
   slot-of-reads.Learnt,
@@ -32,7 +32,6 @@ climb-returns : (t : ℕ) → climb-lts.Need-returns (
 ) (climb-at t) climb.Post
 climb-returns t c = climbs-none _ _ _ _ (c .if1 .taken)
 
--- src/shape.rt:152:9
 climb-slot-of-requires : (t : ℕ) → climb-lts.Need-slot-of-requires (
   slot-of-reads.Asked,
   slot-of-reads.Learnt,
@@ -43,7 +42,6 @@ climb-slot-of-requires : (t : ℕ) → climb-lts.Need-slot-of-requires (
 ) (climb-at t) climb.Post
 climb-slot-of-requires t c κs = search needs
 
--- src/shape.rt:153:23
 climb-cast-if2 : (t : ℕ) → climb-lts.Need-cast-if2 (
   slot-of-reads.Asked,
   slot-of-reads.Learnt,
@@ -54,7 +52,6 @@ climb-cast-if2 : (t : ℕ) → climb-lts.Need-cast-if2 (
 ) (climb-at t) climb.Post
 climb-cast-if2 t c = search needs
 
--- src/shape.rt:154:9
 climb-returns-2 : (t : ℕ) → climb-lts.Need-returns-2 (
   slot-of-reads.Asked,
   slot-of-reads.Learnt,
@@ -65,7 +62,6 @@ climb-returns-2 : (t : ℕ) → climb-lts.Need-returns-2 (
 ) (climb-at t) climb.Post
 climb-returns-2 t c = climbs-ends _ _ _ _ (c .before .before .if1 .left) _ (c .before .slot-of .ensures) (c .if2 .taken)
 
--- src/shape.rt:156:9
 climb-fork-at-requires : (t : ℕ) → climb-lts.Need-fork-at-requires (
   slot-of-reads.Asked,
   slot-of-reads.Learnt,
@@ -76,7 +72,6 @@ climb-fork-at-requires : (t : ℕ) → climb-lts.Need-fork-at-requires (
 ) (climb-at t) climb.Post
 climb-fork-at-requires t c κs = search needs
 
--- src/shape.rt:157:37
 climb-sub-climb : (t : ℕ) → climb-lts.Need-sub-climb (
   slot-of-reads.Asked,
   slot-of-reads.Learnt,
@@ -87,7 +82,6 @@ climb-sub-climb : (t : ℕ) → climb-lts.Need-sub-climb (
 ) (climb-at t) climb.Post
 climb-sub-climb t c = search needs
 
--- src/shape.rt:157:5
 climb-climb-requires : (t : ℕ) → climb-lts.Need-climb-requires (
   slot-of-reads.Asked,
   slot-of-reads.Learnt,
@@ -98,7 +92,6 @@ climb-climb-requires : (t : ℕ) → climb-lts.Need-climb-requires (
 ) (climb-at t) climb.Post
 climb-climb-requires t c κs = search needs
 
--- src/shape.rt:145:1
 climb-returns-3 : (t : ℕ) → climb-lts.Need-returns-3 (
   slot-of-reads.Asked,
   slot-of-reads.Learnt,

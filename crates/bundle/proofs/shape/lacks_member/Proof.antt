@@ -1,5 +1,6 @@
+-- `bundle::shape::lacks_member` meets its contract. Assumes nothing.
 use borrow.Author.Tests.{not-true, not-false}
-use mathlib.Core.Path.{sym, _∙_}
+use mathlib.Core.Path.{sym, _∙_, _≡_}
 use borrow.Author.Needs.{needs}
 use Rattle.bundle.proofs.MetTables.{lacks-one, lacks-none}
 use Rattle.bundle.specs.Shape.{metAt}
@@ -7,12 +8,8 @@ use borrow.Author.Count.{below-more}
 use native.Mathlib.Omega.{arith}
 use Prim.Native.Nat.{ℕ, _≤_, _<_, _-_}
 use mathlib.Core.Bool.{true}
-use mathlib.Core.Path.{_≡_}
 use Rattle.bundle.proofs.shape.lacks_member.Statement.{statement}
 use Rattle.bundle.proofs.shape.lacks_member.Tie as tie
-use Rattle.bundle.proofs.shape.lacks_member.Reads as reads
-use Rattle.bundle.proofs.shape.lacks_member.Lts as lts
-use Rattle.bundle.proofs.shape.met.Reads as met-reads
 
 abbrev Inv-loop : tie.InvT-loop
 Inv-loop masks slot size member₀ member = (member ≤ size) × ((m : ℕ) → m < member → metAt masks slot m ≡ true)
@@ -20,31 +17,24 @@ Inv-loop masks slot size member₀ member = (member ≤ size) × ((m : ℕ) → 
 abbrev μ-loop : tie.MeasureT-loop
 μ-loop masks slot size member₀ member = size - member
 
--- src/shape.rt:135:5
 loop-holds : tie.Need-loop-holds Inv-loop μ-loop
 loop-holds c = (search needs, λ m h. absurd (omega arith))
 
--- src/shape.rt:136:13
 met-requires : tie.Need-met-requires Inv-loop μ-loop
 met-requires c κs = search needs
 
--- src/shape.rt:137:13
 returns : tie.Need-returns Inv-loop μ-loop
 returns c = lacks-one _ _ _ _ (c .before .before .loop-test .taken) (sym (c .before .met .ensures) ∙ not-true _ (c .if1 .taken))
 
--- src/shape.rt:139:9
 add-member : tie.Need-add-member Inv-loop μ-loop
 add-member c = search needs
 
--- src/shape.rt:135:5
 loop-less : tie.Need-loop-less Inv-loop μ-loop
 loop-less c = search needs
 
--- src/shape.rt:135:5
 loop-again : tie.Need-loop-again Inv-loop μ-loop
 loop-again c = (search needs, below-more _ _ (c .before .before .before .loop .inv .1) (sym (c .before .met .ensures) ∙ not-false _ (c .if1 .left)))
 
--- src/shape.rt:131:1
 returns-2 : tie.Need-returns-2 Inv-loop μ-loop
 returns-2 c = lacks-none _ _ _ (λ m h. c .before .loop .inv .1 m (omega (arith, c .loop-test .left)))
 
