@@ -9,7 +9,7 @@ use native.Mathlib.Omega.{arith}
 use borrow.Author.Tests.{ne-eqb, lt-leb, le-leb, lt-ltb, le-ltb}
 use lib.ListN.{length, getD}
 use Rattle.bundle.specs.Answer.{gives, refuses}
-use Rattle.bundle.specs.Commands.{kindOf, accessWidths, accessOf, formOf, total, widthOf, operandsFrom, commandAt, inRange, decodeByte, decodeAt, ranged, readAt, readingOf}
+use Rattle.bundle.specs.Commands.{kindOf, accessWidths, accessOf, formOf, sum, widthOf, operandsFrom, commandAt, inRange, decodeByte, decodeAt, ranged, readAt, readingOf}
 use Rattle.bundle.specs.Inner.{StandsAt, AccessAt}
 use Rattle.bundle.specs.declared.refusal.Cause.{Cause}
 use Rattle.bundle.specs.declared.command.Command.{Command}
@@ -57,18 +57,18 @@ module _ (s : List ℕ) (at : ℕ) (stands : AccessAt s at) where
   access-stands : StandsAt s at (getD s at 0)
   access-stands = record { within = stands .within; byte = refl }
 
-  access-width : widthOf (getD s at 0) ≡ suc (total accessWidths)
+  access-width : widthOf (getD s at 0) ≡ suc (sum accessWidths)
   unfolding widthOf
   access-width = rw (form-of-access (getD s at 0) (stands .low) (stands .high))
 
-  pub access-cut : length s - at < suc (total accessWidths) → refuses 3 at ≡ decodeAt s at
+  pub access-cut : length s - at < suc (sum accessWidths) → refuses 3 at ≡ decodeAt s at
   access-cut h = decode-cut s at access-stands (rw access-width h)
 
   pub access-whole :
       (c : Command)
-      → suc (total accessWidths) ≤ length s - at
+      → suc (sum accessWidths) ≤ length s - at
       → c ≡ accessOf (kindOf (getD s at 0)) (λ k. getD (operandsFrom s at 1 accessWidths) k 0)
-      → gives (record { command = c; next = at + suc (total accessWidths) }) ≡ decodeAt s at
+      → gives (record { command = c; next = at + suc (sum accessWidths) }) ≡ decodeAt s at
   unfolding commandAt
   access-whole c h e =
       let w = access-width in

@@ -18,7 +18,7 @@ use Rattle.bundle.specs.Commands.{
   Taken,
   Form,
   formOf,
-  total,
+  sum,
   widthOf,
   widthsOf,
   operandsFrom,
@@ -37,7 +37,7 @@ use Rattle.bundle.proofs.Operands.{operands-before, operands-behind}
 
 -- what a form says of its byte
 module _ {b : ℕ} (k : Known b) where
-  pub known-width : widthOf b ≡ suc (total (k .form .widths))
+  pub known-width : widthOf b ≡ suc (sum (k .form .widths))
   unfolding widthOf
   known-width = rw (k .is)
 
@@ -54,7 +54,7 @@ pub width-known : (b : ℕ) → eqb (widthOf b) 0 ≡ false → Known b
 unfolding widthOf
 width-known b = go (formOf b) refl
   where
-    go : (o : Option Form) → formOf b ≡ o → eqb (fromOption 0 (λ f. suc (total (f .widths))) o) 0 ≡ false → Known b
+    go : (o : Option Form) → formOf b ≡ o → eqb (fromOption 0 (λ f. suc (sum (f .widths))) o) 0 ≡ false → Known b
     go none e w = absurd (true≢false w)
     go (some f) e w = record { form = f; is = e }
 

@@ -31,8 +31,8 @@ pub mod Stepping
 pub mod Passing
 pub mod FailingAt
 pub mod Slots
-pub mod MetTables
 pub mod TeamOrder
+pub mod MetTables
 pub mod ShapeTests
 pub mod ShapeRows
 pub mod CheckCases

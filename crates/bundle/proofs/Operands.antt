@@ -11,7 +11,7 @@ use borrow.Author.Tests.{lt-ltb, ltb-true}
 use lib.Dec.{ltb}
 use lib.ListN.{length, take, drop, length-append}
 use lib.Seq.{take-add, drop-drop}
-use Rattle.bundle.specs.Commands.{Bytes, lowFirst, numberAt, total, operandsFrom, operandBytes, fitWidths}
+use Rattle.bundle.specs.Commands.{Bytes, lowFirst, numberAt, sum, operandsFrom, operandBytes, fitWidths}
 use Rattle.bundle.proofs.Tests.{false-is-true, and-left, and-right}
 use Rattle.bundle.proofs.Digits.{length-lowFirst, number-behind, number-before, digits-written, digits-between}
 
@@ -30,9 +30,9 @@ fit-one {w} {x} h f = record { eq = rw (lt-ltb x (256 ^ w) h, f .eq) }
 -- operands before other bytes, and behind them
 pub operands-before :
     (s q : List ℕ) (at offset : ℕ) (ws : List ℕ)
-    → at + offset + total ws ≤ length s
+    → at + offset + sum ws ≤ length s
     → operandsFrom (s ++ q) at offset ws ≡ operandsFrom s at offset ws
-unfolding operandsFrom total
+unfolding operandsFrom sum
 operands-before s q at offset [] h = refl
 operands-before s q at offset (w ∷ ws) h =
     ap₂ {C = List ℕ} (λ (x : ℕ) (xs : List ℕ). x ∷ xs)
@@ -73,16 +73,16 @@ operands-read (w ∷ ws) (x ∷ xs) e p offset l =
 pub operands-written :
     (ws s : List ℕ) (at offset : ℕ)
     → Bytes s
-    → at + offset + total ws ≤ length s
-    → operandBytes ws (operandsFrom s at offset ws) ≡ take (total ws) (drop (at + offset) s)
-unfolding total operandsFrom operandBytes
+    → at + offset + sum ws ≤ length s
+    → operandBytes ws (operandsFrom s at offset ws) ≡ take (sum ws) (drop (at + offset) s)
+unfolding sum operandsFrom operandBytes
 operands-written [] s at offset b h = refl
 operands-written (w ∷ ws) s at offset b h =
     let last = operands-written ws s at (offset + w) b (omega arith) in
-    rw (digits-written w s (at + offset) b (omega arith), last, take-add w (total ws), drop-drop, add-assoc)
+    rw (digits-written w s (at + offset) b (omega arith), last, take-add w (sum ws), drop-drop, add-assoc)
 
-pub length-operands : (ws xs : List ℕ) → fitWidths ws xs ≡ true → length (operandBytes ws xs) ≡ total ws
-unfolding fitWidths total operandBytes
+pub length-operands : (ws xs : List ℕ) → fitWidths ws xs ≡ true → length (operandBytes ws xs) ≡ sum ws
+unfolding fitWidths sum operandBytes
 length-operands [] xs e = refl
 length-operands (w ∷ ws) [] e = false-is-true e
 length-operands (w ∷ ws) (x ∷ xs) e =

@@ -142,11 +142,10 @@ comes-opens : (p : Pass) (next : ℕ) (ps : List Placed) (t m : ℕ) → p .scan
 unfolding chunksToCome forksToCome newChunks newForks passAfter scanned gatherOne openRow rowsBehind openedAt rowsFrom chunkRow total logOf barriersOf commandsOf forksOf forksIn entriesOf opensSegment addsAccess
 comes-opens p next ps t m e =
     let cs = map (λ (q : Placed). q .command) (gather ps .body) in
-    rw e
-    (
+    rw e (
       ap₂ (λ (g n : ℕ). openRow (after p next ps (Com.Member t m)) cs (gather ps .past) ∷ rowsFrom g n (gather ps .chunks))
-      (sym (add-assoc (p .scan .segments) 1 (total opensSegment cs)))
-      (sym (add-assoc (p .scan .accesses) 0 (total addsAccess cs))),
+          (sym (add-assoc (p .scan .segments) 1 (total opensSegment cs)))
+          (sym (add-assoc (p .scan .accesses) 0 (total addsAccess cs))),
       refl,
     )
 
@@ -177,13 +176,12 @@ comes-plain p next ps c h e =
       d .scan,
       e,
       on-plain [] (λ t m. []) (closedRow p ∷ []) c h,
-    )
-    (
+    ) (
       ap₂ (λ (g n : ℕ). openRow p (c ∷ cs) (gather ps .past) ∷ rowsFrom g n (gather ps .chunks))
-      (sym (add-assoc (p .scan .segments) (opensSegment c) (total opensSegment cs)))
-      (sym (add-assoc (p .scan .accesses) (addsAccess c) (total addsAccess cs))),
+          (sym (add-assoc (p .scan .segments) (opensSegment c) (total opensSegment cs)))
+          (sym (add-assoc (p .scan .accesses) (addsAccess c) (total addsAccess cs))),
       append-assoc (newForks p c) (concatMap (forkAt (p .scan .team) (p .chunk .member)) (entriesFrom k (0 + opensSegment c) (0 + addsAccess c) (gather ps .body))) (forksOf (gather ps .chunks))
-      ∙ ap (λ (fs : List Fork). newForks p c ++ (fs ++ forksOf (gather ps .chunks))) (forks-any (p .scan .team) (p .chunk .member) k (0 + opensSegment c) (0 + addsAccess c) (gather ps .body)),
+          ∙ ap (λ (fs : List Fork). newForks p c ++ (fs ++ forksOf (gather ps .chunks))) (forks-any (p .scan .team) (p .chunk .member) k (0 + opensSegment c) (0 + addsAccess c) (gather ps .body)),
     )
 
 comes : (p : Pass) (next : ℕ) (ps : List Placed) (c : Command) → misplaced (p .scan) c ≡ false → Comes p next ps c
@@ -568,19 +566,30 @@ module _ (p : Pass) (k : Scan) (next : ℕ) (r : Pass) (chunks forks : List ℕ)
       }
 
   pub noted-chunk :
-      (chunks′ : List ℕ) (row : ChunkRow)
+      (c : Command) (chunks′ : List ℕ) (row : ChunkRow)
+      → closes c ≡ true
       → r ≡ record { at = next; scan = k; chunk = p .chunk; chunks = p .chunks + 1; forks = p .forks }
       → row ≡ closedRow p
       → Added chunkRowAt chunks chunks′ (p .chunks) row
-      → Noted p Com.End k next r chunks forks chunks′ forks
-  unfolding passAfter newChunks newForks
-  noted-chunk chunks′ row e w x =
+      → Noted p c k next r chunks forks chunks′ forks
+  noted-chunk c chunks′ row h e w x =
+      let none : newForks p c ≡ [] = unfold newForks in (on-other [] (λ t z. forkHere p t z ∷ []) c (closes-forks-none c h)) in
+      let one : newChunks p c ≡ closedRow p ∷ [] = unfold newChunks in (on-closes [] (λ t m. []) (closedRow p ∷ []) c h) in
       record {
-        pass = e;
+        pass =
+            e
+            ∙ unfold passAfter in
+            (rw (
+              on-closes (p .chunk) (λ t m. openedAt p m) (p .chunk) c h,
+              on-closes (p .chunks) (λ t m. p .chunks) (p .chunks + 1) c h,
+              on-other (p .forks) (λ t z. p .forks + 1) c (closes-forks-none c h),
+            ));
         chunk-long = x .long;
         fork-long = refl;
-        chunk-rows = rw e (table-added chunkRowAt x ∙ ap (λ (z : ChunkRow). table (chunkRowAt chunks) (p .chunks) ++ (z ∷ [])) w);
-        fork-rows = rw e (sym (append-nil (table (forkRowAt forks) (p .forks))));
+        chunk-rows =
+            rw (e, one)
+            (table-added chunkRowAt x ∙ ap (λ (z : ChunkRow). table (chunkRowAt chunks) (p .chunks) ++ (z ∷ [])) w);
+        fork-rows = rw (e, none) (sym (append-nil (table (forkRowAt forks) (p .forks))));
       }
 
   pub noted-fork :

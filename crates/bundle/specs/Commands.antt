@@ -91,12 +91,12 @@ codeOf (Com.Access a) =
     }
 
 -- how many bytes the command with this first byte has, operands included; 0 for an unknown command byte
-unfoldable pub total : List ℕ → ℕ
-total [] = 0
-total (w ∷ ws) = w + total ws
+unfoldable pub sum : List ℕ → ℕ
+sum [] = 0
+sum (w ∷ ws) = w + sum ws
 
 unfoldable pub widthOf : ℕ → ℕ
-widthOf b = fromOption 0 (λ f. suc (total (f .widths))) (formOf b)
+widthOf b = fromOption 0 (λ f. suc (sum (f .widths))) (formOf b)
 
 unfoldable pub widthsOf : ℕ → List ℕ
 widthsOf b = fromOption [] (λ f. f .widths) (formOf b)

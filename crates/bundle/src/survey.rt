@@ -2,11 +2,11 @@
 use crate::chunk::ChunkState;
 use crate::chunk::Scan;
 use crate::command::Command;
-use crate::refusal::Cause;
 use crate::index::ChunkRow;
 use crate::index::Fork;
 use crate::index::add_chunk;
 use crate::index::add_fork;
+use crate::refusal::Cause;
 use crate::scan::Step;
 use crate::scan::step_at;
 ghost use mathlib.Core.Path.{_≡_};
@@ -147,7 +147,14 @@ fn note(
     let fork_count = pass.forks;
     match command {
         Command::Member { team: _, member } => {
-            move_on(pass, scan, next, opened(pass, member), chunk_count, fork_count)
+            move_on(
+                pass,
+                scan,
+                next,
+                opened(pass, member),
+                chunk_count,
+                fork_count,
+            )
         }
         Command::End => {
             add_chunk(chunks, chunk_count, closed_row(pass));

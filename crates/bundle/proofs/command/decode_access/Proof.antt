@@ -1,7 +1,7 @@
 -- `bundle::command::decode_access` meets its contract. Assumes nothing.
 use Prim.Native.Nat.{_+_}
 use mathlib.Core.Path.{sym, _∙_}
-use Rattle.bundle.specs.Commands.{total, operandsFrom}
+use Rattle.bundle.specs.Commands.{sum, operandsFrom}
 use Rattle.bundle.specs.declared.command.Command.the-variants as Com
 use Rattle.bundle.proofs.Digits.{number-one}
 use Rattle.bundle.proofs.Arms.{access-cut, access-whole}
@@ -10,11 +10,11 @@ use Rattle.bundle.proofs.command.decode_access.Statement.{statement}
 use Rattle.bundle.proofs.command.decode_access.Tie as tie
 
 returns : tie.Need-returns
-unfolding total
+unfolding sum
 returns c = c .cut-off .ensures ∙ access-cut _ _ (c .before .before .before .pre) (c .before .if1 .taken)
 
 returns-2 : tie.Need-returns-2
-unfolding total operandsFrom
+unfolding sum operandsFrom
 returns-2 c =
     let left = c .before .before .before .before .before .before .before in
     let start = left .before .before in

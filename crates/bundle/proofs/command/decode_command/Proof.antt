@@ -1,6 +1,6 @@
 -- `bundle::command::decode_command` meets its contract. Assumes nothing.
 use mathlib.Core.Path.{refl}
-use Rattle.bundle.specs.Commands.{formOf, total, widthOf, commandAt}
+use Rattle.bundle.specs.Commands.{formOf, sum, widthOf, commandAt}
 use Rattle.bundle.proofs.Forms.{no-form}
 use Rattle.bundle.proofs.Arms.{decode-past, decode-unknown, decode-whole}
 use native.Mathlib.Omega.{arith}
@@ -12,12 +12,12 @@ returns : tie.Need-returns
 returns c = decode-past _ _ (c .if1 .taken)
 
 returns-3 : tie.Need-returns-3
-unfolding formOf total widthOf commandAt
+unfolding formOf sum widthOf commandAt
 returns-3 c =
     decode-whole _ _ (record { within = c .before .before .if1 .left; byte = c .match .keys2 }) _ (omega arith) (search needs) refl
 
 returns-5 : tie.Need-returns-5
-unfolding formOf total widthOf commandAt
+unfolding formOf sum widthOf commandAt
 returns-5 c =
     decode-whole _ _ (record { within = c .before .before .if1 .left; byte = c .match .keys4 }) _ (omega arith) (search needs) refl
 

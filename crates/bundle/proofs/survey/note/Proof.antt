@@ -1,5 +1,6 @@
 use mathlib.Core.Path.{refl}
 use Rattle.bundle.specs.Survey.{passAfter, newChunks, newForks}
+use Rattle.bundle.proofs.Delimiters.{closes}
 use Rattle.bundle.proofs.Passing.{noted-none, noted-chunk, noted-fork}
 use borrow.Author.Needs.{needs}
 use Rattle.bundle.proofs.survey.note.Statement.{statement}
@@ -108,7 +109,8 @@ same-length c = search needs
 
 -- src/survey.rt:134:1
 returns-2 : tie.Need-returns-2
-returns-2 c = rw (c .before .before .before .before .before .before .enum-told .given .1) (noted-chunk _ _ _ _ _ _ _ _ (c .move-on2 .ensures) (c .before .before .before .before .closed-row .ensures .0) (c .before .before .before .add-chunk .ensures))
+unfolding closes
+returns-2 c = rw (c .before .before .before .before .before .before .enum-told .given .1) (noted-chunk _ _ _ _ _ _ _ _ _ refl (c .move-on2 .ensures) (c .before .before .before .before .closed-row .ensures .0) (c .before .before .before .add-chunk .ensures))
 
 -- src/survey.rt:134:1
 same-length-2 : tie.Need-same-length-2
