@@ -1,7 +1,7 @@
 -- The walk over a chunk's commands: what it reaches is the state in which the segment of a number is opened.
 use Prim.Native.Nat.{ℕ, zero, suc, _+_, _≤_, _<_}
 use mathlib.Core.Path.{_≡_, refl, sym, _∙_, ap, subst}
-use mathlib.Core.Bool.{Bool, true, false, cond, not, _&&_}
+use mathlib.Core.Bool.{true, false, cond, not, _&&_}
 use mathlib.Core.List.{List, [], _∷_, _++_, map, List·Memᴰ}
 use mathlib.Core.Option.{Option, none, some}
 use native.Mathlib.Omega.{arith}
@@ -14,7 +14,7 @@ use Rattle.bundle.specs.Cases.{onDelimiter}
 use Rattle.bundle.specs.Commands.{Taken, inRange, readAt, readingOf}
 use Rattle.bundle.specs.Locks.{holds}
 use Rattle.bundle.specs.Chunks.{Placed, Chunk, fresh, afterBarrier, afterJoin, afterAcquire, afterRelease, afterCommand, chunksOf, isOf, chunkOf}
-use Rattle.bundle.specs.Walk.{Border, ofChunk, borders, opensSegment, addsAccess, Entry, entriesFrom, entriesOf, Segment, Opening, openingAt, segmentsFrom, segmentsIn}
+use Rattle.bundle.specs.Walk.{Border, ofChunk, borders, opensSegment, addsAccess, entriesFrom, entriesOf, Segment, Opening, openingAt, segmentsFrom, segmentsIn}
 use Rattle.bundle.specs.Scan.{misusesLock, start, scanned}
 use Rattle.bundle.specs.Index.{table, chunkRowAt, isRow, indexOf}
 use Rattle.bundle.specs.declared.chunk.ChunkState.{ChunkState}
@@ -32,8 +32,8 @@ use Rattle.bundle.proofs.Decoding.{read-next, read-decodes}
 use Rattle.bundle.proofs.Delimiters.{plain, closes, on-plain, on-closes, Delimiter, opens-chunk, closes-chunk, neither, delimits}
 use Rattle.bundle.proofs.Scanning.{uncounted, orderly, orderly-head, orderly-tail}
 use Rattle.bundle.proofs.Gathering.{Body, ends, goes, Formed, placedOf}
-use Rattle.bundle.proofs.Onward.{Onward, at-end, goes-on, Next, onward-next, legible, chunk-read}
-use Rattle.order.specs.Climbing.{walkingOf, walkedOn, walkedRead, walkNext, segmentNumber, Passable, Steady, stateIn, stateOf, stateReached, ChunkAt, Reached, ChunksIn, SegmentFound}
+use Rattle.bundle.proofs.Onward.{Onward, at-end, goes-on, onward-next, legible, chunk-read}
+use Rattle.order.specs.Climbing.{walkingOf, walkedOn, walkedRead, walkNext, segmentNumber, Passable, Steady, stateIn, stateOf, ChunkAt, Reached, ChunksIn, SegmentFound}
 use Rattle.order.specs.declared.climb.Walk.{Walk}
 use Rattle.order.specs.declared.climb.Walking.{Walking}
 use Rattle.order.specs.declared.climb.Walking.the-variants as Walking′
@@ -177,10 +177,7 @@ went : (k : ChunkState) (c : Command) (next : ℕ) (w : Walk) → walkedOn k c n
 unfolding walkedOn
 went k c next w e = go c (delimits c) e
   where
-    on : Command → Option Walk
-    on c = onDelimiter (some (record { at = next; state = afterCommand k c })) (λ t m. some (record { at = next; state = fresh })) none c
-
-    go : (c : Command) → Delimiter c → on c ≡ some w → Went k c next w
+    go : (c : Command) → Delimiter c → walkedOn k c next ≡ some w → Went k c next w
     go c (opens-chunk t m) e = record { there = cc; few = unfold fresh in (omega arith); same = λ number ps. refl }
     go c (closes-chunk x) e = let h = sym (on-closes _ _ _ c x) ∙ e in let z : _≡_ {A = ℕ} 0 1 = cc in absurd (omega arith)
     go c (neither x) e =
@@ -197,10 +194,7 @@ stops : (k : ChunkState) (c : Command) (next : ℕ) → walkedOn k c next ≡ no
 unfolding walkedOn
 stops k c next e = go c (delimits c) e
   where
-    on : Command → Option Walk
-    on c = onDelimiter (some (record { at = next; state = afterCommand k c })) (λ t m. some (record { at = next; state = fresh })) none c
-
-    go : (c : Command) → Delimiter c → on c ≡ none → closes c ≡ true
+    go : (c : Command) → Delimiter c → walkedOn k c next ≡ none → closes c ≡ true
     go c (opens-chunk t m) e = let z : _≡_ {A = ℕ} 0 1 = cc in absurd (omega arith)
     go c (closes-chunk x) e = x
     go c (neither x) e = let h = sym (on-plain _ _ _ c x) ∙ e in let z : _≡_ {A = ℕ} 0 1 = cc in absurd (omega arith)
@@ -359,8 +353,7 @@ module _ (s : List ℕ) (place number : ℕ) (a : ChunkAt s place) where
               let b = read-next s (w .at) t q in
               let short = legible s (a .accepted) .short in
               let at-next : w′ .at ≡ t .next = ap (λ (v : Walk). v .at) (g .there) in
-              let few : segmentNumber (w′ .state) ≤ segmentNumber (w .state) + 1 = rw (g .there) (g .few) in
-              (
+              let few : segmentNumber (w′ .state) ≤ segmentNumber (w .state) + 1 = rw (g .there) (g .few) in (
                 omega (arith, b .0),
                 omega (arith, b .1),
                 record {

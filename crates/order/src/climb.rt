@@ -20,8 +20,23 @@ ghost use Rattle.bundle.specs.Answer.{refuses, numberOf};
 ghost use Rattle.bundle.specs.Index.{table, forkRowAt};
 ghost use Rattle.order.specs.Labels.{holding, segmentLabel, labelOf, Labelled};
 ghost use Rattle.order.specs.Climbing.{
-    walkingOf, walkedOn, walkNext, segmentNumber, Passable, Steady, ChunkAt, Reached, FewJoined, stateReached, ChunksIn, SegmentFound,
-    Climbable, tripleOf, extended, chunkLabelOf, labelIn
+  walkingOf,
+  walkedOn,
+  walkNext,
+  segmentNumber,
+  Passable,
+  Steady,
+  ChunkAt,
+  Reached,
+  FewJoined,
+  stateReached,
+  ChunksIn,
+  SegmentFound,
+  Climbable,
+  tripleOf,
+  extended,
+  chunkLabelOf,
+  labelIn,
 };
 
 // What is answered for a segment's label: that it is found, and stands beside this, or a refusal.
