@@ -2,6 +2,7 @@
 use crate::chunk::ChunkState;
 ghost use mathlib.Core.Path.{_≡_};
 ghost use Prim.Native.Nat.{_+_, _*_, _<_, _≤_};
+ghost use lib.Dec.{eqb};
 ghost use lib.ListN.{length, getD};
 ghost use Rattle.bundle.specs.Index.{partsOf, chunkRowAt, forkRowAt, ChunkFits, ForkFits, Added, isRow, indexOf, table};
 
@@ -170,6 +171,21 @@ pub fn chunk_of(chunks: &[u64], count: u32, team: u16, member: u8) -> u32
     let mut i = 0;
     while i < count {
         if is_row(chunks, i, team, member) {
+            return i;
+        }
+        i += 1;
+    }
+    i
+}
+
+// The index of the first of `count` REGIONs that forks a team; `count` where there is none.
+pub fn fork_of(forks: &[u64], count: u32, team: u16) -> u32
+    ensures { λ r. ⌜ r ≡ indexOf (λ f. eqb (f .team) team) (table (forkRowAt (now (forks .entry))) count) ⌝ }
+{
+    let mut i = 0;
+    while i < count {
+        let fork = fork_at(forks, i);
+        if fork.team == team {
             return i;
         }
         i += 1;

@@ -13,7 +13,7 @@ use order::label::Triple;
 fn put_checking(out: &mut [u8], used: usize, checking: Checking) -> usize {
     match checking {
         Checking::Accepted => text::put_text(out, used, b"accepted"),
-        Checking::Refused { cause, place } => text::put_refusal(out, used, cause, place),
+        Checking::Refused { place, cause } => text::put_refusal(out, used, cause, place),
     }
 }
 
@@ -76,7 +76,7 @@ fn put_labelling(out: &mut [u8], used: usize, labelling: Labelling) -> usize {
     let label = labelling.label;
     match answer {
         LabelAnswer::Found => put_label(out, used, label),
-        LabelAnswer::Refused { cause, place } => text::put_refusal(out, used, cause, place),
+        LabelAnswer::Refused { place, cause } => text::put_refusal(out, used, cause, place),
     }
 }
 

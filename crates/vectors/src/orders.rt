@@ -51,7 +51,7 @@ fn put_order(out: &mut [u8], used: usize, order: Order) -> usize {
 fn put_comparison(out: &mut [u8], used: usize, comparison: Comparison) -> usize {
     match comparison {
         Comparison::Compared(order) => put_order(out, used, order),
-        Comparison::Refused { cause, place } => text::put_refusal(out, used, cause, place),
+        Comparison::Refused { place, cause } => text::put_refusal(out, used, cause, place),
     }
 }
 
@@ -85,7 +85,7 @@ fn put_shared(out: &mut [u8], used: usize, shared: Shared) -> usize {
             text::put_field(out, then, byte as u64)
         }
         Shared::Nothing => text::put_text(out, used, b"none"),
-        Shared::Refused { cause, place } => text::put_refusal(out, used, cause, place),
+        Shared::Refused { place, cause } => text::put_refusal(out, used, cause, place),
     }
 }
 
