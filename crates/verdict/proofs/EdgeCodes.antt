@@ -1,5 +1,5 @@
 -- The test for an edge on the numbers in the tables is that of the graph.
-use Prim.Native.Nat.{ℕ, suc, _+_, _*_, _/_, _%_, _<_}
+use Prim.Native.Nat.{ℕ, _+_, _*_, _/_, _%_, _<_}
 use mathlib.Core.Path.{_≡_, refl, sym, _∙_, ap, subst}
 use mathlib.Core.Logic.{⊎-elim}
 use mathlib.Core.Bool.{Bool, true}
@@ -11,18 +11,18 @@ use lib.Dec.{eqb}
 use lib.ListN.{length, getD, getElem?}
 use borrow.Author.Tests.{eqb-true, eq-eqb}
 use Rattle.bundle.proofs.Tests.{or-cases, or-one, or-other, same-test}
-use Rattle.bundle.specs.Walk.{Node, Border, ofChunk, ofBarrier, ofRegion, Segment}
+use Rattle.bundle.specs.Walk.{Border, ofChunk, ofBarrier, ofRegion, Segment}
 use Rattle.verdict.specs.Graph.{Joined, next, fork, join, barrier, joins}
-use Rattle.verdict.specs.Matrix.{bitAt, EdgeBits, PathBits, Closed}
-use Rattle.verdict.specs.Working.{eventCode, endCode, openCode, nodeCode, SegmentTables}
+use Rattle.verdict.specs.Matrix.{EdgeBits, Closed}
+use Rattle.verdict.specs.Working.{endCode, openCode, nodeCode, SegmentTables}
 use Rattle.verdict.specs.Edges.{edgeTest, tableEdge, Tables, Filled, Regular, Reached}
 use Rattle.verdict.proofs.ListPlaces.{at-mem, at-below, below-at}
 use Rattle.verdict.proofs.MatrixPaths.{closed-reaches}
 use Rattle.verdict.proofs.Reachability.{joins-true, joined-joins}
 
 -- two numbers that are equal have equal digits
-digits-same : (m : ℕ) {n i : ℕ} (t u : ℕ) → n < m → i < m → t * m + n ≡ u * m + i → (t ≡ u) × (n ≡ i)
-digits-same m t u h l e = (
+digits-same : (m t n u i : ℕ) → n < m → i < m → t * m + n ≡ u * m + i → (t ≡ u) × (n ≡ i)
+digits-same m t n u i h l e = (
   sym (digits-div t h) ∙ ap (λ (x : ℕ). x / m) e ∙ digits-div u l,
   sym (digits-mod t h) ∙ ap (λ (x : ℕ). x % m) e ∙ digits-mod u l,
 )
@@ -34,11 +34,11 @@ endOf s = endCode (s .node .team) (s .ended)
 abbrev openOf : Segment → ℕ
 openOf s = openCode (s .node .team) (s .opened)
 
-abbrev nodeOf : Segment → ℕ
-nodeOf s = nodeCode (s .node)
+abbrev placeOf : Segment → ℕ
+placeOf s = nodeCode (s .node)
 
 abbrev codesJoin : Segment → Segment → Bool
-codesJoin a b = edgeTest (endOf a) (nodeOf a + 1) (openOf b) (nodeOf b)
+codesJoin a b = edgeTest (endOf a) (placeOf a + 1) (openOf b) (placeOf b)
 
 -- two segments of a list
 module _ {ss : List Segment} (g : Regular ss) (a b : Segment) (a-in : List·Memᴰ a ss) (b-in : List·Memᴰ b ss) where
@@ -62,7 +62,7 @@ module _ {ss : List Segment} (g : Regular ss) (a b : Segment) (a-in : List·Mem�
       go (ofBarrier n) (ofBarrier i) q r e =
           let l = g .ended-barrier a n a-in q in
           let h = g .opened-barrier b i b-in r in
-          let same = digits-same 65536 (a .node .team) (b .node .team) l h (omega arith) in
+          let same = digits-same 65536 (a .node .team) n (b .node .team) i (omega arith) (omega arith) (omega arith) in
           barrier n (same .0) q (r ∙ ap ofBarrier (sym (same .1)))
       go (ofBarrier n) (ofRegion t) q r e = absurd (omega arith)
       go (ofRegion u) ofChunk q r e =
@@ -72,13 +72,31 @@ module _ {ss : List Segment} (g : Regular ss) (a b : Segment) (a-in : List·Mem�
       go (ofRegion u) (ofRegion t) q r e = absurd (omega arith)
 
   -- the one's number is that after the other's
-  node-joined : nodeOf a + 1 ≡ nodeOf b → Joined a b
+  node-joined : placeOf a + 1 ≡ placeOf b → Joined a b
   unfolding nodeCode
   node-joined e =
       let l = g .number a a-in in
       let h = g .number b b-in in
-      let low = digits-same 65536 {n = a .node .number + 1} {i = b .node .number} (a .node .team * 256 + a .node .member) (b .node .team * 256 + b .node .member) (omega arith) (omega arith) (omega arith) in
-      let up = digits-same 256 (a .node .team) (b .node .team) (g .member a a-in) (g .member b b-in) (low .0) in
+      let low =
+      digits-same 65536
+      (a .node .team * 256 + a .node .member)
+      (a .node .number + 1)
+      (b .node .team * 256 + b .node .member)
+      (b .node .number)
+      (omega arith)
+      (omega arith)
+      (omega arith)
+      in
+      let up =
+      digits-same 256
+      (a .node .team)
+      (a .node .member)
+      (b .node .team)
+      (b .node .member)
+      (omega (arith, g .member a a-in))
+      (omega (arith, g .member b b-in))
+      (low .0)
+      in
       next (up .0) (up .1) (omega arith)
 
   joined-codes : Joined a b → codesJoin a b ≡ true
@@ -86,10 +104,10 @@ module _ {ss : List Segment} (g : Regular ss) (a b : Segment) (a-in : List·Mem�
   joined-codes j = go j
     where
       event : endOf a ≡ openOf b → codesJoin a b ≡ true
-      event e = or-one (eqb (nodeOf a + 1) (nodeOf b)) (eq-eqb (endOf a) (openOf b) e)
+      event e = or-one (eqb (placeOf a + 1) (placeOf b)) (eq-eqb (endOf a) (openOf b) e)
 
       go : Joined a b → codesJoin a b ≡ true
-      go (next t m n) = or-other (eqb (endOf a) (openOf b)) (eq-eqb (nodeOf a + 1) (nodeOf b) (omega arith))
+      go (next t m n) = or-other (eqb (endOf a) (openOf b)) (eq-eqb (placeOf a + 1) (placeOf b) (omega arith))
       go (fork e n) = event (rw (e, g .opened-first b b-in n))
       go (join e o) = event (rw (e, o))
       go (barrier n t e o) = event (rw (e, o, t))
@@ -103,7 +121,7 @@ module _ {ss : List Segment} (g : Regular ss) (a b : Segment) (a-in : List·Mem�
       (⊎-elim
       (λ t. event-joined (eqb-true _ _ t))
       (λ t. node-joined (eqb-true _ _ t))
-      (or-cases (eqb (endOf a) (openOf b)) (eqb (nodeOf a + 1) (nodeOf b)) e)))
+      (or-cases (eqb (endOf a) (openOf b)) (eqb (placeOf a + 1) (placeOf b)) e)))
       (λ e. joined-codes (joins-true a b e))
 
 module _ {ss : List Segment} {ends opens nodes : List ℕ} (t : SegmentTables ss ends opens nodes) (g : Regular ss) where

@@ -16,3 +16,4 @@ pub mod ListPlaces
 pub mod MatrixPaths
 pub mod EdgeWords
 pub mod EdgeCodes
+pub mod Regularity

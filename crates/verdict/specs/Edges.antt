@@ -6,7 +6,7 @@ use mathlib.Core.List.{List, map, List·Memᴰ}
 use lib.Dec.{eqb}
 use lib.ListN.{length, getD}
 use Rattle.bundle.proofs.ListLaws.{Distinct}
-use Rattle.bundle.specs.Walk.{Node, ofChunk, ofBarrier, Segment}
+use Rattle.bundle.specs.Walk.{ofChunk, ofBarrier, Segment}
 use Rattle.verdict.specs.Matrix.{bitAt, PathBits}
 use Rattle.verdict.specs.Working.{SegmentTables}
 
@@ -51,12 +51,12 @@ pub record Filled (test : ℕ → ℕ → Bool) (n : ℕ) (before after : List �
 -- one node
 pub record Regular (segments : List Segment) : Type 0 where
   pub team : (s : Segment) → List·Memᴰ s segments → s .node .team < 65536
-  pub member : (s : Segment) → List·Memᴰ s segments → s .node .member < 256
+  pub member : (s : Segment) → List·Memᴰ s segments → s .node .member < 64
   pub number : (s : Segment) → List·Memᴰ s segments → s .node .number < 512
   pub opened-first : (s : Segment) → List·Memᴰ s segments → s .node .number ≡ 0 → s .opened ≡ ofChunk
   pub first-opened : (s : Segment) → List·Memᴰ s segments → s .opened ≡ ofChunk → s .node .number ≡ 0
-  pub opened-barrier : (s : Segment) (n : ℕ) → List·Memᴰ s segments → s .opened ≡ ofBarrier n → n < 65536
-  pub ended-barrier : (s : Segment) (n : ℕ) → List·Memᴰ s segments → s .ended ≡ ofBarrier n → n < 65536
+  pub opened-barrier : (s : Segment) (n : ℕ) → List·Memᴰ s segments → s .opened ≡ ofBarrier n → n < 512
+  pub ended-barrier : (s : Segment) (n : ℕ) → List·Memᴰ s segments → s .ended ≡ ofBarrier n → n < 512
   pub distinct : Distinct (map (λ (s : Segment). s .node) segments)
 
 -- whatever segments the tables hold, the bits say which of them reach which

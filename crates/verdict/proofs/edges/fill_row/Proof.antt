@@ -1,7 +1,7 @@
 -- `verdict::edges::fill_row` meets its contract. The invariant: the words passed have the tests of their columns, the others are as they were. The measure: the columns left. Assumes nothing.
 use borrow.Author.Needs.{needs}
 use mathlib.Core.Path.{_≡_}
-use Prim.Native.Nat.{ℕ, _*_, _≤_, _-_}
+use Prim.Native.Nat.{ℕ, _≤_, _-_}
 use native.Mathlib.Omega.{arith}
 use lib.ListN.{length, getD}
 use Rattle.verdict.specs.Edges.{edgeTest}
