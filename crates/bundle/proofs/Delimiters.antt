@@ -1,11 +1,11 @@
--- Each command opens a chunk, closes one, or does neither; each forks a team or
--- does not, and is an access or is not: laws of the questions with a default.
+-- Each command opens a chunk, closes one, or does neither; each forks a team or does not, opens a segment or does not, and is an access or
+-- is not: laws of the questions with a default.
 use Prim.Native.Nat.{ℕ, _+_, _≤_}
 use mathlib.Core.Path.{_≡_, refl, sym}
 use mathlib.Core.Bool.{Bool, true, false}
 use native.Mathlib.Omega.{arith}
 use lib.ListN.{length}
-use Rattle.bundle.specs.Cases.{onDelimiter, onRegion, onAccess}
+use Rattle.bundle.specs.Cases.{onDelimiter, onOpening, onRegion, onAccess}
 use Rattle.bundle.specs.Commands.{formOf, codeOf, widthsOf, operandBytes, bytesOf}
 use Rattle.bundle.specs.Chunks.{afterBarrier, afterJoin, afterAcquire, afterRelease, afterCommand}
 use Rattle.bundle.specs.Walk.{opensSegment}
@@ -113,6 +113,39 @@ accessings Com.Barrier = accesses-none refl
 accessings (Com.Acquire l) = accesses-none refl
 accessings (Com.Release l) = accesses-none refl
 accessings (Com.Access a) = accesses-some a
+
+-- MEMBER, REGION, BARRIER, or a command that opens no segment
+unfoldable pub opening : Command → Bool
+opening = onOpening false true (λ t. true) true
+
+pub on-no-opening :
+    {A : Type 0} (other member : A) (region : ℕ → A) (barrier : A) (c : Command)
+    → opening c ≡ false
+    → onOpening other member region barrier c ≡ other
+unfolding opening
+on-no-opening other member region barrier (Com.Member t m) e = false-is-true (sym e)
+on-no-opening other member region barrier Com.End e = refl
+on-no-opening other member region barrier (Com.Region t z) e = false-is-true (sym e)
+on-no-opening other member region barrier Com.Barrier e = false-is-true (sym e)
+on-no-opening other member region barrier (Com.Acquire l) e = refl
+on-no-opening other member region barrier (Com.Release l) e = refl
+on-no-opening other member region barrier (Com.Access a) e = refl
+
+pub data Opens : Command → Type 0 where
+  opens-member : (t m : ℕ) → Opens (Com.Member t m)
+  opens-region : (t z : ℕ) → Opens (Com.Region t z)
+  opens-barrier : Opens Com.Barrier
+  opens-none : {c : Command} → opening c ≡ false → Opens c
+
+pub openings : (c : Command) → Opens c
+unfolding opening
+openings (Com.Member t m) = opens-member t m
+openings Com.End = opens-none refl
+openings (Com.Region t z) = opens-region t z
+openings Com.Barrier = opens-barrier
+openings (Com.Acquire l) = opens-none refl
+openings (Com.Release l) = opens-none refl
+openings (Com.Access a) = opens-none refl
 
 -- what closes a chunk forks no team, leaves the state as it is, and has one byte
 pub closes-forks-none : (c : Command) → closes c ≡ true → forking c ≡ false

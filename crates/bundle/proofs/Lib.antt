@@ -25,6 +25,7 @@ pub mod Shaped
 pub mod ShapeOrder
 pub mod Reorder
 pub mod Onward
+pub mod SegmentRuns
 pub mod Finding
 pub mod LockBits
 pub mod Stepping

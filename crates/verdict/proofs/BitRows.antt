@@ -19,10 +19,10 @@ use Rattle.verdict.specs.Matrix.{bitAt, Within, BitSet, DiagonalSet, Row
 use Rattle.verdict.proofs.Warshall.{withSelf, stage-same, stage-walk, walk-stage}
 
 -- a bit of a word
-abbrev bitOf : ℕ → ℕ → Bool
+abbrev pub bitOf : ℕ → ℕ → Bool
 bitOf x k = eqb (x / 2 ^ k % 2) 1
 
-bit-or : (a b k : ℕ) → bitOf (bitOr a b) k ≡ (bitOf a k || bitOf b k)
+pub bit-or : (a b k : ℕ) → bitOf (bitOr a b) k ≡ (bitOf a k || bitOf b k)
 bit-or a b k = go (a / 2 ^ k % 2) (b / 2 ^ k % 2) (omega arith) (omega arith) larger
   where
     larger : bitOr a b / 2 ^ k % 2 ≡ max (a / 2 ^ k % 2) (b / 2 ^ k % 2)
@@ -40,15 +40,15 @@ bit-or a b k = go (a / 2 ^ k % 2) (b / 2 ^ k % 2) (omega arith) (omega arith) la
     go (suc zero) (suc (suc y)) h l e = absurd (omega arith)
 
 -- the code's `1 << k`
-one-shifted : (k : ℕ) → k < 32 → 1 * 2 ^ k % 4294967296 ≡ 2 ^ k
+pub one-shifted : (k : ℕ) → k < 32 → 1 * 2 ^ k % 4294967296 ≡ 2 ^ k
 one-shifted k h = shl-exact {a = 1} 1 k 32 (omega arith) (omega arith) ∙ one-mul (2 ^ k)
 
-bit-itself : (k : ℕ) → bitOf (2 ^ k) k ≡ true
+pub bit-itself : (k : ℕ) → bitOf (2 ^ k) k ≡ true
 bit-itself k =
     let e : 2 ^ k / 2 ^ k ≡ 1 = ap (λ (n : ℕ). n / 2 ^ k) (sym (one-mul (2 ^ k))) ∙ shl-shr 1 k in
     rw e
 
-bit-other : (k l : ℕ) → (l ≡ k → ⊥) → bitOf (2 ^ k) l ≡ false
+pub bit-other : (k l : ℕ) → (l ≡ k → ⊥) → bitOf (2 ^ k) l ≡ false
 bit-other k l ne = go (decLt k l)
   where
     higher : (d : ℕ) → k ≡ d + 1 + l → bitOf (2 ^ k) l ≡ false

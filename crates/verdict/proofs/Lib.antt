@@ -14,3 +14,6 @@ pub mod Warshall
 pub mod BitRows
 pub mod ListPlaces
 pub mod MatrixPaths
+pub mod EdgeWords
+pub mod EdgeCodes
+pub mod Regularity

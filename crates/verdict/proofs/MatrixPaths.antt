@@ -6,13 +6,11 @@ use mathlib.Core.List.{List, map}
 use mathlib.Core.Option.{some}
 use lib.ListN.{length, getElem?}
 use Rattle.bundle.proofs.ListLaws.{Distinct}
+use Rattle.bundle.proofs.SegmentRuns.{nodeOf}
 use Rattle.verdict.specs.Graph.{Node, Segment, GraphPath, here, step}
 use Rattle.verdict.specs.Matrix.{bitAt, Walk, stay, along, Closed, EdgeBits, PathBits}
 use Rattle.verdict.proofs.ListPlaces.{at-mem, mem-at, at-below, below-at, same-place}
 use Rattle.verdict.proofs.Reachability.{joins-true, joined-joins, path-eq, reaches-is}
-
-abbrev pub nodeOf : Segment → Node
-nodeOf s = s .node
 
 module _ (ss : List Segment) (distinct : Distinct (map nodeOf ss)) {before : List ℕ} (edges : EdgeBits ss before) where
   -- a walk along the bits is a path of edges
