@@ -3,14 +3,14 @@
 use Prim.Native.Nat.{ℕ, suc, _+_, _≤_, _<_}
 use mathlib.Core.Path.{_≡_, refl, ap, subst}
 use mathlib.Core.Logic.{_⊎_, inl, inr, ⊎-elim}
-use mathlib.Core.Bool.{true}
+use mathlib.Core.Bool.{true, _&&_}
 use mathlib.Core.List.{List, [], _∷_, _++_, map, List·Memᴰ, List·Memᴰ·head, List·Memᴰ·tail, List·Memᴰ·not-nil, List·Memᴰ·cases-cons, Memᴰ·of-map}
 use native.Mathlib.Omega.{arith}
 use lib.Dec.{ltb}
 use lib.ListN.{length, length-append}
 use borrow.Author.Tests.{ltb-true}
 use Rattle.bundle.specs.Lists.{concatMap}
-use Rattle.bundle.specs.Commands.{inRange}
+use Rattle.bundle.specs.Commands.{formOf, codeOf, widthsOf, fitWidths, operandsOk}
 use Rattle.bundle.specs.Chunks.{Placed, Chunk, fresh, afterCommand, chunksOf}
 use Rattle.bundle.specs.Walk.{Border, ofChunk, ofBarrier, ofRegion, borders, opensSegment, addsAccess, Entry, entriesFrom, entriesOf, Node, Segment, Opening, openingAt, segmentsFrom, segmentsIn, segmentsOf}
 use Rattle.bundle.specs.Check.{Accepted}
@@ -24,6 +24,7 @@ use Rattle.bundle.proofs.Delimiters.{Opens, opens-member, opens-region,
 use Rattle.bundle.proofs.Places.{memberKey}
 use Rattle.bundle.proofs.Gathering.{plain, closes, Body, ends, goes, Formed, logOf}
 use Rattle.bundle.proofs.Reorder.{orderly-range, distinct-members}
+use Rattle.bundle.proofs.Ranges.{in-range-fits, in-range-ok}
 use Rattle.bundle.proofs.Onward.{legible}
 
 -- what opens the segment of a number
@@ -217,14 +218,17 @@ pub record Limited (count : ℕ) (s : Segment) : Type 0 where
 -- the segments of an accepted bundle
 module _ (b : List ℕ) (a : Accepted b) where
   pub member-range : (c : Chunk) → List·Memᴰ c (chunksOf b) → (c .team < 65536) × (c .member < 64)
-  unfolding logOf inRange
+  unfolding logOf
   member-range c l =
       let k = legible b a in
+      let m = Com.Member (c .team) (c .member) in
       let log = concatMap-intro logOf l (List·Memᴰ·head refl) in
-      let r = orderly-range start (concatMap logOf (chunksOf b)) (k .order) (Com.Member (c .team) (c .member)) log in
-      let team = ltb (c .team) 65536 in
-      let member = ltb (c .member) 64 in
-      (ltb-true (c .team) 65536 (and-left team member r), ltb-true (c .member) 64 (and-right team member r))
+      let r = orderly-range start (concatMap logOf (chunksOf b)) (k .order) m log in
+      let fits : (ltb (c .team) 65536 && (ltb (c .member) 256 && true)) ≡ true = unfold fitWidths widthsOf codeOf formOf in (in-range-fits m r .eq) in
+      let low : ltb (c .member) 64 ≡ true = unfold operandsOk in (in-range-ok m r) in (
+        ltb-true (c .team) 65536 (and-left (ltb (c .team) 65536) (ltb (c .member) 256 && true) fits),
+        ltb-true (c .member) 64 low,
+      )
 
   pub segment-limited : {s : Segment} → List·Memᴰ s (segmentsOf (chunksOf b)) → Limited (length (segmentsOf (chunksOf b))) s
   unfolding segmentsOf
