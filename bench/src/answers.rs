@@ -1,8 +1,8 @@
 //! Answers of the plain Rust code, one for each line of standard input:
 //! `check HEX` gives `accepted` or `refused N at P`; `shared` and the two ranges' eight numbers give a number;
-//! `judge WORDS HEX`, `next WORDS KEY HEX` and `list HEX` give a judgement, a race or `none`, and a listing with its lines
-//! parted by `;`. A key is a witness and two names, seven numbers. A work area holds some words before, and must be left
-//! as document 01 says.
+//! `judge WORDS HEX`, `next WORDS KEY HEX` and `list HEX` give a judgement, a race or `none`, and a listing whose lines
+//! end in `;`. WORDS is the length of the work area, which is not clean before and must be left as document 01 says; KEY
+//! is a witness and two names, seven numbers.
 //! bench/compare_reader holds them to the second reader's.
 
 mod judge;
@@ -48,9 +48,8 @@ fn refusal_text(refusal: Refusal) -> String {
 }
 
 fn shared(n: &[u32]) -> String {
-    let answers = [ranges::shared_by_elements, ranges::shared_by_euclid].map(|shared| {
-        shared(n[0], n[1] as u16, n[2] as u16, n[3] as u8, n[4], n[5] as u16, n[6] as u16, n[7] as u8)
-    });
+    let answers = [ranges::shared_by_elements, ranges::shared_by_euclid]
+        .map(|shared| shared(n[0], n[1] as u16, n[2] as u16, n[3] as u8, n[4], n[5] as u16, n[6] as u16, n[7] as u8));
     assert_eq!(answers[0], answers[1], "the two answers to {n:?}");
     answers[0].to_string()
 }

@@ -48,8 +48,8 @@ pub fn check(bytes: &[u8]) -> u64 {
 mod proved {
     use super::*;
 
-    // The answer is 0 for race-free or none, one more than the witness, or a refusal. The lent numbers are all set; an access
-    // is its site (16 bits), number (16), member (8) and team (16), the site lowest.
+    // The answer is 0 for race-free or none, one more than the witness, or a refusal. The lent numbers are all set; an
+    // access is its site (16 bits), number (16), member (8) and team (16), the site lowest.
     extern "C" {
         fn dezhakom_judge(
             bytes: *const u8,

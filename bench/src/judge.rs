@@ -250,8 +250,8 @@ impl Bundle {
         range_of(chunk.segments).skip(1).filter(|&segment| self.openings[segment] == 0)
     }
 
-    /// Fills the rows of a team and of all teams below it, given what its last segments reach; answers what its segments 0
-    /// reach. Goes back from interval to interval; within one, a member's segments are parted by REGIONs.
+    /// Fills the rows of a team and of all teams below it, given what its last segments reach; answers what its
+    /// segments 0 reach. Goes back from interval to interval; within one, a member's segments are parted by REGIONs.
     fn close_team(&self, rows: &mut [MatrixRow], team: u16, mut after: MatrixRow) -> MatrixRow {
         let team = reader::team(&self.chunks, team);
         let mut ends = [0; 64];
@@ -279,8 +279,8 @@ impl Bundle {
 
 // The table: the accesses in the order of their names.
 
-/// Base, last byte, two words of locks; then segment (16 bits), kind (2), size (from bit 24); stride and count; site and
-/// number; member and team.
+/// Base, last byte, two words of locks; then segment (16 bits), kind (2), size (from bit 24); stride and count; site
+/// and number; member and team.
 type TableRow = [u32; 8];
 
 const WRITES: u32 = 1 << 16;

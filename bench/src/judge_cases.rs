@@ -23,17 +23,22 @@ pub fn cases(random: &mut Random) -> Vec<Case> {
 
     add("all clash", wide_team(|_, _| access(WRITE, WORD)));
     add("reads only", wide_team(|_, _| access(READ, WORD)));
-    add("disjoint words", wide_team(|_, number| {
-        access(WRITE, Range { base: BASE as u32 + 8 * number as u32, ..WORD })
-    }));
+    add(
+        "disjoint words",
+        wide_team(|_, number| access(WRITE, Range { base: BASE as u32 + 8 * number as u32, ..WORD })),
+    );
     add("word arrays", wide_team(|_, _| access(any_kind(random), word_array(random))));
     add("equal strides", wide_team(|_, _| access(any_kind(random), column(random))));
     add("coprime strides", wide_team(|_, _| access(WRITE, coprime(random))));
+    add("coprime, 8 teams", teams_in_turn(|| access(WRITE, coprime(random))));
     add("a lock in common", wide_team(|member, _| locked(&[member % 63, 63], access(WRITE, WORD))));
-    add("many locks", wide_team(|_, _| {
-        let lock = random.from(0, 31) as u8;
-        locked(&[lock, 32 + lock / 4], access(WRITE, WORD))
-    }));
+    add(
+        "many locks",
+        wide_team(|_, _| {
+            let lock = random.from(0, 31) as u8;
+            locked(&[lock, 32 + lock / 4], access(WRITE, WORD))
+        }),
+    );
     add("8 members, 62 barriers", intervals(|| access(WRITE, WORD)));
     add("nested four deep", nested(|| access(any_kind(random), near(random))));
     add("10 accesses", small(random));
@@ -113,6 +118,25 @@ fn wide_team(mut commands: impl FnMut(u8, usize) -> Vec<u8>) -> Vec<Chunk> {
         chunks.push(chunk);
     }
     ended(chunks, 2 + 64 * 7)
+}
+
+/// Seven teams of 64 and one of 55 in turn, two accesses in each member; 18 more in the root.
+fn teams_in_turn(mut commands: impl FnMut() -> Vec<u8>) -> Vec<Chunk> {
+    let mut chunks = vec![bundles::member(0, 0)];
+    for team in 1..=8 {
+        let size = if team == 8 { 55 } else { 64 };
+        chunks[0].extend(bundles::region(team, size));
+        for member in 0..size {
+            let mut chunk = bundles::member(team, member);
+            chunk.extend(commands());
+            chunk.extend(commands());
+            chunks.push(chunk);
+        }
+    }
+    for _ in 0..ACCESSES - 2 * 503 {
+        chunks[0].extend(commands());
+    }
+    ended(chunks, SEGMENTS)
 }
 
 /// A team of 8 that passes 62 barriers, two accesses in each interval; 16 more in the root.

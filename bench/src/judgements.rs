@@ -1,5 +1,5 @@
-//! Judge and next race: the proved code beside plain Rust with the same closure of the graph, and with a quicker one. Without
-//! the proved judge, the two of Rust are compared and timed alone.
+//! Judge and next race: the proved code beside plain Rust with the same closure of the graph, and with a quicker one.
+//! Without the proved judge, the two of Rust are compared and timed alone.
 
 use crate::bundles::{self, Case};
 use crate::exports::{self, Judge, NextRace};
@@ -59,16 +59,20 @@ pub fn compare(random: &mut Random) -> bool {
     println!();
     println!("next race, microseconds for a race");
     head("bundle", ["", "", "walked"]);
-    for case in cases.iter().filter(|case| ["all clash", "8 members, 62 barriers", "10 accesses", "E"].contains(&case.name)) {
+    for case in named(&cases, &["all clash", "8 members, 62 barriers", "10 accesses", "E"]) {
         all_equal &= time_next(case, random);
     }
     println!();
     println!("listing, milliseconds for a bundle, plain Rust alone");
     println!("{:<24}{:>10}{:>10}{:>9}", "bundle", "races", "bytes", "rust");
-    for case in cases.iter().filter(|case| ["all clash", "8 members, 62 barriers", "E"].contains(&case.name)) {
+    for case in named(&cases, &["all clash", "8 members, 62 barriers", "E"]) {
         time_listing(case);
     }
     all_equal
+}
+
+fn named<'a>(cases: &'a [Case], names: &'a [&str]) -> impl Iterator<Item = &'a Case> {
+    cases.iter().filter(|case| names.contains(&case.name))
 }
 
 fn head(name: &str, counts: [&str; 3]) {
@@ -82,17 +86,15 @@ fn print_row(name: &str, counts: [String; 3], seconds: [f64; 3]) {
     let [proved, warshall, teams] = seconds.map(|best| best * 1e6);
     print!("{name:<24}{:>9}{:>9}{:>8}", counts[0], counts[1], counts[2]);
     match exports::JUDGING {
-        Some(_) => println!(
-            "{proved:>10.1}{warshall:>10.1}{teams:>10.1}{:>12.2}{:>10.2}",
-            proved / warshall,
-            proved / teams
-        ),
+        Some(_) => {
+            println!("{proved:>10.1}{warshall:>10.1}{teams:>10.1}{:>12.2}{:>10.2}", proved / warshall, proved / teams)
+        }
         None => println!("{:>10}{warshall:>10.1}{teams:>10.1}{:>12}{:>10}", "-", "-", "-"),
     }
 }
 
-/// The answers of the three over work areas of so many words that hold something before: they must be equal, and the areas
-/// left as document 01 says.
+/// The answers of the three over work areas of so many words, which hold something before: they must be equal, and the
+/// areas left as document 01 says.
 fn equal_answers<T: PartialEq + Debug>(name: &str, words: usize, ask: impl Fn(usize, &mut [u32]) -> T) -> bool {
     let before: Vec<u32> = (1..=words as u32).map(|word| word.wrapping_mul(0x9e37_79b9)).collect();
     let answers = [0, 1, 2].map(|which| {
@@ -111,7 +113,7 @@ fn equal_answers<T: PartialEq + Debug>(name: &str, words: usize, ask: impl Fn(us
     equal && answers.iter().all(|answer| answer.1)
 }
 
-/// The quickest of some rounds of each of the three, over one work area.
+/// The quickest of some rounds of each of the three, each over its own work area.
 fn time_three(ask: impl Fn(usize, &mut [u32])) -> [f64; 3] {
     let [mut one, mut other, mut third] = [0, 1, 2].map(|which| {
         let mut work = vec![0; LEAST_WORDS];
@@ -163,7 +165,10 @@ fn walk(bytes: &[u8]) -> Vec<Key> {
 fn time_next(case: &Case, random: &mut Random) -> bool {
     let bytes = &case.bytes[..];
     let keys = walk(bytes);
-    let mut any = || Name { team: random.from(0, 2) as u16, member: random.from(0, 64) as u8, number: random.from(0, 16) as u16 };
+    let mut any = || {
+        let (team, member, number) = (random.from(0, 2), random.from(0, 64), random.from(0, 16));
+        Name { team: team as u16, member: member as u8, number: number as u16 }
+    };
     let odd = keys.iter().map(|key| (key.0, any(), any()));
     for key in keys.iter().copied().chain(odd) {
         if !equal_answers(case.name, LEAST_WORDS, |which, work| NEXT_RACES[which](bytes, key, work)) {
@@ -175,7 +180,8 @@ fn time_next(case: &Case, random: &mut Random) -> bool {
             black_box(NEXT_RACES[which](black_box(bytes), key, work)).ok();
         }
     });
-    print_row(case.name, [String::new(), String::new(), keys.len().to_string()], seconds.map(|best| best / keys.len() as f64));
+    let walked = keys.len();
+    print_row(case.name, [String::new(), String::new(), walked.to_string()], seconds.map(|best| best / walked as f64));
     true
 }
 

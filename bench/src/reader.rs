@@ -86,11 +86,11 @@ fn decode(bytes: &[u8], at: usize) -> Result<(Command, usize), Refusal> {
     })
 }
 
-/// A chunk: the offset of its MEMBER, its name, the barriers that it passes, and its segments and accesses among those of
-/// the bundle, from and up to a number, in the order of the bytes.
+/// A chunk: the offset of its MEMBER, its name, the barriers that it passes, and its segments and accesses among those
+/// of the bundle, from a number up to a number, in the order of the bytes. An offset is at most 65,535.
 #[derive(Clone, Copy)]
 pub struct Chunk {
-    pub place: u32,
+    pub place: u16,
     pub team: u16,
     pub member: u8,
     pub barriers: u16,
@@ -98,9 +98,10 @@ pub struct Chunk {
     pub accesses: (u16, u16),
 }
 
-/// A REGION: its offset, the team that it forks with its size, the team that it stands in, and the segment that it opens.
+/// A REGION: its offset, the team that it forks with its size, the team that it stands in, and the segment that it
+/// opens.
 pub struct Fork {
-    pub place: u32,
+    pub place: u16,
     pub team: u16,
     pub size: u8,
     pub by_team: u16,
@@ -132,7 +133,7 @@ fn scan(bytes: &[u8], log: &mut impl Log) -> Result<(Vec<Chunk>, Vec<Fork>), Ref
                 }
                 open = true;
                 let (segment, access) = (segments as u16, accesses as u16);
-                let place = at as u32;
+                let place = at as u16;
                 chunk = Chunk { place, team, member, barriers: 0, segments: (segment, 0), accesses: (access, 0) };
                 log.segment(0);
                 segments += 1;
@@ -159,7 +160,7 @@ fn scan(bytes: &[u8], log: &mut impl Log) -> Result<(Vec<Chunk>, Vec<Fork>), Ref
                 if segments == MOST_SEGMENTS {
                     return refuse(7, at);
                 }
-                forks.push(Fork { place: at as u32, team, size, by_team: chunk.team, segment: segments as u16 });
+                forks.push(Fork { place: at as u16, team, size, by_team: chunk.team, segment: segments as u16 });
                 log.segment(team);
                 segments += 1;
             }
@@ -223,8 +224,8 @@ fn scan(bytes: &[u8], log: &mut impl Log) -> Result<(Vec<Chunk>, Vec<Fork>), Ref
 /// The lowest number of 8 to 12, then the lowest offset.
 fn check_shape(chunks: &mut [Chunk], forks: &mut [Fork]) -> Result<(), Refusal> {
     // Sorted by name, then place: of equal names the first stands lowest in the bundle.
-    chunks.sort_unstable_by_key(|chunk| (chunk.team as u64) << 40 | (chunk.member as u64) << 32 | chunk.place as u64);
-    forks.sort_unstable_by_key(|fork| (fork.team as u64) << 32 | fork.place as u64);
+    chunks.sort_unstable_by_key(|chunk| (chunk.team as u64) << 24 | (chunk.member as u64) << 16 | chunk.place as u64);
+    forks.sort_unstable_by_key(|fork| (fork.team as u32) << 16 | fork.place as u32);
     refuse_lowest(8, places_forked_before(forks))?;
     refuse_lowest(9, places_of_stray_chunks(chunks, forks))?;
     if !chunks.first().is_some_and(|chunk| chunk.team == 0 && chunk.member == 0) {
@@ -235,7 +236,7 @@ fn check_shape(chunks: &mut [Chunk], forks: &mut [Fork]) -> Result<(), Refusal> 
     refuse_lowest(12, places_of_unlike_barriers(chunks))
 }
 
-fn refuse_lowest(number: u32, places: impl Iterator<Item = u32>) -> Result<(), Refusal> {
+fn refuse_lowest(number: u32, places: impl Iterator<Item = u16>) -> Result<(), Refusal> {
     match places.min() {
         Some(place) => refuse(number, place as usize),
         None => Ok(()),
@@ -243,7 +244,7 @@ fn refuse_lowest(number: u32, places: impl Iterator<Item = u32>) -> Result<(), R
 }
 
 /// 8: a team forked before, at the later REGION.
-fn places_forked_before(forks: &[Fork]) -> impl Iterator<Item = u32> + '_ {
+fn places_forked_before(forks: &[Fork]) -> impl Iterator<Item = u16> + '_ {
     forks.windows(2).filter(|pair| pair[0].team == pair[1].team).map(|pair| pair[1].place)
 }
 
@@ -260,7 +261,7 @@ pub fn team(chunks: &[Chunk], team: u16) -> &[Chunk] {
 }
 
 /// 9: a chunk of a team that is never forked, a member number not below the size, or a second chunk of one member.
-fn places_of_stray_chunks<'a>(chunks: &'a [Chunk], forks: &'a [Fork]) -> impl Iterator<Item = u32> + 'a {
+fn places_of_stray_chunks<'a>(chunks: &'a [Chunk], forks: &'a [Fork]) -> impl Iterator<Item = u16> + 'a {
     let stray = teams(chunks).flat_map(|team| {
         let size = match team[0].team {
             0 => 1,
@@ -273,12 +274,12 @@ fn places_of_stray_chunks<'a>(chunks: &'a [Chunk], forks: &'a [Fork]) -> impl It
 }
 
 /// 10: a forked team lacking a chunk, at its REGION. Past 9, each chunk is of a member of its team, and the only one.
-fn places_lacking_chunks<'a>(chunks: &'a [Chunk], forks: &'a [Fork]) -> impl Iterator<Item = u32> + 'a {
+fn places_lacking_chunks<'a>(chunks: &'a [Chunk], forks: &'a [Fork]) -> impl Iterator<Item = u16> + 'a {
     forks.iter().filter(|fork| team(chunks, fork.team).len() < fork.size as usize).map(|fork| fork.place)
 }
 
 /// 11: a team more than 4 deep below the root, at its REGION. A team's number is above that of the team that forks it.
-fn places_too_deep(forks: &[Fork]) -> impl Iterator<Item = u32> + '_ {
+fn places_too_deep(forks: &[Fork]) -> impl Iterator<Item = u16> + '_ {
     let mut depths = Vec::with_capacity(forks.len());
     for fork in forks {
         let outer = forks[..depths.len()].binary_search_by_key(&fork.by_team, |fork| fork.team);
@@ -288,7 +289,7 @@ fn places_too_deep(forks: &[Fork]) -> impl Iterator<Item = u32> + '_ {
 }
 
 /// 12: a barrier count unlike that of member 0, which stands first of its team.
-fn places_of_unlike_barriers(chunks: &[Chunk]) -> impl Iterator<Item = u32> + '_ {
+fn places_of_unlike_barriers(chunks: &[Chunk]) -> impl Iterator<Item = u16> + '_ {
     teams(chunks).flat_map(|team| {
         team.iter().filter(|chunk| chunk.barriers != team[0].barriers).map(|chunk| chunk.place)
     })
