@@ -10,7 +10,7 @@ use lib.Dec.{ltb}
 use lib.ListN.{length, length-append}
 use borrow.Author.Tests.{ltb-true}
 use Rattle.bundle.specs.Lists.{concatMap}
-use Rattle.bundle.specs.Commands.{formOf, codeOf, widthsOf, fitWidths, operandsOk}
+use Rattle.bundle.specs.Commands.{formOf, codeOf, widthsOf, fitWidths, operandsOk, inRange}
 use Rattle.bundle.specs.Chunks.{Placed, Chunk, fresh, afterCommand, chunksOf}
 use Rattle.bundle.specs.Walk.{Border, ofChunk, ofBarrier, ofRegion, borders, opensSegment, addsAccess, Entry, entriesFrom, entriesOf, Node, Segment, Opening, openingAt, segmentsFrom, segmentsIn, segmentsOf}
 use Rattle.bundle.specs.Check.{Accepted}
@@ -24,7 +24,6 @@ use Rattle.bundle.proofs.Delimiters.{Opens, opens-member, opens-region,
 use Rattle.bundle.proofs.Places.{memberKey}
 use Rattle.bundle.proofs.Gathering.{plain, closes, Body, ends, goes, Formed, logOf}
 use Rattle.bundle.proofs.Reorder.{orderly-range, distinct-members}
-use Rattle.bundle.proofs.Ranges.{in-range-fits, in-range-ok}
 use Rattle.bundle.proofs.Onward.{legible}
 
 -- what opens the segment of a number
@@ -215,6 +214,16 @@ pub record Limited (count : ℕ) (s : Segment) : Type 0 where
   pub member : s .node .member < 64
   pub number : s .node .number < count
 
+-- the operands of MEMBER
+member-fits : (t m : ℕ) → inRange (Com.Member t m) ≡ true → (t < 65536) × (m < 64)
+unfolding inRange fitWidths widthsOf codeOf formOf operandsOk
+member-fits t m e =
+    let team = ltb t 65536 in
+    let member = ltb m 256 && true in (
+      ltb-true t 65536 (and-left team member (and-left (team && member) (ltb m 64) e)),
+      ltb-true m 64 (and-right (team && member) (ltb m 64) e),
+    )
+
 -- the segments of an accepted bundle
 module _ (b : List ℕ) (a : Accepted b) where
   pub member-range : (c : Chunk) → List·Memᴰ c (chunksOf b) → (c .team < 65536) × (c .member < 64)
@@ -223,12 +232,7 @@ module _ (b : List ℕ) (a : Accepted b) where
       let k = legible b a in
       let m = Com.Member (c .team) (c .member) in
       let log = concatMap-intro logOf l (List·Memᴰ·head refl) in
-      let r = orderly-range start (concatMap logOf (chunksOf b)) (k .order) m log in
-      let fits : (ltb (c .team) 65536 && (ltb (c .member) 256 && true)) ≡ true = unfold fitWidths widthsOf codeOf formOf in (in-range-fits m r .eq) in
-      let low : ltb (c .member) 64 ≡ true = unfold operandsOk in (in-range-ok m r) in (
-        ltb-true (c .team) 65536 (and-left (ltb (c .team) 65536) (ltb (c .member) 256 && true) fits),
-        ltb-true (c .member) 64 low,
-      )
+      member-fits (c .team) (c .member) (orderly-range start (concatMap logOf (chunksOf b)) (k .order) m log)
 
   pub segment-limited : {s : Segment} → List·Memᴰ s (segmentsOf (chunksOf b)) → Limited (length (segmentsOf (chunksOf b))) s
   unfolding segmentsOf
