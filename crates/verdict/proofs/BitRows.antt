@@ -40,7 +40,7 @@ bit-or a b k = go (a / 2 ^ k % 2) (b / 2 ^ k % 2) (omega arith) (omega arith) la
     go (suc zero) (suc (suc y)) h l e = absurd (omega arith)
 
 -- the code's `1 << k`
-pub one-shifted : (k : ℕ) → k < 32 → 1 * 2 ^ k % 4294967296 ≡ 2 ^ k
+one-shifted : (k : ℕ) → k < 32 → 1 * 2 ^ k % 4294967296 ≡ 2 ^ k
 one-shifted k h = shl-exact {a = 1} 1 k 32 (omega arith) (omega arith) ∙ one-mul (2 ^ k)
 
 pub bit-itself : (k : ℕ) → bitOf (2 ^ k) k ≡ true

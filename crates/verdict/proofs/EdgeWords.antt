@@ -1,34 +1,43 @@
 -- The edges word by word and row by row: what each loop has done so far.
 use Prim.Native.Nat.{ℕ, _+_, _*_, _/_, _%_, _^_, _≤_, _<_}
-use mathlib.Core.Path.{_≡_, refl, _∙_, ap}
+use mathlib.Core.Path.{_≡_, refl, sym, _∙_, ap}
 use mathlib.Core.Bool.{Bool, true, false, or-false}
 use mathlib.Core.List.{List}
-use native.Mathlib.Nat.{zero-mul, zero-div, zero-mod}
+use native.Mathlib.Nat.{zero-mul, one-mul, zero-div}
 use native.Mathlib.Omega.{arith}
 use lib.Bits.{bitOr}
 use lib.ListN.{length, getD, set}
+use lib.Pow.{pow-lt, pow-add}
 use lib.Seq.{getD-set-same, getD-set-other}
 use mir.Val.{boolByte}
 use borrow.Author.Count.{below-more}
 use Rattle.verdict.specs.Matrix.{bitAt}
 use Rattle.verdict.specs.Edges.{RowFilled, Filled}
-use Rattle.verdict.proofs.BitRows.{bitOf, bit-or, one-shifted, bit-itself, bit-other}
+use Rattle.verdict.proofs.BitRows.{bitOf, bit-or, bit-itself, bit-other}
 
--- the code's `test << k`
-module _ (k : ℕ) (h : k < 32) where
-  abbrev shifted : Bool → ℕ
-  shifted t = boolByte t * 2 ^ k % 4294967296
+-- the code's bit of column k
+pub bit-small : {bit : ℕ} (k : ℕ) → bit ≡ 2 ^ k → k < 32 → bit < 4294967296
+bit-small k e h = rw e (pow-lt h)
 
-  no-bit : (l : ℕ) → bitOf (shifted false) l ≡ false
-  no-bit l = rw (zero-mul, zero-mod, zero-div)
+pub test-small : {bit : ℕ} (t : Bool) → bit < 4294967296 → boolByte t * bit < 4294967296
+test-small true h = rw one-mul h
+test-small false h = rw zero-mul (omega arith)
 
-  shifted-here : (t : Bool) → bitOf (shifted t) k ≡ t
-  shifted-here true = rw (one-shifted k h) (bit-itself k)
-  shifted-here false = no-bit k
+pub bit-next : {bit : ℕ} (k : ℕ) → bit ≡ 2 ^ k → bit * 2 ≡ 2 ^ (k + 1)
+bit-next k e = rw e (sym (pow-add 2 k 1))
 
-  shifted-other : (t : Bool) (l : ℕ) → (l ≡ k → ⊥) → bitOf (shifted t) l ≡ false
-  shifted-other true l ne = rw (one-shifted k h) (bit-other k l ne)
-  shifted-other false l ne = no-bit l
+-- a test as that bit
+module _ (k : ℕ) where
+  no-bit : (l : ℕ) → bitOf (boolByte false * 2 ^ k) l ≡ false
+  no-bit l = rw (zero-mul, zero-div)
+
+  test-here : (t : Bool) → bitOf (boolByte t * 2 ^ k) k ≡ t
+  test-here true = rw one-mul (bit-itself k)
+  test-here false = no-bit k
+
+  test-other : (t : Bool) (l : ℕ) → (l ≡ k → ⊥) → bitOf (boolByte t * 2 ^ k) l ≡ false
+  test-other true l ne = rw one-mul (bit-other k l ne)
+  test-other false l ne = no-bit l
 
 -- the lowest k bits of a word are the tests of the columns from `first` on, the others are not set
 pub record BitsTo (test : ℕ → Bool) (first word k : ℕ) : Type 0 where
@@ -39,22 +48,23 @@ pub bits-none : (test : ℕ → Bool) (first : ℕ) → BitsTo test first 0 0
 bits-none test first = record { done = λ l h. absurd (omega arith); rest = λ l h. rw zero-div }
 
 pub bits-more :
-    {test : ℕ → Bool} {first word k : ℕ} (t : Bool)
+    {test : ℕ → Bool} {first word bit k : ℕ} (t : Bool)
     → BitsTo test first word k
-    → k < 32
+    → bit ≡ 2 ^ k
     → t ≡ test (first + k)
-    → BitsTo test first (bitOr word (boolByte t * 2 ^ k % 4294967296)) (k + 1)
-bits-more {test} {first} {word} {k} t b h e =
+    → BitsTo test first (bitOr word (boolByte t * bit)) (k + 1)
+bits-more {test} {first} {word} {bit} {k} t b q e =
+    rw q
     record {
       done =
           below-more (λ (l : ℕ). bitOf (bitOr word x) l ≡ test (first + l)) k
-          (λ l a. bit-or word x l ∙ rw (b .done l a, shifted-other k h t l (λ q. omega arith), or-false))
-          (bit-or word x k ∙ rw (b .rest k (omega arith), shifted-here k h t) e);
-      rest = λ l a. bit-or word x l ∙ rw (b .rest l (omega arith)) (shifted-other k h t l (λ q. omega arith));
+          (λ l a. bit-or word x l ∙ rw (b .done l a, test-other k t l (λ q. omega arith), or-false))
+          (bit-or word x k ∙ rw (b .rest k (omega arith), test-here k t) e);
+      rest = λ l a. bit-or word x l ∙ rw (b .rest l (omega arith)) (test-other k t l (λ q. omega arith));
     }
   where
     x : ℕ
-    x = boolByte t * 2 ^ k % 4294967296
+    x = boolByte t * 2 ^ k
 
 -- the first w words of row i have the tests of their columns, the others are as before
 pub record CellsTo (test : ℕ → Bool) (i : ℕ) (before now : List ℕ) (w : ℕ) : Type 0 where

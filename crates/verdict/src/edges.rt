@@ -28,9 +28,11 @@ fn edge_word(opens: &[u64], nodes: &[u64], end: u64, next: u64, first: usize) ->
     ensures { λ r. ⌜ EdgeWord (now (opens .entry)) (now (nodes .entry)) end next first r ⌝ }
 {
     let mut word: u32 = 0;
+    let mut bit: u64 = 1;
     let mut k: usize = 0;
     while k < 32 {
-        word = word | ((edge(end, next, opens[first + k], nodes[first + k]) as u32) << k);
+        word = word | (((edge(end, next, opens[first + k], nodes[first + k]) as u64) * bit) as u32);
+        bit *= 2;
         k += 1;
     }
     word
