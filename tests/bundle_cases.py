@@ -9,12 +9,9 @@ import race_cases
 import second_reader as sr
 from bundle_text import bundle
 from second_reader import Range
-from vector_frames import (
-    check_frame, compare_frame, find_frame, judge_frame, label_frame, next_frame, shared_frame,
-)
+from vector_frames import check_frame, compare_frame, find_frame, label_frame, shared_frame
 
 SHORT = 1000  # bytes; longer aimed bundles go to large_frames
-ENOUGH = 16384
 E = aimed_cases.E_BYTES
 
 
@@ -212,74 +209,6 @@ def shared_bad():
     yield shared_frame(Range(0, 0, 0, 1), Range(0, 0, 0, 1))
 
 
-# ---------------------------------------------------------------- verdicts
-
-
-def judge_frames(seed):
-    rng = random.Random(seed)
-    for data in (E, b"", E[:-1], bytes(3)):
-        for words in (0, 1, 255, 256, 16383, 16384, 16385, 20000):
-            yield judge_frame(words, data)
-    for data in listed_bundles() + short_aimed_bundles():
-        yield judge_frame(ENOUGH, data)
-    for data in small_good(rng, 150) + small_damaged(rng, 60):
-        yield judge_frame(ENOUGH, data)
-    for style in generators.STYLES * 3:
-        yield judge_frame(ENOUGH, generators.random_bundle(rng, style))
-    for _ in range(4):
-        yield from judge_orders(rng)
-
-
-def judge_orders(rng):
-    """All orders of one small bundle."""
-    chunks = generators.random_chunks(rng, generators.SMALL)
-    while len(chunks) > 4:
-        chunks = generators.random_chunks(rng, generators.SMALL)
-    for order in generators.all_orders(chunks):
-        yield judge_frame(ENOUGH, generators.bundle_bytes(order))
-
-
-LOWEST, HIGHEST = (0, 0, 0), (65535, 255, 65535)
-
-
-def next_frames(seed):
-    rng = random.Random(seed)
-    yield next_frame(16383, 0, LOWEST, LOWEST, E)
-    yield next_frame(0, 0, LOWEST, LOWEST, b"")
-    yield next_frame(ENOUGH, 0, LOWEST, LOWEST, E[:-1])
-    for data in [E, bundle(aimed_cases.E_LATE_READ)] + listed_bundles():
-        yield from next_of_all(rng, data)
-    for data in small_good(rng, 25):
-        yield from next_of_all(rng, data)
-    for style in (generators.NESTED, generators.LOCKED, generators.FAR, generators.QUIET):
-        yield from next_of_all(rng, generators.random_bundle(rng, style))
-
-
-def next_of_all(rng, data):
-    """Keys at, below and above some races, and those outside of all."""
-    yield next_frame(ENOUGH, 0, LOWEST, LOWEST, data)
-    yield next_frame(ENOUGH, sr.LAST_ADDRESS, HIGHEST, HIGHEST, data)
-    races = sr.all_races(sr.check(data))
-    picked = sorted(set(races[:3] + races[-2:] + rng.sample(races, min(2, len(races)))))
-    for race in picked:
-        for key in keys_about(rng, race):
-            yield next_frame(ENOUGH, *key, data)
-
-
-def keys_about(rng, race):
-    witness, first, second = sr.race_key(race)
-    yield witness, first, second
-    yield witness, second, first
-    yield witness, first, first
-    yield witness, LOWEST, HIGHEST
-    yield witness, first, (*second[:2], second[2] + 1)
-    if second[2]:
-        yield witness, first, (*second[:2], second[2] - 1)
-    if witness:
-        yield witness - 1, HIGHEST, HIGHEST
-    yield witness, (first[0], rng.randrange(256), rng.randrange(65536)), second
-
-
 # ------------------------------------------------------------ long bundles
 
 
@@ -294,16 +223,6 @@ def large_frames(seed):
             yield check_frame(data)
             yield find_frame(0, 1, data)
             yield label_frame(*rng.choice(member_names(data)), 0, data)
-
-
-def large_verdict_frames(seed):
-    """Judgements of bundles at the limits."""
-    rng = random.Random(seed)
-    for style in (generators.LARGE, generators.QUIET):
-        for data in shuffled_full_bundle(rng, style):
-            yield judge_frame(ENOUGH, data)
-            yield next_frame(ENOUGH, generators.BASE + 20, LOWEST, LOWEST, data)
-    yield judge_frame(ENOUGH, generators.random_bundle(rng, generators.LARGE))
 
 
 def shuffled_full_bundle(rng, style):

@@ -158,6 +158,42 @@ def random_bundle(rng, style):
     return bundle_bytes(shuffled(rng, random_chunks(rng, style)))
 
 
+# ------------------------------------------------- races of one interval
+
+
+def one_interval(rng):
+    """A team with several barriers whose races all lie between two of them: in every other interval a single member
+    touches the byte. The chosen member's access may stand in an inner team with barriers of its own."""
+    size, barriers = rng.randint(2, 4), rng.randint(2, 5)
+    team, inner = rng.choice(((1, 2), (255, 256), (65534, 65535)))
+    raced = rng.randint(1, barriers - 1)
+    chunks = [[Command(sr.MEMBER, (0, 0)), Command(sr.REGION, (team, size)), Command(sr.END, ())]]
+    nested = rng.choice((None, rng.randrange(size)))  # the member that forks the inner team
+    for member in range(size):
+        chunk = [Command(sr.MEMBER, (team, member))]
+        for interval in range(barriers + 1):
+            if interval == raced and member == nested:
+                chunk.append(Command(sr.REGION, (inner, 2)))
+            elif interval in (raced, barriers - member):
+                chunk.append(Command(sr.WRITE, (10 * interval + member, BASE, 0, 1, 1)))
+            if interval < barriers:
+                chunk.append(Command(sr.BARRIER, ()))
+        chunks.append(chunk + [Command(sr.END, ())])
+    if nested is not None:
+        chunks += inner_members(rng, inner)
+    return chunks
+
+
+def inner_members(rng, team):
+    """Two members that meet at barriers; the first touches the byte, between them or not."""
+    barriers = rng.randint(1, 3)
+    for member in range(2):
+        body = [Command(sr.BARRIER, ())] * barriers
+        if member == 0:
+            body.insert(rng.randint(0, barriers), Command(sr.READ, (90, BASE, 0, 1, 1)))
+        yield [Command(sr.MEMBER, (team, member)), *body, Command(sr.END, ())]
+
+
 # ------------------------------------------------- limits exactly reached
 
 

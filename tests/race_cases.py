@@ -82,6 +82,14 @@ ORDERED = [
     Listing("interval 0 against interval 1", pair(f"{W1}; barrier", f"barrier; {W2}"), listing("3 6 2")),
     Listing("interval 1 against interval 1", pair(f"barrier; {W1}", f"barrier; {W2}"),
             listing("3 6 2", "00000040 1.0.0 1 1.1.0 2")),
+    Listing("between two barriers", pair(f"barrier; {W1}; barrier", f"barrier; {W2}; barrier"),
+            listing("3 8 2", "00000040 1.0.0 1 1.1.0 2")),
+    Listing("two barriers, each interval once", pair(f"{W1}; barrier; barrier; {W1}", f"barrier; {W2}; barrier"), listing("3 8 3")),
+    Listing("a region between two barriers", """
+        member 0 0; region 1 2; end
+        member 1 0; barrier; region 2 1; barrier; end
+        member 1 1; write 2 64 0 1 4; barrier; write 3 64 0 1 4; barrier; write 4 64 0 1 4; end
+        member 2 0; barrier; write 1 64 0 1 4; end""", listing("4 11 4", "00000040 1.1.1 3 2.0.0 1")),
     Listing("a larger offset is not later", """
         member 0 0; region 1 2; end
         member 1 0; region 2 1; write 1 64 0 1 4; end
@@ -121,6 +129,8 @@ SORTED = [
         member 0 0; region 1 3; end
         member 1 2; write 30 0 0 1 1; end; member 1 0; write 10 0 0 1 1; end; member 1 1; write 20 0 0 1 1; end""",
             listing("4 5 3", "00000000 1.0.0 10 1.1.0 20", "00000000 1.0.0 10 1.2.0 30", "00000000 1.1.0 20 1.2.0 30")),
+    Listing("four pairs of one byte", pair("write 1 64 0 1 1; write 2 64 0 1 1", "write 3 64 0 1 1; write 4 64 0 1 1"),
+            listing("3 4 4", *(f"00000040 1.0.{a} {1 + a} 1.1.{b} {3 + b}" for a in (0, 1) for b in (0, 1)))),
     Listing("witness before names", pair("write 1 16 0 1 1; write 2 15 0 1 1", "read 3 15 0 1 1; read 4 16 0 1 1"),
             listing("3 4 4", "0000000f 1.0.1 2 1.1.0 3", "00000010 1.0.0 1 1.1.1 4")),
     Listing("first names before second names", """

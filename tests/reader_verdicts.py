@@ -1,6 +1,7 @@
 """The fork-join graph, races, judge, next race and the text of racelist."""
 
 from collections import namedtuple
+from functools import lru_cache
 from itertools import combinations
 
 from reader_bundles import check
@@ -106,14 +107,25 @@ def race_witness(reach, first, second):
 
 
 def check_with_area(words, data):
+    """Answers the bundle and its races."""
     if words < LEAST_WORDS:
         raise Refused(13, 0)
-    return check(data)
+    return bundle_and_races(data)
+
+
+@lru_cache(maxsize=4)
+def bundle_and_races(data):
+    bundle = check(data)
+    return bundle, all_races(bundle)
+
+
+def area_after(area):
+    """What judge and next race leave in a work area, whatever they answer."""
+    return list(area) if len(area) < LEAST_WORDS else [0] * len(area)
 
 
 def judge(words, data):
-    bundle = check_with_area(words, data)
-    races = all_races(bundle)
+    bundle, races = check_with_area(words, data)
     return Judgement(
         len(bundle.chunks),
         bundle.segment_count(),
@@ -125,8 +137,8 @@ def judge(words, data):
 
 def next_race(words, data, witness, first, second):
     """The least race above the witness and the two names, or None."""
-    bundle = check_with_area(words, data)
-    return next((r for r in all_races(bundle) if race_key(r) > (witness, first, second)), None)
+    _, races = check_with_area(words, data)
+    return next((r for r in races if race_key(r) > (witness, first, second)), None)
 
 
 # ---------------------------------------------------------------- racelist

@@ -123,8 +123,14 @@ def shared_frame(first, second):
     return frame(OPERATION_SHARED, range_bytes(first) + range_bytes(second))
 
 
-def judge_frame(words, bundle):
-    return frame(OPERATION_JUDGE, number(words, 4) + bundle)
+def area_bytes(area):
+    """A work area is its length in words and the word that fills it."""
+    words, filler = area
+    return number(words, 4) + number(filler, 4)
+
+
+def judge_frame(area, bundle):
+    return frame(OPERATION_JUDGE, area_bytes(area) + bundle)
 
 
 def name_bytes(name):
@@ -132,9 +138,9 @@ def name_bytes(name):
     return number(team, 2) + number(member, 1) + number(access, 2)
 
 
-def next_frame(words, witness, first, second, bundle):
+def next_frame(area, witness, first, second, bundle):
     key = number(witness, 4) + name_bytes(first) + name_bytes(second)
-    return frame(OPERATION_NEXT, number(words, 4) + key + bundle)
+    return frame(OPERATION_NEXT, area_bytes(area) + key + bundle)
 
 
 # ------------------------------------------------------------ answer lines
@@ -178,7 +184,7 @@ def answer_find(body):
 def answer_label(body):
     team, member, segment = body.number(2), body.number(1), body.number(4)
     label = sr.label_of(body.rest(), team, member, segment)
-    return "label " + "".join(f"({o},{s},{i})" for o, s, i in label)
+    return " ".join(["label"] + [str(part) for triple in label for part in triple])
 
 
 def take_label(body):
@@ -207,8 +213,28 @@ def race_line(race):
     return sr.race_text(race, str(race.witness))
 
 
+def over_area(answer, body):
+    """The answer over a work area, and what the area holds afterwards."""
+    words, filler = body.number(4), body.number(4)
+    area = [filler] * words
+    try:
+        text = answer(words, body)
+    except Refused as refusal:
+        text = refusal_text(refusal)
+    return f"{text} area {area_text(area, sr.area_after(area))}"
+
+
+def area_text(before, after):
+    if not any(after):
+        return "zero"
+    return "kept" if after == before else "changed"
+
+
 def answer_judge(body):
-    words = body.number(4)
+    return over_area(judgement_over, body)
+
+
+def judgement_over(words, body):
     return judgement_text(sr.judge(words, body.rest()))
 
 
@@ -223,7 +249,11 @@ def take_name(body):
 
 
 def answer_next(body):
-    words, witness = body.number(4), body.number(4)
+    return over_area(next_race_over, body)
+
+
+def next_race_over(words, body):
+    witness = body.number(4)
     first = take_name(body)
     second = take_name(body)
     race = sr.next_race(words, body.rest(), witness, first, second)

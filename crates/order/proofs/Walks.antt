@@ -11,7 +11,7 @@ use borrow.Author.Tests.{le-leb, lt-leb, lt-ltb, not-false}
 use Rattle.bundle.specs.Answer.{Answer, gives, refuses}
 use Rattle.bundle.specs.Lists.{concatMap, fromOption}
 use Rattle.bundle.specs.Cases.{onDelimiter}
-use Rattle.bundle.specs.Commands.{Taken, inRange, readAt, readingOf}
+use Rattle.bundle.specs.Commands.{Taken, operandsOk, inRange, readAt, readingOf}
 use Rattle.bundle.specs.Locks.{holds}
 use Rattle.bundle.specs.Chunks.{Placed, Chunk, fresh, afterBarrier, afterJoin, afterAcquire, afterRelease, afterCommand, chunksOf, isOf, chunkOf}
 use Rattle.bundle.specs.Walk.{Border, ofChunk, borders, opensSegment, addsAccess, entriesFrom, entriesOf, Segment, Opening, openingAt, segmentsFrom, segmentsIn}
@@ -25,6 +25,7 @@ use Rattle.bundle.specs.declared.command.Command.the-variants as Com
 use Rattle.bundle.specs.declared.command.Reading.{Reading}
 use Rattle.bundle.specs.declared.command.Reading.the-variants as Read
 use Rattle.bundle.specs.declared.refusal.Cause.{Cause}
+use Rattle.bundle.proofs.Ranges.{in-range-ok}
 use Rattle.bundle.proofs.Tests.{false-is-true, false-of-not}
 use Rattle.bundle.proofs.ListLaws.{first-some}
 use Rattle.bundle.proofs.CheckCases.{RowOf, row-none, row-some}
@@ -223,9 +224,9 @@ module _ (k : ChunkState) {c : Command} (p : Passable k c) where
 
   pub acquire-passes :
       {lock : ℕ} → c ≡ Com.Acquire lock → cond (ltb lock 64 && not (holds lock (k .locks))) (afterAcquire lock k) k ≡ afterAcquire lock k
-  unfolding inRange misusesLock
+  unfolding operandsOk misusesLock
   acquire-passes {lock} e =
-      let below : ltb lock 64 ≡ true = rw e at (p .ranged) in
+      let below : ltb lock 64 ≡ true = in-range-ok (Com.Acquire lock) (rw e at (p .ranged)) in
       let free : holds lock (k .locks) ≡ false = rw e at (p .locks) in
       rw (below, free)
 

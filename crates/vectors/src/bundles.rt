@@ -3,92 +3,86 @@ use crate::numbers::byte_at;
 use crate::numbers::four_bytes;
 use crate::numbers::two_bytes;
 use crate::text;
-use crate::text::Line;
 use bundle::answer::Checking;
 use order::climb::LabelAnswer;
 use order::climb::Labelling;
 use order::label::Label;
 use order::label::Triple;
 
-fn put_checking(out: &mut [u8], used: usize, checking: Checking) -> usize {
+fn put_checking(checking: Checking) {
     match checking {
-        Checking::Accepted => text::put_text(out, used, b"accepted"),
-        Checking::Refused { place, cause } => text::put_refusal(out, used, cause, place),
+        Checking::Accepted => text::put_text(b"accepted"),
+        Checking::Refused { place, cause } => text::put_refusal(cause, place),
     }
 }
 
 // CHECK: the bundle.
-pub fn check(body: &[u8], out: &mut [u8], used: usize) -> Line {
-    let then = put_checking(out, used, bundle::check::check(body));
-    text::end_line(out, then)
+pub fn check(body: &[u8]) -> bool {
+    put_checking(bundle::check::check(body));
+    true
 }
 
 // The chunk in hexadecimal, or the refusal where it has a number.
-fn put_part(out: &mut [u8], used: usize, part: &[u8], number: u8, place: usize) -> usize {
+fn put_part(part: &[u8], number: u8, place: usize) {
     if 0 < number {
-        return text::put_refused(out, used, number, place);
+        text::put_refused(number, place);
+    } else {
+        text::put_text(b"chunk ");
+        text::put_hex(part);
     }
-    let then = text::put_text(out, used, b"chunk ");
-    text::put_hex(out, then, part)
 }
 
 // FIND: team (2 bytes), member (1), then the bundle.
-pub fn find(body: &[u8], out: &mut [u8], used: usize) -> Line {
+pub fn find(body: &[u8]) -> bool {
     if body.len() < 3 {
-        return Line::Malformed;
+        return false;
     }
     let team = two_bytes(body, 0);
     let member = byte_at(body, 2);
     let mut number = 0u8;
     let mut place = 0usize;
     let part = bundle::check::find_chunk(&body[3..], team, member, &mut number, &mut place);
-    let then = put_part(out, used, part, number, place);
-    text::end_line(out, then)
+    put_part(part, number, place);
+    true
 }
 
-// "(offset,span,interval)" where the triple is counted.
-fn put_triple(out: &mut [u8], used: usize, triple: Triple, counted: bool) -> usize {
-    if !counted {
-        return used;
+// Its three numbers, where the triple is counted.
+fn put_triple(triple: Triple, counted: bool) {
+    if counted {
+        text::put_field(triple.offset as u64);
+        text::put_field(triple.span as u64);
+        text::put_field(triple.interval as u64);
     }
-    let opened = text::put_byte(out, used, b'(');
-    let offset = text::put_number(out, opened, triple.offset as u64);
-    let first = text::put_byte(out, offset, b',');
-    let span = text::put_number(out, first, triple.span as u64);
-    let second = text::put_byte(out, span, b',');
-    let interval = text::put_number(out, second, triple.interval as u64);
-    text::put_byte(out, interval, b')')
 }
 
-fn put_label(out: &mut [u8], used: usize, label: Label) -> usize {
+fn put_label(label: Label) {
     let count = label.count;
     let triples = label.triples;
-    let named = text::put_text(out, used, b"label ");
-    let one = put_triple(out, named, triples[0], 0 < count);
-    let two = put_triple(out, one, triples[1], 1 < count);
-    let three = put_triple(out, two, triples[2], 2 < count);
-    let four = put_triple(out, three, triples[3], 3 < count);
-    put_triple(out, four, triples[4], 4 < count)
+    text::put_text(b"label");
+    put_triple(triples[0], 0 < count);
+    put_triple(triples[1], 1 < count);
+    put_triple(triples[2], 2 < count);
+    put_triple(triples[3], 3 < count);
+    put_triple(triples[4], 4 < count);
 }
 
-fn put_labelling(out: &mut [u8], used: usize, labelling: Labelling) -> usize {
+fn put_labelling(labelling: Labelling) {
     let answer = labelling.answer;
     let label = labelling.label;
     match answer {
-        LabelAnswer::Found => put_label(out, used, label),
-        LabelAnswer::Refused { place, cause } => text::put_refusal(out, used, cause, place),
+        LabelAnswer::Found => put_label(label),
+        LabelAnswer::Refused { place, cause } => text::put_refusal(cause, place),
     }
 }
 
 // LABEL: team (2 bytes), member (1), segment number (4), then the bundle.
-pub fn label(body: &[u8], out: &mut [u8], used: usize) -> Line {
+pub fn label(body: &[u8]) -> bool {
     if body.len() < 7 {
-        return Line::Malformed;
+        return false;
     }
     let team = two_bytes(body, 0);
     let member = byte_at(body, 2);
     let segment = four_bytes(body, 3);
-    let labelling = order::climb::label_of_segment(&body[7..], team, member, segment);
-    let then = put_labelling(out, used, labelling);
-    text::end_line(out, then)
+    put_labelling(order::climb::label_of_segment(&body[7..], team, member, segment));
+    true
 }

@@ -1,117 +1,65 @@
 // Answers framed cases from standard input with the proved operations, a line for each frame.
+//
+// A frame is an operation (1 byte), the length of the body (4 bytes, low byte first), and the body.
 mod bundles;
 mod commands;
-mod frames;
 mod numbers;
 mod orders;
 mod text;
 
-use frames::Span;
-use text::Line;
+use libc::STDIN_FILENO;
 
-// What is left after a frame: whether to go on, the input still to read, and the output waiting to be written.
-struct Progress {
-    more: bool,
-    span: Span,
-    used: usize,
-}
-
-fn stopped(span: Span, used: usize) -> Progress {
-    Progress {
-        more: false,
-        span,
-        used,
-    }
-}
-
-// Answers an operation with a line of text.
-fn answer(operation: u8, body: &mut [u8], out: &mut [u8], used: usize) -> Line {
+// Answers an operation, where the body is long enough for it.
+fn answer(operation: u8, body: &mut [u8]) -> bool {
     match operation {
-        1 => commands::read(body, out, used),
-        2 => commands::put(body, out, used),
-        3 => bundles::check(body, out, used),
-        4 => bundles::find(body, out, used),
-        5 => bundles::label(body, out, used),
-        6 => orders::compare(body, out, used),
-        7 => orders::share(body, out, used),
-        _ => Line::Malformed,
+        1 => commands::read(body),
+        2 => commands::put(body),
+        3 => bundles::check(body),
+        4 => bundles::find(body),
+        5 => bundles::label(body),
+        6 => orders::compare(body),
+        7 => orders::share(body),
+        _ => false,
     }
 }
 
 // Reads the body of a frame, and answers it.
-fn answer_body(
-    operation: u8,
-    body: &mut [u8],
-    input: &mut [u8],
-    span: Span,
-    out: &mut [u8],
-    used: usize,
-) -> Progress {
-    let filled = frames::fill(input, span, body);
-    let rest = filled.span;
-    if !filled.whole {
-        return stopped(rest, used);
+fn answer_body(operation: u8, body: &mut [u8]) -> bool {
+    if io::read_full(STDIN_FILENO, body) < body.len() {
+        return false;
     }
-    let line = answer(operation, body, out, used);
-    let Line::Used(then) = line else {
-        return stopped(rest, used);
-    };
-    Progress {
-        more: true,
-        span: rest,
-        used: then,
+    if !answer(operation, body) {
+        return false;
     }
+    text::put_text(b"\n");
+    true
 }
 
 // Reads a frame, and answers it.
-fn answer_next(
-    input: &mut [u8],
-    span: Span,
-    body: &mut [u8],
-    out: &mut [u8],
-    used: usize,
-) -> Progress {
-    let header = frames::read_header(input, span);
-    let rest = header.span;
-    let length = header.length;
-    if !header.found {
-        return stopped(rest, used);
+fn answer_next(body: &mut [u8]) -> bool {
+    let mut header = [0u8; 5];
+    if io::read_full(STDIN_FILENO, &mut header) < 5 {
+        return false;
     }
+    let length = numbers::four_bytes(&header, 1) as usize;
     if body.len() < length {
-        return stopped(rest, used);
+        return false;
     }
-    answer_body(
-        header.operation,
-        &mut body[..length],
-        input,
-        rest,
-        out,
-        used,
-    )
+    answer_body(header[0], &mut body[..length])
 }
 
 // A proved loop has to end, and nothing says that the input does: so the turns are counted down, from a number that no
 // run uses up.
-fn answer_all(input: &mut [u8], body: &mut [u8], out: &mut [u8]) -> usize {
+fn answer_all(body: &mut [u8]) {
     let mut turns = u64::MAX;
-    let mut span = Span { from: 0, until: 0 };
-    let mut used = 0;
     let mut more = true;
     while 0 < turns && more {
-        let progress = answer_next(input, span, body, out, used);
-        more = progress.more;
-        let rest = progress.span;
-        span = rest;
-        used = progress.used;
+        more = answer_next(body);
         turns -= 1;
     }
-    used
 }
 
 fn main() {
-    let mut input = [0u8; 65536];
     let mut body = [0u8; 70000];
-    let mut out = [0u8; 65536];
-    let used = answer_all(&mut input, &mut body, &mut out);
-    text::flush(&out, used);
+    answer_all(&mut body);
 }

@@ -3,7 +3,6 @@ use crate::numbers::byte_at;
 use crate::numbers::four_bytes;
 use crate::numbers::two_bytes;
 use crate::text;
-use crate::text::Line;
 use bundle::command::Range;
 use order::label::Comparison;
 use order::label::Label;
@@ -39,31 +38,31 @@ fn label_at(body: &[u8], at: usize) -> Label
     }
 }
 
-fn put_order(out: &mut [u8], used: usize, order: Order) -> usize {
+fn put_order(order: Order) {
     match order {
-        Order::Same => text::put_text(out, used, b"same"),
-        Order::Before => text::put_text(out, used, b"before"),
-        Order::After => text::put_text(out, used, b"after"),
-        Order::Concurrent => text::put_text(out, used, b"concurrent"),
+        Order::Same => text::put_text(b"same"),
+        Order::Before => text::put_text(b"before"),
+        Order::After => text::put_text(b"after"),
+        Order::Concurrent => text::put_text(b"concurrent"),
     }
 }
 
-fn put_comparison(out: &mut [u8], used: usize, comparison: Comparison) -> usize {
+fn put_comparison(comparison: Comparison) {
     match comparison {
-        Comparison::Compared(order) => put_order(out, used, order),
-        Comparison::Refused { place, cause } => text::put_refusal(out, used, cause, place),
+        Comparison::Compared(order) => put_order(order),
+        Comparison::Refused { place, cause } => text::put_refusal(cause, place),
     }
 }
 
 // COMPARE: two labels of 64 bytes.
-pub fn compare(body: &[u8], out: &mut [u8], used: usize) -> Line {
+pub fn compare(body: &[u8]) -> bool {
     if body.len() != 128 {
-        return Line::Malformed;
+        return false;
     }
     let first = label_at(body, 0);
     let second = label_at(body, 64);
-    let then = put_comparison(out, used, order::label::compare(first, second));
-    text::end_line(out, then)
+    put_comparison(order::label::compare(first, second));
+    true
 }
 
 // Base (4 bytes), stride (2), count (2) and size (1).
@@ -78,24 +77,24 @@ fn range_at(body: &[u8], at: usize) -> Range
     }
 }
 
-fn put_shared(out: &mut [u8], used: usize, shared: Shared) -> usize {
+fn put_shared(shared: Shared) {
     match shared {
         Shared::Byte(byte) => {
-            let then = text::put_text(out, used, b"byte");
-            text::put_field(out, then, byte as u64)
+            text::put_text(b"byte");
+            text::put_field(byte as u64);
         }
-        Shared::Nothing => text::put_text(out, used, b"none"),
-        Shared::Refused { place, cause } => text::put_refusal(out, used, cause, place),
+        Shared::Nothing => text::put_text(b"none"),
+        Shared::Refused { place, cause } => text::put_refusal(cause, place),
     }
 }
 
 // SHARED: two ranges of 9 bytes.
-pub fn share(body: &[u8], out: &mut [u8], used: usize) -> Line {
+pub fn share(body: &[u8]) -> bool {
     if body.len() != 18 {
-        return Line::Malformed;
+        return false;
     }
     let first = range_at(body, 0);
     let second = range_at(body, 9);
-    let then = put_shared(out, used, order::range::lowest_shared_byte(first, second));
-    text::end_line(out, then)
+    put_shared(order::range::lowest_shared_byte(first, second));
+    true
 }

@@ -1,0 +1,388 @@
+-- Examples aimed at single points of document 01, with the second reader's answers. tests/write_examples writes this file.
+use Prim.Native.Nat.{ℕ}
+use mathlib.Core.Path.{_≡_, refl}
+use mathlib.Core.List.{List, [], _∷_, map}
+use mathlib.Core.Option.{Option, none, some}
+use lib.ListN.{replicate}
+use Rattle.bundle.specs.Answer.{Answer, gives, refuses}
+use Rattle.bundle.specs.Commands.{Lent}
+use Rattle.bundle.specs.Check.{checkOf}
+use Rattle.order.specs.Labels.{labelOf, compareOf}
+use Rattle.order.specs.declared.label.Triple.{Triple}
+use Rattle.order.specs.declared.label.Label.{Label}
+use Rattle.order.specs.declared.label.Order.{Order}
+use Rattle.order.specs.declared.label.Order.the-variants as Ord
+use Rattle.verdict.specs.Races.{keyOf}
+use Rattle.verdict.specs.Judge.{judgeOf, raceAbove, nextOf}
+use Rattle.verdict.specs.Table.{triple}
+use Rattle.verdict.specs.declared.race.Name.{Name}
+use Rattle.verdict.specs.declared.race.Race.{Race}
+use Rattle.verdict.specs.declared.race.Verdict.the-variants as Ver
+use Rattle.verdict.specs.declared.race.Judgement.{Judgement}
+use Rattle.verdict.proofs.Computing.{verdict-computes}
+use Rattle.verdict.proofs.SmallBundles.{bytes, race}
+
+-- what the definitions give, and what is wanted
+pub record Row (A : Type 0) : Type 0 where
+  pub given : A
+  pub wanted : A
+
+unfoldable pub row : {A : Type 0} → A → A → Row A
+row g w = record { given = g; wanted = w }
+
+unfoldable pub name : ℕ → ℕ → ℕ → Name
+name t m n = record { team = t; member = m; number = n }
+
+unfoldable pub label : ℕ → List Triple → Label
+label count triples = record { count = count; triples = triples }
+
+-- refusals of check, and bundles that it accepts
+unfoldable pub checks : List (Row (Answer (Unit {0})))
+checks =
+    row (checkOf (bytes 5 0x0100000002)) (gives tt) ∷
+    row (checkOf (bytes 45 0x01000000100100020201010000310a000010000008000200041102010100013014000a10000000000100041102)) (gives tt) ∷
+    row (checkOf (bytes 45 0x01000000100100020201010000310a00001000000800020004110201010001113014000a100000000001000402)) (gives tt) ∷
+    row (checkOf (bytes 41 0x0100000010010001020101000010020001020102000010030001020103000010040001020104000002)) (gives tt) ∷
+    row (checkOf (bytes 23 0x0102000002010100001002000102010000001001000102)) (gives tt) ∷
+    row (checkOf (bytes 27 0x010000002000203f10010001112100213f0201010000203f213f02)) (gives tt) ∷
+    row (checkOf (bytes 13 0x01000000200521052005210502)) (gives tt) ∷
+    row (checkOf (bytes 7 0x01000000111102)) (gives tt) ∷
+    row (checkOf (bytes 17 0x01000000310100f8ffffff000001000802)) (gives tt) ∷
+    row (checkOf (bytes 17 0x01000000310100f6ffffff080002000202)) (gives tt) ∷
+    row (checkOf (bytes 38 0x0100000011100100021002000202010100001111020101000111110201020000020102000102)) (gives tt) ∷
+    row (checkOf (bytes 1 0x00)) (refuses 2 0) ∷
+    row (checkOf (bytes 7 0x01000000110302)) (refuses 2 5) ∷
+    row (checkOf (bytes 6 0x0100000002ff)) (refuses 2 5) ∷
+    row (checkOf (bytes 5 0x0100000034)) (refuses 2 4) ∷
+    row (checkOf (bytes 2 0x1202)) (refuses 2 0) ∷
+    row (checkOf (bytes 6 0x010000002220)) (refuses 2 4) ∷
+    row (checkOf (bytes 5 0x010000002f)) (refuses 2 4) ∷
+    row (checkOf (bytes 14 0x010000011001000210010002020f)) (refuses 2 13) ∷
+    row (checkOf (bytes 1 0x01)) (refuses 3 0) ∷
+    row (checkOf (bytes 3 0x010000)) (refuses 3 0) ∷
+    row (checkOf (bytes 7 0x01000000020101)) (refuses 3 5) ∷
+    row (checkOf (bytes 5 0x0100000010)) (refuses 3 4) ∷
+    row (checkOf (bytes 7 0x01000000100100)) (refuses 3 4) ∷
+    row (checkOf (bytes 5 0x0100000020)) (refuses 3 4) ∷
+    row (checkOf (bytes 5 0x0100000021)) (refuses 3 4) ∷
+    row (checkOf (bytes 5 0x0100000030)) (refuses 3 4) ∷
+    row (checkOf (bytes 15 0x010000003301000000000000000100)) (refuses 3 4) ∷
+    row (checkOf (bytes 5 0x3101000000)) (refuses 3 0) ∷
+    row (checkOf (bytes 6 0x010000000220)) (refuses 3 5) ∷
+    row (checkOf (bytes 2 0x1001)) (refuses 3 0) ∷
+    row (checkOf (bytes 7 0x01000000010100)) (refuses 3 4) ∷
+    row (checkOf (bytes 7 0x01000000100000)) (refuses 3 4) ∷
+    row (checkOf (bytes 7 0x01050000100500)) (refuses 3 4) ∷
+    row (checkOf (bytes 15 0x010000003101000000000000000000)) (refuses 3 4) ∷
+    row (checkOf (bytes 7 0x01000000200121)) (refuses 3 6) ∷
+    row (checkOf (bytes 14 0x0100000110010002100100020201)) (refuses 3 13) ∷
+    row (checkOf (bytes 1 0x02)) (refuses 4 0) ∷
+    row (checkOf (bytes 1 0x11)) (refuses 4 0) ∷
+    row (checkOf (bytes 5 0x1001000102)) (refuses 4 0) ∷
+    row (checkOf (bytes 2 0x2001)) (refuses 4 0) ∷
+    row (checkOf (bytes 2 0x2101)) (refuses 4 0) ∷
+    row (checkOf (bytes 17 0x3001000000000000000100010100000002)) (refuses 4 0) ∷
+    row (checkOf (bytes 17 0x3101000000000000000100010100000002)) (refuses 4 0) ∷
+    row (checkOf (bytes 17 0x3201000000000000000100010100000002)) (refuses 4 0) ∷
+    row (checkOf (bytes 17 0x3301000000000000000100010100000002)) (refuses 4 0) ∷
+    row (checkOf (bytes 6 0x010000000202)) (refuses 4 5) ∷
+    row (checkOf (bytes 15 0x010000001001000102110101000002)) (refuses 4 9) ∷
+    row (checkOf (bytes 9 0x010000000101000002)) (refuses 4 4) ∷
+    row (checkOf (bytes 11 0x0100000011010000000202)) (refuses 4 5) ∷
+    row (checkOf (bytes 4 0x01000000)) (refuses 4 4) ∷
+    row (checkOf (bytes 8 0x0100000010010001)) (refuses 4 8) ∷
+    row (checkOf (bytes 14 0x0100000010010001020101000011)) (refuses 4 14) ∷
+    row (checkOf (bytes 6 0x010000002001)) (refuses 4 6) ∷
+    row (checkOf (bytes 17 0x0100000110010002100100020201000001)) (refuses 4 17) ∷
+    row (checkOf (bytes 9 0x010000000100004002)) (refuses 4 4) ∷
+    row (checkOf (bytes 2 0x2040)) (refuses 4 0) ∷
+    row (checkOf (bytes 2 0x21ff)) (refuses 4 0) ∷
+    row (checkOf (bytes 4 0x10010000)) (refuses 4 0) ∷
+    row (checkOf (bytes 9 0x010000000210000001)) (refuses 4 5) ∷
+    row (checkOf (bytes 12 0x310100000000000000000001)) (refuses 4 0) ∷
+    row (checkOf (bytes 12 0x320100000000000000010003)) (refuses 4 0) ∷
+    row (checkOf (bytes 7 0x01000000022101)) (refuses 4 5) ∷
+    row (checkOf (bytes 13 0x01000000200121010220012001)) (refuses 4 9) ∷
+    row (checkOf (bytes 2 0x1100)) (refuses 4 0) ∷
+    row (checkOf (bytes 2 0x0201)) (refuses 4 0) ∷
+    row (checkOf (bytes 14 0x0100000110010002100100020202)) (refuses 4 13) ∷
+    row (checkOf (bytes 5 0x0100004002)) (refuses 5 0) ∷
+    row (checkOf (bytes 10 0x0100000002010100ff02)) (refuses 5 5) ∷
+    row (checkOf (bytes 9 0x010000001000000102)) (refuses 5 4) ∷
+    row (checkOf (bytes 9 0x010000001001000002)) (refuses 5 4) ∷
+    row (checkOf (bytes 9 0x010000001001004102)) (refuses 5 4) ∷
+    row (checkOf (bytes 18 0x010000001003000102010300001003000102)) (refuses 5 13) ∷
+    row (checkOf (bytes 18 0x010000001003000102010300001002000102)) (refuses 5 13) ∷
+    row (checkOf (bytes 9 0x01ffff0010ffff0102)) (refuses 5 4) ∷
+    row (checkOf (bytes 9 0x0100010010ff000102)) (refuses 5 4) ∷
+    row (checkOf (bytes 7 0x01000000204002)) (refuses 5 4) ∷
+    row (checkOf (bytes 17 0x0100000030010000000000000000000102)) (refuses 5 4) ∷
+    row (checkOf (bytes 17 0x0100000030010000000000040000000102)) (refuses 5 4) ∷
+    row (checkOf (bytes 17 0x0100000031010000000000000002000102)) (refuses 5 4) ∷
+    row (checkOf (bytes 17 0x0100000032010000000000010001000102)) (refuses 5 4) ∷
+    row (checkOf (bytes 17 0x0100000033010000000000000001000002)) (refuses 5 4) ∷
+    row (checkOf (bytes 17 0x0100000033010000000000000001000302)) (refuses 5 4) ∷
+    row (checkOf (bytes 17 0x0100000033010000000000000001000502)) (refuses 5 4) ∷
+    row (checkOf (bytes 17 0x0100000033010000000000000001000602)) (refuses 5 4) ∷
+    row (checkOf (bytes 17 0x0100000033010000000000000001000702)) (refuses 5 4) ∷
+    row (checkOf (bytes 17 0x0100000033010000000000000001000902)) (refuses 5 4) ∷
+    row (checkOf (bytes 17 0x0100000033010000000000000001001002)) (refuses 5 4) ∷
+    row (checkOf (bytes 17 0x010000003301000000000000000100ff02)) (refuses 5 4) ∷
+    row (checkOf (bytes 17 0x01000000310100ffffffff000001000202)) (refuses 5 4) ∷
+    row (checkOf (bytes 17 0x01000000310100f7ffffff080002000202)) (refuses 5 4) ∷
+    row (checkOf (bytes 17 0x01000000310100ffffffffffffffff0802)) (refuses 5 4) ∷
+    row (checkOf (bytes 7 0x01000000214002)) (refuses 5 4) ∷
+    row (checkOf (bytes 9 0x010000002041204102)) (refuses 5 4) ∷
+    row (checkOf (bytes 7 0x01000000204000)) (refuses 5 4) ∷
+    row (checkOf (bytes 6 0x010000002040)) (refuses 5 4) ∷
+    row (checkOf (bytes 9 0x010000002040210302)) (refuses 5 4) ∷
+    row (checkOf (bytes 18 0x010000011001000210010002020100004002)) (refuses 5 13) ∷
+    row (checkOf (bytes 11 0x0100000020032003210302)) (refuses 6 6) ∷
+    row (checkOf (bytes 12 0x010000002000203f11200002)) (refuses 6 9) ∷
+    row (checkOf (bytes 7 0x01000000210302)) (refuses 6 4) ∷
+    row (checkOf (bytes 9 0x010000002003210402)) (refuses 6 6) ∷
+    row (checkOf (bytes 11 0x0100000020032103210302)) (refuses 6 8) ∷
+    row (checkOf (bytes 20 0x0100000010010001200321030201010000210302)) (refuses 6 17) ∷
+    row (checkOf (bytes 7 0x01000000203f02)) (refuses 6 6) ∷
+    row (checkOf (bytes 11 0x0100000020002001210002)) (refuses 6 10) ∷
+    row (checkOf (bytes 7 0x01000000210300)) (refuses 6 4) ∷
+    row (checkOf (bytes 8 0x0100000020010202)) (refuses 6 6) ∷
+    row (checkOf (bytes 9 0x010000002103204002)) (refuses 6 4) ∷
+    row (checkOf (bytes 20 0x0100000110010002100100020201000001210002)) (refuses 6 17) ∷
+    row (checkOf (bytes 18 0x010000001001000110010001020101000002)) (refuses 8 8) ∷
+    row (checkOf (bytes 32 0x0100000010010002020101000010020001020101000110020001020102000002)) (refuses 8 22) ∷
+    row (checkOf (bytes 27 0x010100001002000102010000001001000110020001020102000002)) (refuses 8 17) ∷
+    row (checkOf (bytes 23 0x0100000010010001100100020201010000020101000102)) (refuses 8 8) ∷
+    row (checkOf (bytes 22 0x01000000100100011001000110010001020101000002)) (refuses 8 8) ∷
+    row (checkOf (bytes 31 0x01000000100100011002000110020001100100010201010000020102000002)) (refuses 8 12) ∷
+    row (checkOf (bytes 23 0x0109000002010000001001000110010001020101000002)) (refuses 8 13) ∷
+    row (checkOf (bytes 22 0x01000000100200011001000110010001020101000002)) (refuses 8 12) ∷
+    row (checkOf (bytes 13 0x01000000100100011001000102)) (refuses 8 8) ∷
+    row (checkOf (bytes 54 0x010000001001000102010100001002000102010200001003000102010300001004000102010400001005000110050001020105000002)) (refuses 8 44) ∷
+    row (checkOf (bytes 33 0x010100010201010000110201000000100100021002000110020001020102000002)) (refuses 8 23) ∷
+    row (checkOf (bytes 10 0x01000000020101000002)) (refuses 9 5) ∷
+    row (checkOf (bytes 10 0x01010000020100000002)) (refuses 9 0) ∷
+    row (checkOf (bytes 5 0x0101000002)) (refuses 9 0) ∷
+    row (checkOf (bytes 19 0x01000000100101010201010000020101010002)) (refuses 9 9) ∷
+    row (checkOf (bytes 19 0x01000000100100010201010000020101000102)) (refuses 9 14) ∷
+    row (checkOf (bytes 24 0x0101003f0201000000100100020201010000020101000102)) (refuses 9 0) ∷
+    row (checkOf (bytes 10 0x01000000020100000102)) (refuses 9 5) ∷
+    row (checkOf (bytes 5 0x0100000102)) (refuses 9 0) ∷
+    row (checkOf (bytes 10 0x01000000020100000002)) (refuses 9 5) ∷
+    row (checkOf (bytes 19 0x01000000100100010201010000020101000002)) (refuses 9 14) ∷
+    row (checkOf (bytes 19 0x01010000020101000002010000001001000102)) (refuses 9 5) ∷
+    row (checkOf (bytes 15 0x010000000201000000020100000002)) (refuses 9 5) ∷
+    row (checkOf (bytes 29 0x0100000010010001020101000002010100010201010000020102000002)) (refuses 9 14) ∷
+    row (checkOf (bytes 29 0x0100000010010001020101000002010200000201010001020101000002)) (refuses 9 14) ∷
+    row (checkOf (bytes 29 0x0100000010010001020101000002010100000201020000020101000102)) (refuses 9 14) ∷
+    row (checkOf (bytes 19 0x01000000100100020201010000020102000002)) (refuses 9 14) ∷
+    row (checkOf (bytes 14 0x0103000010040001020104000002)) (refuses 9 0) ∷
+    row (checkOf (bytes 55 0x01000000100100010201010000100200010201020000100300010201030000100400010201040000100500010201050000020106000002)) (refuses 9 50) ∷
+    row (checkOf (bytes 25 0x01000000100100020201010000110201010001020101000202)) (refuses 9 20) ∷
+    row (checkOf (bytes 11 0x0100000002010000001102)) (refuses 9 5) ∷
+    row (checkOf (bytes 0 0x0)) (refuses 10 0) ∷
+    row (checkOf (bytes 9 0x010000001001000102)) (refuses 10 4) ∷
+    row (checkOf (bytes 19 0x01000000100100030201010000020101000102)) (refuses 10 4) ∷
+    row (checkOf (bytes 14 0x0100000010010002020101000102)) (refuses 10 4) ∷
+    row (checkOf (bytes 19 0x01010000020101000202010000001001000302)) (refuses 10 14) ∷
+    row (checkOf (bytes 23 0x0100000010010001020101000010020002020102000002)) (refuses 10 13) ∷
+    row (checkOf (bytes 22 0x01000000100300011002000110010001020103000002)) (refuses 10 8) ∷
+    row (checkOf (bytes 22 0x01010000100200010201000000100100011003000102)) (refuses 10 4) ∷
+    row (checkOf (bytes 45 0x010000001001000102010100001002000102010200001003000102010300001004000102010400001005000102)) (refuses 10 40) ∷
+    row (checkOf (bytes 54 0x010400001005000102010500000201000000100100011009000102010100001002000102010200001003000102010300001004000102)) (refuses 10 22) ∷
+    row (checkOf (bytes 24 0x010100001102010100010201000000100100021002000102)) (refuses 10 19) ∷
+    row (checkOf (bytes 20 0x0101000111020101000202010000001001000302)) (refuses 10 15) ∷
+    row (checkOf (bytes 50 0x0100000010010001020101000010020001020102000010030001020103000010040001020104000010050001020105000002)) (refuses 11 40) ∷
+    row (checkOf (bytes 59 0x0100000010010001020101000010020001020102000010030001020103000010040001020104000010050001020105000010060001020106000002)) (refuses 11 40) ∷
+    row (checkOf (bytes 59 0x0105000010060001020106000002010000001001000102010100001002000102010200001003000102010300001004000102010400001005000102)) (refuses 11 4) ∷
+    row (checkOf (bytes 59 0x0100000010010001020101000010020001020102000010030001020103000010040001020104000010060001100500010201050000020106000002)) (refuses 11 40) ∷
+    row (checkOf (bytes 56 0x0105000111020105000002010000001001000102010100001002000102010200001003000102010300001004000102010400001005000202)) (refuses 11 51) ∷
+    row (checkOf (bytes 20 0x0100000010010002020101000011020101000102)) (refuses 12 15) ∷
+    row (checkOf (bytes 20 0x0100000010010002020101000002010100011102)) (refuses 12 14) ∷
+    row (checkOf (bytes 20 0x0101000102010000001001000202010100001102)) (refuses 12 0) ∷
+    row (checkOf (bytes 25 0x01000000100100030201010000110201010002020101000102)) (refuses 12 15) ∷
+    row (checkOf (bytes 28 0x01000000100100030201010000110201010001110201010002111102)) (refuses 12 21) ∷
+    row (checkOf (bytes 35 0x0100000010010002100200020201020000020102000111020101000002010100011102)) (refuses 12 18) ∷
+    row (checkOf (bytes 29 0x0100000010010002020101000011020101000110020001020102000002)) (refuses 12 15) ∷
+    row (checkOf (bytes 47 0x0100000010010001020101000010020001020102000010030001020103000010040002020104000011020104000102)) (refuses 12 42) ∷
+    []
+
+pub checks-agree : map (λ (r : Row (Answer (Unit {0}))). r .given) checks ≡ map (λ (r : Row (Answer (Unit {0}))). r .wanted) checks
+unfolding verdict-computes bytes race row name label checks
+checks-agree = refl
+
+-- labels of segments
+unfoldable pub labels : List (Row (Answer (List Triple)))
+labels =
+    row (labelOf (bytes 46 0x01000000100100020201010000110201010001111004000110020002020104000002010200001102010200011102) 1 0 1) (gives (triple 0 1 0 ∷ triple 0 2 1 ∷ [])) ∷
+    row (labelOf (bytes 46 0x01000000100100020201010000110201010001111004000110020002020104000002010200001102010200011102) 1 1 1) (gives (triple 0 1 0 ∷ triple 1 2 1 ∷ [])) ∷
+    row (labelOf (bytes 46 0x01000000100100020201010000110201010001111004000110020002020104000002010200001102010200011102) 1 1 2) (gives (triple 0 1 0 ∷ triple 3 2 1 ∷ [])) ∷
+    row (labelOf (bytes 46 0x01000000100100020201010000110201010001111004000110020002020104000002010200001102010200011102) 1 1 3) (gives (triple 0 1 0 ∷ triple 5 2 1 ∷ [])) ∷
+    row (labelOf (bytes 46 0x01000000100100020201010000110201010001111004000110020002020104000002010200001102010200011102) 4 0 0) (gives (triple 0 1 0 ∷ triple 1 2 1 ∷ triple 0 1 0 ∷ [])) ∷
+    row (labelOf (bytes 46 0x01000000100100020201010000110201010001111004000110020002020104000002010200001102010200011102) 2 0 0) (gives (triple 0 1 0 ∷ triple 3 2 1 ∷ triple 0 2 0 ∷ [])) ∷
+    row (labelOf (bytes 46 0x01000000100100020201010000110201010001111004000110020002020104000002010200001102010200011102) 2 1 0) (gives (triple 0 1 0 ∷ triple 3 2 1 ∷ triple 1 2 0 ∷ [])) ∷
+    row (labelOf (bytes 46 0x01000000100100020201010000110201010001111004000110020002020104000002010200001102010200011102) 2 1 1) (gives (triple 0 1 0 ∷ triple 3 2 1 ∷ triple 1 2 1 ∷ [])) ∷
+    row (labelOf (bytes 46 0x01000000100100020201010000110201010001111004000110020002020104000002010200001102010200011102) 3 0 0) (refuses 14 0) ∷
+    row (labelOf (bytes 46 0x01000000100100020201010000110201010001111004000110020002020104000002010200001102010200011102) 2 2 0) (refuses 14 0) ∷
+    row (labelOf (bytes 46 0x01000000100100020201010000110201010001111004000110020002020104000002010200001102010200011102) 2 1 2) (refuses 14 0) ∷
+    row (labelOf (bytes 42 0x010000001001000102010100001002000102010200001003000102010300001004000102010400001102) 3 0 1) (gives (triple 0 1 0 ∷ triple 0 1 0 ∷ triple 0 1 0 ∷ triple 1 1 0 ∷ [])) ∷
+    row (labelOf (bytes 42 0x010000001001000102010100001002000102010200001003000102010300001004000102010400001102) 4 0 1) (gives (triple 0 1 0 ∷ triple 0 1 0 ∷ triple 0 1 0 ∷ triple 0 1 0 ∷ triple 0 1 1 ∷ [])) ∷
+    []
+
+pub labels-agree : map (λ (r : Row (Answer (List Triple))). r .given) labels ≡ map (λ (r : Row (Answer (List Triple))). r .wanted) labels
+unfolding verdict-computes bytes race row name label labels
+labels-agree = refl
+
+-- comparisons of labels, both ways
+unfoldable pub comparisons : List (Row (Answer Order))
+comparisons =
+    row (compareOf (label 1 (triple 0 1 0 ∷ triple 7 0 7 ∷ triple 7 0 7 ∷ triple 7 0 7 ∷ triple 7 0 7 ∷ [])) (label 1 (triple 0 1 0 ∷ triple 7 0 7 ∷ triple 7 0 7 ∷ triple 7 0 7 ∷ triple 7 0 7 ∷ []))) (gives Ord.Same) ∷
+    row (compareOf (label 1 (triple 0 1 0 ∷ triple 7 0 7 ∷ triple 7 0 7 ∷ triple 7 0 7 ∷ triple 7 0 7 ∷ [])) (label 1 (triple 0 1 0 ∷ triple 0 1 0 ∷ triple 0 1 0 ∷ triple 0 1 0 ∷ triple 0 1 0 ∷ []))) (gives Ord.Same) ∷
+    row (compareOf (label 5 (triple 0 1 0 ∷ triple 1 2 3 ∷ triple 4 5 6 ∷ triple 7 64 9 ∷ triple 63 64 0 ∷ [])) (label 5 (triple 0 1 0 ∷ triple 1 2 3 ∷ triple 4 5 6 ∷ triple 7 64 9 ∷ triple 63 64 0 ∷ []))) (gives Ord.Same) ∷
+    row (compareOf (label 1 (triple 0 1 0 ∷ triple 7 0 7 ∷ triple 7 0 7 ∷ triple 7 0 7 ∷ triple 7 0 7 ∷ [])) (label 2 (triple 0 1 0 ∷ triple 0 2 0 ∷ triple 7 0 7 ∷ triple 7 0 7 ∷ triple 7 0 7 ∷ []))) (gives Ord.Before) ∷
+    row (compareOf (label 2 (triple 0 1 0 ∷ triple 0 2 0 ∷ triple 7 0 7 ∷ triple 7 0 7 ∷ triple 7 0 7 ∷ [])) (label 1 (triple 0 1 0 ∷ triple 7 0 7 ∷ triple 7 0 7 ∷ triple 7 0 7 ∷ triple 7 0 7 ∷ []))) (gives Ord.After) ∷
+    row (compareOf (label 4 (triple 0 1 0 ∷ triple 1 2 3 ∷ triple 4 5 6 ∷ triple 7 64 9 ∷ triple 7 0 7 ∷ [])) (label 5 (triple 0 1 0 ∷ triple 1 2 3 ∷ triple 4 5 6 ∷ triple 7 64 9 ∷ triple 63 64 0 ∷ []))) (gives Ord.Before) ∷
+    row (compareOf (label 5 (triple 0 1 0 ∷ triple 1 2 3 ∷ triple 4 5 6 ∷ triple 7 64 9 ∷ triple 63 64 0 ∷ [])) (label 4 (triple 0 1 0 ∷ triple 1 2 3 ∷ triple 4 5 6 ∷ triple 7 64 9 ∷ triple 7 0 7 ∷ []))) (gives Ord.After) ∷
+    row (compareOf (label 1 (triple 0 1 0 ∷ triple 7 0 7 ∷ triple 7 0 7 ∷ triple 7 0 7 ∷ triple 7 0 7 ∷ [])) (label 5 (triple 0 1 0 ∷ triple 1 2 3 ∷ triple 4 5 6 ∷ triple 7 64 9 ∷ triple 63 64 0 ∷ []))) (gives Ord.Before) ∷
+    row (compareOf (label 5 (triple 0 1 0 ∷ triple 1 2 3 ∷ triple 4 5 6 ∷ triple 7 64 9 ∷ triple 63 64 0 ∷ [])) (label 1 (triple 0 1 0 ∷ triple 7 0 7 ∷ triple 7 0 7 ∷ triple 7 0 7 ∷ triple 7 0 7 ∷ []))) (gives Ord.After) ∷
+    row (compareOf (label 1 (triple 0 1 0 ∷ triple 7 0 7 ∷ triple 7 0 7 ∷ triple 7 0 7 ∷ triple 7 0 7 ∷ [])) (label 2 (triple 1 1 0 ∷ triple 0 2 0 ∷ triple 7 0 7 ∷ triple 7 0 7 ∷ triple 7 0 7 ∷ []))) (gives Ord.Before) ∷
+    row (compareOf (label 2 (triple 1 1 0 ∷ triple 0 2 0 ∷ triple 7 0 7 ∷ triple 7 0 7 ∷ triple 7 0 7 ∷ [])) (label 1 (triple 0 1 0 ∷ triple 7 0 7 ∷ triple 7 0 7 ∷ triple 7 0 7 ∷ triple 7 0 7 ∷ []))) (gives Ord.After) ∷
+    row (compareOf (label 1 (triple 3 1 1 ∷ triple 7 0 7 ∷ triple 7 0 7 ∷ triple 7 0 7 ∷ triple 7 0 7 ∷ [])) (label 1 (triple 4 1 0 ∷ triple 7 0 7 ∷ triple 7 0 7 ∷ triple 7 0 7 ∷ triple 7 0 7 ∷ []))) (gives Ord.After) ∷
+    row (compareOf (label 1 (triple 4 1 0 ∷ triple 7 0 7 ∷ triple 7 0 7 ∷ triple 7 0 7 ∷ triple 7 0 7 ∷ [])) (label 1 (triple 3 1 1 ∷ triple 7 0 7 ∷ triple 7 0 7 ∷ triple 7 0 7 ∷ triple 7 0 7 ∷ []))) (gives Ord.Before) ∷
+    row (compareOf (label 2 (triple 0 1 0 ∷ triple 0 2 0 ∷ triple 7 0 7 ∷ triple 7 0 7 ∷ triple 7 0 7 ∷ [])) (label 2 (triple 0 1 0 ∷ triple 1 2 0 ∷ triple 7 0 7 ∷ triple 7 0 7 ∷ triple 7 0 7 ∷ []))) (gives Ord.Concurrent) ∷
+    row (compareOf (label 2 (triple 0 1 0 ∷ triple 1 2 0 ∷ triple 7 0 7 ∷ triple 7 0 7 ∷ triple 7 0 7 ∷ [])) (label 2 (triple 0 1 0 ∷ triple 0 2 0 ∷ triple 7 0 7 ∷ triple 7 0 7 ∷ triple 7 0 7 ∷ []))) (gives Ord.Concurrent) ∷
+    row (compareOf (label 2 (triple 0 1 0 ∷ triple 0 2 0 ∷ triple 7 0 7 ∷ triple 7 0 7 ∷ triple 7 0 7 ∷ [])) (label 2 (triple 0 1 0 ∷ triple 2 2 0 ∷ triple 7 0 7 ∷ triple 7 0 7 ∷ triple 7 0 7 ∷ []))) (gives Ord.Before) ∷
+    row (compareOf (label 2 (triple 0 1 0 ∷ triple 2 2 0 ∷ triple 7 0 7 ∷ triple 7 0 7 ∷ triple 7 0 7 ∷ [])) (label 2 (triple 0 1 0 ∷ triple 0 2 0 ∷ triple 7 0 7 ∷ triple 7 0 7 ∷ triple 7 0 7 ∷ []))) (gives Ord.After) ∷
+    row (compareOf (label 2 (triple 0 1 0 ∷ triple 1 2 0 ∷ triple 7 0 7 ∷ triple 7 0 7 ∷ triple 7 0 7 ∷ [])) (label 2 (triple 0 1 0 ∷ triple 2 2 0 ∷ triple 7 0 7 ∷ triple 7 0 7 ∷ triple 7 0 7 ∷ []))) (gives Ord.Concurrent) ∷
+    row (compareOf (label 2 (triple 0 1 0 ∷ triple 2 2 0 ∷ triple 7 0 7 ∷ triple 7 0 7 ∷ triple 7 0 7 ∷ [])) (label 2 (triple 0 1 0 ∷ triple 1 2 0 ∷ triple 7 0 7 ∷ triple 7 0 7 ∷ triple 7 0 7 ∷ []))) (gives Ord.Concurrent) ∷
+    row (compareOf (label 2 (triple 0 1 0 ∷ triple 0 2 0 ∷ triple 7 0 7 ∷ triple 7 0 7 ∷ triple 7 0 7 ∷ [])) (label 2 (triple 0 1 0 ∷ triple 1 2 1 ∷ triple 7 0 7 ∷ triple 7 0 7 ∷ triple 7 0 7 ∷ []))) (gives Ord.Before) ∷
+    row (compareOf (label 2 (triple 0 1 0 ∷ triple 1 2 1 ∷ triple 7 0 7 ∷ triple 7 0 7 ∷ triple 7 0 7 ∷ [])) (label 2 (triple 0 1 0 ∷ triple 0 2 0 ∷ triple 7 0 7 ∷ triple 7 0 7 ∷ triple 7 0 7 ∷ []))) (gives Ord.After) ∷
+    row (compareOf (label 2 (triple 0 1 0 ∷ triple 5 2 0 ∷ triple 7 0 7 ∷ triple 7 0 7 ∷ triple 7 0 7 ∷ [])) (label 2 (triple 0 1 0 ∷ triple 0 2 1 ∷ triple 7 0 7 ∷ triple 7 0 7 ∷ triple 7 0 7 ∷ []))) (gives Ord.Before) ∷
+    row (compareOf (label 2 (triple 0 1 0 ∷ triple 0 2 1 ∷ triple 7 0 7 ∷ triple 7 0 7 ∷ triple 7 0 7 ∷ [])) (label 2 (triple 0 1 0 ∷ triple 5 2 0 ∷ triple 7 0 7 ∷ triple 7 0 7 ∷ triple 7 0 7 ∷ []))) (gives Ord.After) ∷
+    row (compareOf (label 3 (triple 0 1 0 ∷ triple 0 2 0 ∷ triple 0 2 1 ∷ triple 7 0 7 ∷ triple 7 0 7 ∷ [])) (label 2 (triple 0 1 0 ∷ triple 1 2 0 ∷ triple 7 0 7 ∷ triple 7 0 7 ∷ triple 7 0 7 ∷ []))) (gives Ord.Concurrent) ∷
+    row (compareOf (label 2 (triple 0 1 0 ∷ triple 1 2 0 ∷ triple 7 0 7 ∷ triple 7 0 7 ∷ triple 7 0 7 ∷ [])) (label 3 (triple 0 1 0 ∷ triple 0 2 0 ∷ triple 0 2 1 ∷ triple 7 0 7 ∷ triple 7 0 7 ∷ []))) (gives Ord.Concurrent) ∷
+    row (compareOf (label 3 (triple 0 1 0 ∷ triple 0 2 0 ∷ triple 9 9 9 ∷ triple 7 0 7 ∷ triple 7 0 7 ∷ [])) (label 3 (triple 0 1 0 ∷ triple 0 2 1 ∷ triple 0 3 0 ∷ triple 7 0 7 ∷ triple 7 0 7 ∷ []))) (gives Ord.Before) ∷
+    row (compareOf (label 3 (triple 0 1 0 ∷ triple 0 2 1 ∷ triple 0 3 0 ∷ triple 7 0 7 ∷ triple 7 0 7 ∷ [])) (label 3 (triple 0 1 0 ∷ triple 0 2 0 ∷ triple 9 9 9 ∷ triple 7 0 7 ∷ triple 7 0 7 ∷ []))) (gives Ord.After) ∷
+    row (compareOf (label 2 (triple 0 1 0 ∷ triple 1 64 0 ∷ triple 7 0 7 ∷ triple 7 0 7 ∷ triple 7 0 7 ∷ [])) (label 2 (triple 0 1 0 ∷ triple 65 64 0 ∷ triple 7 0 7 ∷ triple 7 0 7 ∷ triple 7 0 7 ∷ []))) (gives Ord.Before) ∷
+    row (compareOf (label 2 (triple 0 1 0 ∷ triple 65 64 0 ∷ triple 7 0 7 ∷ triple 7 0 7 ∷ triple 7 0 7 ∷ [])) (label 2 (triple 0 1 0 ∷ triple 1 64 0 ∷ triple 7 0 7 ∷ triple 7 0 7 ∷ triple 7 0 7 ∷ []))) (gives Ord.After) ∷
+    row (compareOf (label 2 (triple 0 1 0 ∷ triple 4294967295 64 4294967295 ∷ triple 7 0 7 ∷ triple 7 0 7 ∷ triple 7 0 7 ∷ [])) (label 2 (triple 0 1 0 ∷ triple 63 64 4294967295 ∷ triple 7 0 7 ∷ triple 7 0 7 ∷ triple 7 0 7 ∷ []))) (gives Ord.After) ∷
+    row (compareOf (label 2 (triple 0 1 0 ∷ triple 63 64 4294967295 ∷ triple 7 0 7 ∷ triple 7 0 7 ∷ triple 7 0 7 ∷ [])) (label 2 (triple 0 1 0 ∷ triple 4294967295 64 4294967295 ∷ triple 7 0 7 ∷ triple 7 0 7 ∷ triple 7 0 7 ∷ []))) (gives Ord.Before) ∷
+    row (compareOf (label 2 (triple 0 1 0 ∷ triple 0 2 0 ∷ triple 7 0 7 ∷ triple 7 0 7 ∷ triple 7 0 7 ∷ [])) (label 2 (triple 0 1 0 ∷ triple 0 3 0 ∷ triple 7 0 7 ∷ triple 7 0 7 ∷ triple 7 0 7 ∷ []))) (refuses 16 1) ∷
+    row (compareOf (label 2 (triple 0 1 0 ∷ triple 0 3 0 ∷ triple 7 0 7 ∷ triple 7 0 7 ∷ triple 7 0 7 ∷ [])) (label 2 (triple 0 1 0 ∷ triple 0 2 0 ∷ triple 7 0 7 ∷ triple 7 0 7 ∷ triple 7 0 7 ∷ []))) (refuses 16 1) ∷
+    row (compareOf (label 3 (triple 0 1 0 ∷ triple 0 1 0 ∷ triple 0 2 0 ∷ triple 7 0 7 ∷ triple 7 0 7 ∷ [])) (label 3 (triple 0 1 0 ∷ triple 0 1 0 ∷ triple 1 3 1 ∷ triple 7 0 7 ∷ triple 7 0 7 ∷ []))) (refuses 16 2) ∷
+    row (compareOf (label 3 (triple 0 1 0 ∷ triple 0 1 0 ∷ triple 1 3 1 ∷ triple 7 0 7 ∷ triple 7 0 7 ∷ [])) (label 3 (triple 0 1 0 ∷ triple 0 1 0 ∷ triple 0 2 0 ∷ triple 7 0 7 ∷ triple 7 0 7 ∷ []))) (refuses 16 2) ∷
+    row (compareOf (label 5 (triple 0 1 0 ∷ triple 1 2 3 ∷ triple 4 5 6 ∷ triple 7 64 9 ∷ triple 0 63 0 ∷ [])) (label 5 (triple 0 1 0 ∷ triple 1 2 3 ∷ triple 4 5 6 ∷ triple 7 64 9 ∷ triple 0 64 1 ∷ []))) (refuses 16 4) ∷
+    row (compareOf (label 5 (triple 0 1 0 ∷ triple 1 2 3 ∷ triple 4 5 6 ∷ triple 7 64 9 ∷ triple 0 64 1 ∷ [])) (label 5 (triple 0 1 0 ∷ triple 1 2 3 ∷ triple 4 5 6 ∷ triple 7 64 9 ∷ triple 0 63 0 ∷ []))) (refuses 16 4) ∷
+    row (compareOf (label 0 (triple 0 1 0 ∷ triple 0 1 0 ∷ triple 0 1 0 ∷ triple 0 1 0 ∷ triple 0 1 0 ∷ [])) (label 1 (triple 0 1 0 ∷ triple 7 0 7 ∷ triple 7 0 7 ∷ triple 7 0 7 ∷ triple 7 0 7 ∷ []))) (refuses 15 1) ∷
+    row (compareOf (label 1 (triple 0 1 0 ∷ triple 7 0 7 ∷ triple 7 0 7 ∷ triple 7 0 7 ∷ triple 7 0 7 ∷ [])) (label 0 (triple 0 1 0 ∷ triple 0 1 0 ∷ triple 0 1 0 ∷ triple 0 1 0 ∷ triple 0 1 0 ∷ []))) (refuses 15 2) ∷
+    row (compareOf (label 6 (triple 0 1 0 ∷ triple 0 1 0 ∷ triple 0 1 0 ∷ triple 0 1 0 ∷ triple 0 1 0 ∷ [])) (label 1 (triple 0 1 0 ∷ triple 7 0 7 ∷ triple 7 0 7 ∷ triple 7 0 7 ∷ triple 7 0 7 ∷ []))) (refuses 15 1) ∷
+    row (compareOf (label 1 (triple 0 1 0 ∷ triple 7 0 7 ∷ triple 7 0 7 ∷ triple 7 0 7 ∷ triple 7 0 7 ∷ [])) (label 6 (triple 0 1 0 ∷ triple 0 1 0 ∷ triple 0 1 0 ∷ triple 0 1 0 ∷ triple 0 1 0 ∷ []))) (refuses 15 2) ∷
+    row (compareOf (label 4294967295 (triple 0 1 0 ∷ triple 0 1 0 ∷ triple 0 1 0 ∷ triple 0 1 0 ∷ triple 0 1 0 ∷ [])) (label 1 (triple 0 1 0 ∷ triple 7 0 7 ∷ triple 7 0 7 ∷ triple 7 0 7 ∷ triple 7 0 7 ∷ []))) (refuses 15 1) ∷
+    row (compareOf (label 1 (triple 0 1 0 ∷ triple 7 0 7 ∷ triple 7 0 7 ∷ triple 7 0 7 ∷ triple 7 0 7 ∷ [])) (label 4294967295 (triple 0 1 0 ∷ triple 0 1 0 ∷ triple 0 1 0 ∷ triple 0 1 0 ∷ triple 0 1 0 ∷ []))) (refuses 15 2) ∷
+    row (compareOf (label 2 (triple 0 1 0 ∷ triple 0 0 0 ∷ triple 7 0 7 ∷ triple 7 0 7 ∷ triple 7 0 7 ∷ [])) (label 1 (triple 0 1 0 ∷ triple 7 0 7 ∷ triple 7 0 7 ∷ triple 7 0 7 ∷ triple 7 0 7 ∷ []))) (refuses 15 1) ∷
+    row (compareOf (label 1 (triple 0 1 0 ∷ triple 7 0 7 ∷ triple 7 0 7 ∷ triple 7 0 7 ∷ triple 7 0 7 ∷ [])) (label 2 (triple 0 1 0 ∷ triple 0 0 0 ∷ triple 7 0 7 ∷ triple 7 0 7 ∷ triple 7 0 7 ∷ []))) (refuses 15 2) ∷
+    row (compareOf (label 2 (triple 0 1 0 ∷ triple 0 65 0 ∷ triple 7 0 7 ∷ triple 7 0 7 ∷ triple 7 0 7 ∷ [])) (label 1 (triple 0 1 0 ∷ triple 7 0 7 ∷ triple 7 0 7 ∷ triple 7 0 7 ∷ triple 7 0 7 ∷ []))) (refuses 15 1) ∷
+    row (compareOf (label 1 (triple 0 1 0 ∷ triple 7 0 7 ∷ triple 7 0 7 ∷ triple 7 0 7 ∷ triple 7 0 7 ∷ [])) (label 2 (triple 0 1 0 ∷ triple 0 65 0 ∷ triple 7 0 7 ∷ triple 7 0 7 ∷ triple 7 0 7 ∷ []))) (refuses 15 2) ∷
+    row (compareOf (label 5 (triple 0 1 0 ∷ triple 0 1 0 ∷ triple 0 1 0 ∷ triple 0 1 0 ∷ triple 0 65 0 ∷ [])) (label 1 (triple 0 1 0 ∷ triple 7 0 7 ∷ triple 7 0 7 ∷ triple 7 0 7 ∷ triple 7 0 7 ∷ []))) (refuses 15 1) ∷
+    row (compareOf (label 1 (triple 0 1 0 ∷ triple 7 0 7 ∷ triple 7 0 7 ∷ triple 7 0 7 ∷ triple 7 0 7 ∷ [])) (label 5 (triple 0 1 0 ∷ triple 0 1 0 ∷ triple 0 1 0 ∷ triple 0 1 0 ∷ triple 0 65 0 ∷ []))) (refuses 15 2) ∷
+    row (compareOf (label 1 (triple 0 0 0 ∷ triple 7 0 7 ∷ triple 7 0 7 ∷ triple 7 0 7 ∷ triple 7 0 7 ∷ [])) (label 1 (triple 0 1 0 ∷ triple 7 0 7 ∷ triple 7 0 7 ∷ triple 7 0 7 ∷ triple 7 0 7 ∷ []))) (refuses 15 1) ∷
+    row (compareOf (label 1 (triple 0 1 0 ∷ triple 7 0 7 ∷ triple 7 0 7 ∷ triple 7 0 7 ∷ triple 7 0 7 ∷ [])) (label 1 (triple 0 0 0 ∷ triple 7 0 7 ∷ triple 7 0 7 ∷ triple 7 0 7 ∷ triple 7 0 7 ∷ []))) (refuses 15 2) ∷
+    row (compareOf (label 1 (triple 0 2 0 ∷ triple 7 0 7 ∷ triple 7 0 7 ∷ triple 7 0 7 ∷ triple 7 0 7 ∷ [])) (label 1 (triple 0 1 0 ∷ triple 7 0 7 ∷ triple 7 0 7 ∷ triple 7 0 7 ∷ triple 7 0 7 ∷ []))) (refuses 15 1) ∷
+    row (compareOf (label 1 (triple 0 1 0 ∷ triple 7 0 7 ∷ triple 7 0 7 ∷ triple 7 0 7 ∷ triple 7 0 7 ∷ [])) (label 1 (triple 0 2 0 ∷ triple 7 0 7 ∷ triple 7 0 7 ∷ triple 7 0 7 ∷ triple 7 0 7 ∷ []))) (refuses 15 2) ∷
+    row (compareOf (label 0 (triple 0 1 0 ∷ triple 0 1 0 ∷ triple 0 1 0 ∷ triple 0 1 0 ∷ triple 0 1 0 ∷ [])) (label 2 (triple 0 1 0 ∷ triple 0 0 0 ∷ triple 7 0 7 ∷ triple 7 0 7 ∷ triple 7 0 7 ∷ []))) (refuses 15 1) ∷
+    row (compareOf (label 1 (triple 0 2 0 ∷ triple 7 0 7 ∷ triple 7 0 7 ∷ triple 7 0 7 ∷ triple 7 0 7 ∷ [])) (label 1 (triple 0 2 0 ∷ triple 7 0 7 ∷ triple 7 0 7 ∷ triple 7 0 7 ∷ triple 7 0 7 ∷ []))) (refuses 15 1) ∷
+    row (compareOf (label 2 (triple 0 1 0 ∷ triple 0 2 0 ∷ triple 7 0 7 ∷ triple 7 0 7 ∷ triple 7 0 7 ∷ [])) (label 3 (triple 0 1 0 ∷ triple 0 3 0 ∷ triple 0 0 0 ∷ triple 7 0 7 ∷ triple 7 0 7 ∷ []))) (refuses 15 2) ∷
+    row (compareOf (label 3 (triple 0 1 0 ∷ triple 0 2 0 ∷ triple 0 65 0 ∷ triple 7 0 7 ∷ triple 7 0 7 ∷ [])) (label 2 (triple 0 1 0 ∷ triple 0 3 0 ∷ triple 7 0 7 ∷ triple 7 0 7 ∷ triple 7 0 7 ∷ []))) (refuses 15 1) ∷
+    []
+
+pub comparisons-agree : map (λ (r : Row (Answer Order)). r .given) comparisons ≡ map (λ (r : Row (Answer Order)). r .wanted) comparisons
+unfolding verdict-computes bytes race row name label comparisons
+comparisons-agree = refl
+
+-- the races of four bundles; small-bundles has the bundles
+unfoldable pub four : List Race
+four = race 64 1 0 0 1 1 1 0 3 ∷ race 64 1 0 0 1 1 1 1 4 ∷ race 64 1 0 1 2 1 1 0 3 ∷ race 64 1 0 1 2 1 1 1 4 ∷ []
+
+unfoldable pub three : List Race
+three = race 0 1 0 0 10 1 1 0 20 ∷ race 0 1 0 0 10 1 2 0 30 ∷ race 0 1 1 0 20 1 2 0 30 ∷ []
+
+unfoldable pub teams : List Race
+teams = race 7 255 1 0 5 256 0 0 6 ∷ race 7 256 0 0 6 257 0 0 7 ∷ []
+
+unfoldable pub witnesses : List Race
+witnesses = race 15 1 0 1 2 1 1 0 3 ∷ race 16 1 0 0 1 1 1 1 4 ∷ []
+
+-- the least race above a key
+unfoldable pub aboves : List (Row (Option Race))
+aboves =
+    row (raceAbove (keyOf 0 (name 0 0 0) (name 0 0 0)) four) (some (race 64 1 0 0 1 1 1 0 3)) ∷
+    row (raceAbove (keyOf 4294967295 (name 65535 255 65535) (name 65535 255 65535)) four) none ∷
+    row (raceAbove (keyOf 0 (name 0 0 0) (name 0 0 0)) three) (some (race 0 1 0 0 10 1 1 0 20)) ∷
+    row (raceAbove (keyOf 4294967295 (name 65535 255 65535) (name 65535 255 65535)) three) none ∷
+    row (raceAbove (keyOf 0 (name 0 0 0) (name 0 0 0)) teams) (some (race 7 255 1 0 5 256 0 0 6)) ∷
+    row (raceAbove (keyOf 4294967295 (name 65535 255 65535) (name 65535 255 65535)) teams) none ∷
+    row (raceAbove (keyOf 0 (name 0 0 0) (name 0 0 0)) witnesses) (some (race 15 1 0 1 2 1 1 0 3)) ∷
+    row (raceAbove (keyOf 4294967295 (name 65535 255 65535) (name 65535 255 65535)) witnesses) none ∷
+    row (raceAbove (keyOf 64 (name 1 0 0) (name 1 1 0)) four) (some (race 64 1 0 0 1 1 1 1 4)) ∷
+    row (raceAbove (keyOf 64 (name 1 0 0) (name 1 1 1)) four) (some (race 64 1 0 1 2 1 1 0 3)) ∷
+    row (raceAbove (keyOf 64 (name 1 0 1) (name 1 1 0)) four) (some (race 64 1 0 1 2 1 1 1 4)) ∷
+    row (raceAbove (keyOf 64 (name 1 0 1) (name 1 1 1)) four) none ∷
+    row (raceAbove (keyOf 64 (name 1 0 0) (name 1 0 65535)) four) (some (race 64 1 0 0 1 1 1 0 3)) ∷
+    row (raceAbove (keyOf 64 (name 1 0 0) (name 1 1 2)) four) (some (race 64 1 0 1 2 1 1 0 3)) ∷
+    row (raceAbove (keyOf 64 (name 1 0 0) (name 65535 255 65535)) four) (some (race 64 1 0 1 2 1 1 0 3)) ∷
+    row (raceAbove (keyOf 64 (name 1 0 1) (name 0 0 0)) four) (some (race 64 1 0 1 2 1 1 0 3)) ∷
+    row (raceAbove (keyOf 64 (name 0 255 65535) (name 65535 255 65535)) four) (some (race 64 1 0 0 1 1 1 0 3)) ∷
+    row (raceAbove (keyOf 0 (name 1 0 0) (name 1 1 0)) three) (some (race 0 1 0 0 10 1 2 0 30)) ∷
+    row (raceAbove (keyOf 0 (name 1 0 0) (name 1 1 65535)) three) (some (race 0 1 0 0 10 1 2 0 30)) ∷
+    row (raceAbove (keyOf 0 (name 1 0 65535) (name 1 2 0)) three) (some (race 0 1 1 0 20 1 2 0 30)) ∷
+    row (raceAbove (keyOf 0 (name 1 1 0) (name 1 1 65535)) three) (some (race 0 1 1 0 20 1 2 0 30)) ∷
+    row (raceAbove (keyOf 0 (name 1 1 0) (name 1 2 0)) three) none ∷
+    row (raceAbove (keyOf 7 (name 255 1 0) (name 255 255 65535)) teams) (some (race 7 255 1 0 5 256 0 0 6)) ∷
+    row (raceAbove (keyOf 7 (name 255 1 0) (name 256 0 0)) teams) (some (race 7 256 0 0 6 257 0 0 7)) ∷
+    row (raceAbove (keyOf 7 (name 255 255 65535) (name 256 0 0)) teams) (some (race 7 256 0 0 6 257 0 0 7)) ∷
+    row (raceAbove (keyOf 7 (name 256 0 0) (name 256 255 65535)) teams) (some (race 7 256 0 0 6 257 0 0 7)) ∷
+    row (raceAbove (keyOf 7 (name 256 0 0) (name 257 0 0)) teams) none ∷
+    row (raceAbove (keyOf 14 (name 65535 255 65535) (name 65535 255 65535)) witnesses) (some (race 15 1 0 1 2 1 1 0 3)) ∷
+    row (raceAbove (keyOf 15 (name 1 0 1) (name 1 1 0)) witnesses) (some (race 16 1 0 0 1 1 1 1 4)) ∷
+    row (raceAbove (keyOf 15 (name 65535 255 65535) (name 65535 255 65535)) witnesses) (some (race 16 1 0 0 1 1 1 1 4)) ∷
+    row (raceAbove (keyOf 16 (name 0 0 0) (name 0 0 0)) witnesses) (some (race 16 1 0 0 1 1 1 1 4)) ∷
+    row (raceAbove (keyOf 0 (name 1 1 0) (name 1 0 0)) three) (some (race 0 1 1 0 20 1 2 0 30)) ∷
+    row (raceAbove (keyOf 0 (name 1 2 0) (name 1 0 0)) three) none ∷
+    row (raceAbove (keyOf 0 (name 7 7 7) (name 3 3 3)) three) none ∷
+    []
+
+pub aboves-agree : map (λ (r : Row (Option Race)). r .given) aboves ≡ map (λ (r : Row (Option Race)). r .wanted) aboves
+unfolding verdict-computes bytes race row name label four three teams witnesses aboves
+aboves-agree = refl
+
+-- next race, and the work area afterwards
+unfoldable pub nexts : List (Row (Lent (Option Race)))
+nexts =
+    row (nextOf (bytes 45 0x01000000100100020201010000310a000010000008000200041102010100013014000a10000000000100041102) 0 (name 0 0 0) (name 0 0 0) (replicate 16383 7)) (record { answer = (refuses 13 0); buffer = replicate 16383 7 }) ∷
+    row (nextOf (bytes 45 0x01000000100100020201010000310a000010000008000200041102010100013014000a10000000000100041102) 0 (name 0 0 0) (name 0 0 0) (replicate 16384 7)) (record { answer = (gives (some (race 4106 1 0 0 10 1 1 0 20))); buffer = replicate 16384 0 }) ∷
+    row (nextOf (bytes 0 0x0) 0 (name 0 0 0) (name 0 0 0) (replicate 16384 7)) (record { answer = (refuses 10 0); buffer = replicate 16384 0 }) ∷
+    row (nextOf (bytes 60 0x01000000100100030201010002311e000000000000000100010201010000310a00000000000000010001020101000131140000000000000001000102) 0 (name 1 0 0) (name 1 1 0) (replicate 16384 7)) (record { answer = (gives (some (race 0 1 0 0 10 1 2 0 30))); buffer = replicate 16384 0 }) ∷
+    row (nextOf (bytes 60 0x01000000100100030201010002311e000000000000000100010201010000310a00000000000000010001020101000131140000000000000001000102) 0 (name 1 1 0) (name 1 0 0) (replicate 16384 7)) (record { answer = (gives (some (race 0 1 1 0 20 1 2 0 30))); buffer = replicate 16384 0 }) ∷
+    row (nextOf (bytes 60 0x01000000100100030201010002311e000000000000000100010201010000310a00000000000000010001020101000131140000000000000001000102) 0 (name 1 0 0) (name 1 2 0) (replicate 16385 7)) (record { answer = (gives (some (race 0 1 1 0 20 1 2 0 30))); buffer = replicate 16385 0 }) ∷
+    row (nextOf (bytes 60 0x01000000100100030201010002311e000000000000000100010201010000310a00000000000000010001020101000131140000000000000001000102) 0 (name 1 1 0) (name 1 2 0) (replicate 16384 7)) (record { answer = (gives none); buffer = replicate 16384 0 }) ∷
+    []
+
+pub nexts-agree : map (λ (r : Row (Lent (Option Race))). r .given) nexts ≡ map (λ (r : Row (Lent (Option Race))). r .wanted) nexts
+unfolding verdict-computes bytes race row name label nexts
+nexts-agree = refl
+
+-- judge, and the work area afterwards
+unfoldable pub judgements : List (Row (Lent Judgement))
+judgements =
+    row (judgeOf (bytes 45 0x01000000100100020201010000310a000010000008000200041102010100013014000a10000000000100041102) (replicate 0 7)) (record { answer = (refuses 13 0); buffer = replicate 0 0 }) ∷
+    row (judgeOf (bytes 45 0x01000000100100020201010000310a000010000008000200041102010100013014000a10000000000100041102) (replicate 3 7)) (record { answer = (refuses 13 0); buffer = replicate 3 7 }) ∷
+    row (judgeOf (bytes 0 0x0) (replicate 3 7)) (record { answer = (refuses 13 0); buffer = replicate 3 7 }) ∷
+    row (judgeOf (bytes 45 0x01000000100100020201010000310a000010000008000200041102010100013014000a10000000000100041102) (replicate 16383 7)) (record { answer = (refuses 13 0); buffer = replicate 16383 7 }) ∷
+    row (judgeOf (bytes 45 0x01000000100100020201010000310a000010000008000200041102010100013014000a10000000000100041102) (replicate 16384 7)) (record { answer = (gives (record { chunks = 3; segments = 6; accesses = 2; races = 1; verdict = Ver.Least (race 4106 1 0 0 10 1 1 0 20) })); buffer = replicate 16384 0 }) ∷
+    row (judgeOf (bytes 45 0x01000000100100020201010000310a000010000008000200041102010100013014000a10000000000100041102) (replicate 16385 7)) (record { answer = (gives (record { chunks = 3; segments = 6; accesses = 2; races = 1; verdict = Ver.Least (race 4106 1 0 0 10 1 1 0 20) })); buffer = replicate 16385 0 }) ∷
+    row (judgeOf (bytes 0 0x0) (replicate 16384 7)) (record { answer = (refuses 10 0); buffer = replicate 16384 0 }) ∷
+    []
+
+pub judgements-agree : map (λ (r : Row (Lent Judgement)). r .given) judgements ≡ map (λ (r : Row (Lent Judgement)). r .wanted) judgements
+unfolding verdict-computes bytes race row name label judgements
+judgements-agree = refl

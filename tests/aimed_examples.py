@@ -1,0 +1,129 @@
+"""The text of AimedExamples.antt: a table for each kind of question, each agreeing by computation."""
+
+import example_cases
+import second_reader as sr
+from example_terms import (
+    answer_term, bytes_term, found_term, judgement_term, name_term, races_term, triples_term,
+)
+
+HEAD = """\
+-- Examples aimed at single points of document 01, with the second reader's answers. tests/write_examples writes this file.
+use Prim.Native.Nat.{ℕ}
+use mathlib.Core.Path.{_≡_, refl}
+use mathlib.Core.List.{List, [], _∷_, map}
+use mathlib.Core.Option.{Option, none, some}
+use lib.ListN.{replicate}
+use Rattle.bundle.specs.Answer.{Answer, gives, refuses}
+use Rattle.bundle.specs.Commands.{Lent}
+use Rattle.bundle.specs.Check.{checkOf}
+use Rattle.order.specs.Labels.{labelOf, compareOf}
+use Rattle.order.specs.declared.label.Triple.{Triple}
+use Rattle.order.specs.declared.label.Label.{Label}
+use Rattle.order.specs.declared.label.Order.{Order}
+use Rattle.order.specs.declared.label.Order.the-variants as Ord
+use Rattle.verdict.specs.Races.{keyOf}
+use Rattle.verdict.specs.Judge.{judgeOf, raceAbove, nextOf}
+use Rattle.verdict.specs.Table.{triple}
+use Rattle.verdict.specs.declared.race.Name.{Name}
+use Rattle.verdict.specs.declared.race.Race.{Race}
+use Rattle.verdict.specs.declared.race.Verdict.the-variants as Ver
+use Rattle.verdict.specs.declared.race.Judgement.{Judgement}
+use Rattle.verdict.proofs.Computing.{verdict-computes}
+use Rattle.verdict.proofs.SmallBundles.{bytes, race}
+
+-- what the definitions give, and what is wanted
+pub record Row (A : Type 0) : Type 0 where
+  pub given : A
+  pub wanted : A
+
+unfoldable pub row : {A : Type 0} → A → A → Row A
+row g w = record { given = g; wanted = w }
+
+unfoldable pub name : ℕ → ℕ → ℕ → Name
+name t m n = record { team = t; member = m; number = n }
+
+unfoldable pub label : ℕ → List Triple → Label
+label count triples = record { count = count; triples = triples }
+
+"""
+
+TABLE = """\
+-- {title}
+unfoldable pub {name} : List (Row ({type}))
+{name} =
+{rows}    []
+
+pub {name}-agree : map (λ (r : Row ({type})). r .given) {name} ≡ map (λ (r : Row ({type})). r .wanted) {name}
+unfolding verdict-computes bytes race row name label {uses}{name}
+{name}-agree = refl
+"""
+
+def check_rows():
+    for data in example_cases.checked_bundles():
+        yield f"(checkOf {bytes_term(data)})", answer_term(lambda _: "tt", sr.check, data)
+
+
+def label_rows():
+    for data, *place in example_cases.LABELLED:
+        given = f"(labelOf {bytes_term(data)} " + " ".join(str(n) for n in place) + ")"
+        yield given, answer_term(triples_term, sr.label_of, data, *place)
+
+
+def label_term(label):
+    return f"(label {label[0]} {triples_term(label[1])})"
+
+
+def comparison_rows():
+    for first, second in example_cases.COMPARED:
+        wanted = answer_term(lambda order: f"Ord.{order.capitalize()}", sr.compare_labels, first, second)
+        yield f"(compareOf {label_term(first)} {label_term(second)})", wanted
+
+
+def race_lists():
+    """The races of the bundles that the keys are held against, by name."""
+    for name, data in example_cases.RACED.items():
+        yield f"unfoldable pub {name} : List Race\n{name} = {races_term(sr.all_races(sr.check(data)))}\n\n"
+
+
+def above_rows():
+    for bundle, witness, first, second in example_cases.ABOVE:
+        race = sr.next_race(sr.LEAST_WORDS, example_cases.RACED[bundle], witness, first, second)
+        yield f"(raceAbove (keyOf {witness} {name_term(first)} {name_term(second)}) {bundle})", found_term(race)
+
+
+def left_term(words, filler):
+    """What is left in an area."""
+    after = sr.area_after([filler] * words)
+    return f"replicate {words} {filler if any(after) else 0}"
+
+
+def next_rows():
+    for data, words, filler, witness, first, second in example_cases.NEXT:
+        key = f"{witness} {name_term(first)} {name_term(second)}"
+        wanted = answer_term(found_term, sr.next_race, words, data, witness, first, second)
+        given = f"(nextOf {bytes_term(data)} {key} (replicate {words} {filler}))"
+        yield given, f"(record {{ answer = {wanted}; buffer = {left_term(words, filler)} }})"
+
+
+def judge_rows():
+    for data, words, filler in example_cases.AREAS:
+        wanted = answer_term(judgement_term, sr.judge, words, data)
+        given = f"(judgeOf {bytes_term(data)} (replicate {words} {filler}))"
+        yield given, f"(record {{ answer = {wanted}; buffer = {left_term(words, filler)} }})"
+
+
+def table(title, name, kind, rows, uses=""):
+    lines = "".join(f"    row {given} {wanted} ∷\n" for given, wanted in rows)
+    return TABLE.format(title=title, name=name, type=kind, rows=lines, uses=uses)
+
+
+def text():
+    return HEAD + "\n".join((
+        table("refusals of check, and bundles that it accepts", "checks", "Answer (Unit {0})", check_rows()),
+        table("labels of segments", "labels", "Answer (List Triple)", label_rows()),
+        table("comparisons of labels, both ways", "comparisons", "Answer Order", comparison_rows()),
+        "-- the races of four bundles; small-bundles has the bundles\n" + "".join(race_lists())
+        + table("the least race above a key", "aboves", "Option Race", above_rows(), " ".join(example_cases.RACED) + " "),
+        table("next race, and the work area afterwards", "nexts", "Lent (Option Race)", next_rows()),
+        table("judge, and the work area afterwards", "judgements", "Lent Judgement", judge_rows()),
+    ))

@@ -1,0 +1,169 @@
+"""Cases for computed examples, each aimed at a point of document 01.
+
+Only the questions stand here; write_examples takes the answers from the
+second reader.
+"""
+
+import aimed_cases
+import race_cases
+from bundle_text import bundle
+from verdict_cases import ABOVE_ALL, BELOW_ALL, HIGHEST, LOWEST
+
+MOST_BYTES = 100
+
+
+def checked_bundles():
+    """The short bundles that aim at a refusal of check."""
+    return [data for _, _, _, data in aimed_cases.check_cases() if len(data) <= MOST_BYTES]
+
+
+# ------------------------------------------------------------------ labels
+
+# Member 1 of team 1 forks team 2 behind a barrier and a region, so that member, span, regions and barriers all show in the
+# label of the fork.
+INNER = bundle("""
+member 0 0; region 1 2; end
+member 1 0; barrier; end
+member 1 1; barrier; region 4 1; region 2 2; end
+member 4 0; end
+member 2 0; barrier; end
+member 2 1; barrier; end
+""")
+
+# Teams of one to depth 4.
+CHAIN = bundle(aimed_cases.CHAIN_4 + "member 4 0; barrier; end")
+
+# (bundle, team, member, segment number); the last three of INNER are not there.
+LABELLED = (
+    *[(INNER, *place) for place in (
+        (1, 0, 1), (1, 1, 1), (1, 1, 2), (1, 1, 3), (4, 0, 0), (2, 0, 0), (2, 1, 0), (2, 1, 1), (3, 0, 0), (2, 2, 0), (2, 1, 2),
+    )],
+    (CHAIN, 3, 0, 1),
+    (CHAIN, 4, 0, 1),
+)
+
+# ------------------------------------------------------------- comparisons
+
+ROOT = (0, 1, 0)
+UNSEEN = (7, 0, 7)  # behind the counted triples
+
+
+def label(*triples, count=None):
+    """A label of these triples, others behind them."""
+    return len(triples) if count is None else count, [*triples, *[UNSEEN] * (5 - len(triples))]
+
+
+FIVE = [ROOT, (1, 2, 3), (4, 5, 6), (7, 64, 9)]
+
+BAD = (
+    label(*[ROOT] * 5, count=0),
+    label(*[ROOT] * 5, count=6),
+    label(*[ROOT] * 5, count=2**32 - 1),
+    label(ROOT, (0, 0, 0)),
+    label(ROOT, (0, 65, 0)),
+    label(*[ROOT] * 4, (0, 65, 0)),
+    label((0, 0, 0)),
+    label((0, 2, 0)),
+)
+
+
+def both_ways(first, second):
+    return [(first, second), (second, first)]
+
+
+COMPARED = [
+    (label(ROOT), label(ROOT)),
+    (label(ROOT, count=1), (1, [ROOT] * 5)),
+    (label(*FIVE, (63, 64, 0)), label(*FIVE, (63, 64, 0))),
+    *both_ways(label(ROOT), label(ROOT, (0, 2, 0))),
+    *both_ways(label(*FIVE), label(*FIVE, (63, 64, 0))),
+    *both_ways(label(ROOT), label(*FIVE, (63, 64, 0))),
+    *both_ways(label(ROOT), label((1, 1, 0), (0, 2, 0))),
+    *both_ways(label((3, 1, 1)), label((4, 1, 0))),
+    *both_ways(label(ROOT, (0, 2, 0)), label(ROOT, (1, 2, 0))),
+    *both_ways(label(ROOT, (0, 2, 0)), label(ROOT, (2, 2, 0))),
+    *both_ways(label(ROOT, (1, 2, 0)), label(ROOT, (2, 2, 0))),
+    *both_ways(label(ROOT, (0, 2, 0)), label(ROOT, (1, 2, 1))),
+    *both_ways(label(ROOT, (5, 2, 0)), label(ROOT, (0, 2, 1))),
+    *both_ways(label(ROOT, (0, 2, 0), (0, 2, 1)), label(ROOT, (1, 2, 0))),
+    *both_ways(label(ROOT, (0, 2, 0), (9, 9, 9)), label(ROOT, (0, 2, 1), (0, 3, 0))),
+    *both_ways(label(ROOT, (1, 64, 0)), label(ROOT, (65, 64, 0))),
+    *both_ways(label(ROOT, (2**32 - 1, 64, 2**32 - 1)), label(ROOT, (63, 64, 2**32 - 1))),
+    # 16, before intervals and offsets, at the first differing triple
+    *both_ways(label(ROOT, (0, 2, 0)), label(ROOT, (0, 3, 0))),
+    *both_ways(label(ROOT, ROOT, (0, 2, 0)), label(ROOT, ROOT, (1, 3, 1))),
+    *both_ways(label(*FIVE, (0, 63, 0)), label(*FIVE, (0, 64, 1))),
+    # 15 at 1 or 2, the first label tested first, and before 16
+    *[pair for bad in BAD for pair in both_ways(bad, label(ROOT))],
+    (BAD[0], BAD[3]),
+    (BAD[7], BAD[7]),
+    (label(ROOT, (0, 2, 0)), label(ROOT, (0, 3, 0), (0, 0, 0))),
+    (label(ROOT, (0, 2, 0), (0, 65, 0)), label(ROOT, (0, 3, 0))),
+]
+
+# --------------------------------------------------------------- next race
+
+
+def listed(title):
+    return bundle(next(case.text for case in race_cases.LISTINGS if case.title == title))
+
+
+# Bundles by the name that their list of races has in the examples.
+RACED = {
+    "four": listed("four pairs of one byte"),
+    "three": listed("three pairs of one byte"),
+    "teams": listed("names compared as numbers, low byte first in the log"),
+    "witnesses": listed("witness before names"),
+}
+
+# (name of the bundle, witness, first name, second name)
+ABOVE = [
+    *[(name, *key) for name in RACED for key in (BELOW_ALL, ABOVE_ALL)],
+    # the keys of races: only the second name grows, only the first, or both
+    ("four", 64, (1, 0, 0), (1, 1, 0)),
+    ("four", 64, (1, 0, 0), (1, 1, 1)),
+    ("four", 64, (1, 0, 1), (1, 1, 0)),
+    ("four", 64, (1, 0, 1), (1, 1, 1)),
+    # between two races that differ in one part only
+    ("four", 64, (1, 0, 0), (1, 0, 65535)),
+    ("four", 64, (1, 0, 0), (1, 1, 2)),
+    ("four", 64, (1, 0, 0), HIGHEST),
+    ("four", 64, (1, 0, 1), LOWEST),
+    ("four", 64, (0, 255, 65535), HIGHEST),
+    ("three", 0, (1, 0, 0), (1, 1, 0)),
+    ("three", 0, (1, 0, 0), (1, 1, 65535)),
+    ("three", 0, (1, 0, 65535), (1, 2, 0)),
+    ("three", 0, (1, 1, 0), (1, 1, 65535)),
+    ("three", 0, (1, 1, 0), (1, 2, 0)),
+    ("teams", 7, (255, 1, 0), (255, 255, 65535)),
+    ("teams", 7, (255, 1, 0), (256, 0, 0)),
+    ("teams", 7, (255, 255, 65535), (256, 0, 0)),
+    ("teams", 7, (256, 0, 0), (256, 255, 65535)),
+    ("teams", 7, (256, 0, 0), (257, 0, 0)),
+    # the witness stands before the names
+    ("witnesses", 14, HIGHEST, HIGHEST),
+    ("witnesses", 15, (1, 0, 1), (1, 1, 0)),
+    ("witnesses", 15, HIGHEST, HIGHEST),
+    ("witnesses", 16, LOWEST, LOWEST),
+    # first above second, and names that are not there
+    ("three", 0, (1, 1, 0), (1, 0, 0)),
+    ("three", 0, (1, 2, 0), (1, 0, 0)),
+    ("three", 0, (7, 7, 7), (3, 3, 3)),
+]
+
+# The whole operation: (bundle, words of the area, the word that fills it, witness, first name, second name)
+E, THREE = aimed_cases.E_BYTES, RACED["three"]
+NEXT = [
+    (E, 16383, 7, *BELOW_ALL),
+    (E, 16384, 7, *BELOW_ALL),
+    (b"", 16384, 7, *BELOW_ALL),
+    (THREE, 16384, 7, 0, (1, 0, 0), (1, 1, 0)),
+    (THREE, 16384, 7, 0, (1, 1, 0), (1, 0, 0)),
+    (THREE, 16385, 7, 0, (1, 0, 0), (1, 2, 0)),
+    (THREE, 16384, 7, 0, (1, 1, 0), (1, 2, 0)),
+]
+
+# ------------------------------------------------------------- work areas
+
+# (bundle, words, the word that fills the area)
+AREAS = [(E, 0, 7), (E, 3, 7), (b"", 3, 7), (E, 16383, 7), (E, 16384, 7), (E, 16385, 7), (b"", 16384, 7)]

@@ -1,0 +1,45 @@
+"""Numbers, answers and races as terms of the computed examples."""
+
+import second_reader as sr
+
+
+def bytes_term(data):
+    return f"(bytes {len(data)} 0x{data.hex() or '0'})"
+
+
+def race_term(race):
+    numbers = [race.witness, *race.first, race.first_site, *race.second, race.second_site]
+    return "race " + " ".join(str(n) for n in numbers)
+
+
+def name_term(name):
+    return "(name " + " ".join(str(n) for n in name) + ")"
+
+
+def triples_term(triples):
+    return "(" + "".join(f"triple {o} {s} {i} ∷ " for o, s, i in triples) + "[])"
+
+
+def races_term(races):
+    return "".join(f"{race_term(r)} ∷ " for r in races) + "[]"
+
+
+def found_term(race):
+    """A race, or that there is none."""
+    return f"(some ({race_term(race)}))" if race else "none"
+
+
+def judgement_term(judgement):
+    counts = ("chunks", "segments", "accesses", "races")
+    fields = "".join(f"{name} = {getattr(judgement, name)}; " for name in counts)
+    verdict = f"Ver.Least ({race_term(judgement.least)})" if judgement.least else "Ver.RaceFree"
+    return f"(record {{ {fields}verdict = {verdict} }})"
+
+
+def answer_term(term, operation, *arguments):
+    """The answer of an operation of the second reader; term gives the term of its value."""
+    try:
+        value = operation(*arguments)
+    except sr.Refused as refusal:
+        return f"(refuses {refusal.number} {refusal.place})"
+    return f"(gives {term(value)})"
