@@ -23,6 +23,7 @@ pub mod Shaped
 pub mod ShapeOrder
 pub mod Reorder
 pub mod Onward
+pub mod WalkLaws
 pub mod Finding
 pub mod LockBits
 pub mod Stepping
