@@ -13,4 +13,5 @@ pub mod NextRace
 pub mod Warshall
 pub mod BitRows
 pub mod ListPlaces
+pub mod AccessRows
 pub mod MatrixPaths
