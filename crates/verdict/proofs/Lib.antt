@@ -14,4 +14,10 @@ pub mod Warshall
 pub mod BitRows
 pub mod ListPlaces
 pub mod AccessRows
+pub mod NotedCases
+pub mod TableRows
+pub mod AccessCount
+pub mod PassStanding
+pub mod PassTables
+pub mod TablePass
 pub mod MatrixPaths

@@ -6,3 +6,4 @@ pub mod Demand
 pub mod Table
 pub mod Matrix
 pub mod Working
+pub mod Filling

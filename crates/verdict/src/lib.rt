@@ -1,4 +1,5 @@
 // The races of a bundle: the judgement, and the next race.
+mod fill;
 mod matrix;
 pub mod race;
 mod rows;
