@@ -26,6 +26,7 @@ pub mod ShapeOrder
 pub mod Reorder
 pub mod Onward
 pub mod SegmentRuns
+pub mod WalkLaws
 pub mod Finding
 pub mod LockBits
 pub mod Stepping

@@ -14,6 +14,13 @@ pub mod NextRace
 pub mod Warshall
 pub mod BitRows
 pub mod ListPlaces
+pub mod AccessRows
+pub mod NotedCases
+pub mod TableRows
+pub mod AccessCount
+pub mod PassStanding
+pub mod PassTables
+pub mod TablePass
 pub mod MatrixPaths
 pub mod EdgeWords
 pub mod EdgeCodes

@@ -1,7 +1,8 @@
 -- Elements of a list by their places.
 use Prim.Native.Nat.{ℕ, zero, suc, _<_}
 use mathlib.Core.Path.{_≡_, refl, sym, _∙_, ap, subst}
-use mathlib.Core.List.{List, [], _∷_, map, List·Memᴰ, List·Memᴰ·head, List·Memᴰ·tail, Memᴰ·map}
+use mathlib.Core.Logic.{_⊎_, inl, inr, ⊎-elim}
+use mathlib.Core.List.{List, [], _∷_, _++_, map, List·Memᴰ, List·Memᴰ·head, List·Memᴰ·tail, Memᴰ·map}
 use mathlib.Core.Option.{some}
 use native.Mathlib.Omega.{arith}
 use lib.ListN.{length, getD, getElem?}
@@ -50,3 +51,36 @@ module _ {A : Type 0} where
       let p : y ≡ u = cc in
       absurd (distinct-head d (subst (λ k. List·Memᴰ k (map f us)) (q ∙ ap f p) (Memᴰ·map f (at-mem us i a))))
   same-place f (u ∷ us) (suc i) (suc j) d a b q = ap suc (same-place f us i j (distinct-tail d) a b q)
+
+module _ {A : Type 0} where
+  -- the element behind the first ones, and those before it
+  pub at-seam : (xs : List A) (y : A) (ys : List A) → getElem? (xs ++ y ∷ ys) (length xs) ≡ some y
+  at-seam [] y ys = refl
+  at-seam (x ∷ xs) y ys = at-seam xs y ys
+
+  pub last-or-before :
+      (xs : List A) (y : A) (i : ℕ) {x : A}
+      → getElem? (xs ++ y ∷ []) i ≡ some x
+      → ((i < length xs) × (getElem? xs i ≡ some x)) ⊎ ((i ≡ length xs) × (x ≡ y))
+  last-or-before [] y zero {x} e = let q : x ≡ y = cc in inr (refl, q)
+  last-or-before [] y (suc i) e = absurd (let z : _≡_ {A = ℕ} 0 1 = cc in omega arith)
+  last-or-before (u ∷ xs) y zero e = inl (omega arith, e)
+  last-or-before (u ∷ xs) y (suc i) {x} e =
+      ⊎-elim
+      (λ (w : (i < length xs) × (getElem? xs i ≡ some x)). inl (omega (arith, w .0), w .1))
+      (λ (w : (i ≡ length xs) × (x ≡ y)). inr (ap suc (w .0), w .1))
+      (last-or-before xs y i e)
+
+  -- what holds of the elements and of one more behind them
+  pub more-behind :
+      (P : ℕ → A → Type 0) (xs : List A) (y : A)
+      → ((i : ℕ) (x : A) → getElem? xs i ≡ some x → P i x)
+      → P (length xs) y
+      → (i : ℕ) (x : A)
+      → getElem? (xs ++ y ∷ []) i ≡ some x
+      → P i x
+  more-behind P xs y h last i x e =
+      ⊎-elim
+      (λ (w : (i < length xs) × (getElem? xs i ≡ some x)). h i x (w .1))
+      (λ (w : (i ≡ length xs) × (x ≡ y)). rw (w .0, w .1) last)
+      (last-or-before xs y i e)

@@ -7,3 +7,4 @@ pub mod Table
 pub mod Matrix
 pub mod Working
 pub mod Edges
+pub mod Filling

@@ -59,7 +59,7 @@ accessRowAt words i =
       segment = getD words (8 * i + 3) 0 / 65536;
       size = getD words (8 * i + 4) 0 % 256;
       member = getD words (8 * i + 4) 0 / 256 % 256;
-      kind = getD words (8 * i + 4) 0 / 65536;
+      kind = getD words (8 * i + 4) 0 / 256 / 256 % 256;
       locks = getD words (8 * i + 5) 0 + 4294967296 * getD words (8 * i + 6) 0;
       last = getD words (8 * i + 7) 0;
     }
