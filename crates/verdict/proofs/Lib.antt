@@ -14,3 +14,10 @@ pub mod Warshall
 pub mod BitRows
 pub mod ListPlaces
 pub mod MatrixPaths
+pub mod PackedNames
+pub mod RowRaces
+pub mod EveryPair
+pub mod Tallies
+pub mod PairCases
+pub mod Regulars
+pub mod JudgeCases

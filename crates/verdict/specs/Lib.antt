@@ -6,3 +6,7 @@ pub mod Demand
 pub mod Table
 pub mod Matrix
 pub mod Working
+pub mod Tallying
+pub mod Standin
+pub mod Census
+pub mod Promise
