@@ -25,3 +25,10 @@ pub mod MatrixPaths
 pub mod EdgeWords
 pub mod EdgeCodes
 pub mod Regularity
+pub mod PackedNames
+pub mod RowRaces
+pub mod EveryPair
+pub mod Tallies
+pub mod PairCases
+pub mod Regulars
+pub mod JudgeCases

@@ -8,3 +8,7 @@ pub mod Matrix
 pub mod Working
 pub mod Edges
 pub mod Filling
+pub mod Tallying
+pub mod Standin
+pub mod Census
+pub mod Promise
