@@ -40,9 +40,10 @@ use Rattle.verdict.specs.declared.race.Next.the-variants as Nex
 use Rattle.verdict.specs.declared.pairs.Key.{Key}
 use Rattle.verdict.specs.declared.pairs.Tally.{Tally}
 use Rattle.verdict.specs.declared.judge.Census.{Census}
-use Rattle.verdict.specs.Standin.{Filled, Tables, Regular, Reached}
-use Rattle.verdict.specs.declared.standin.Counts.{Counts}
-use Rattle.verdict.proofs.Regulars.{regular}
+use Rattle.verdict.specs.Filling.{Filled}
+use Rattle.verdict.specs.Edges.{Tables, Regular, Reached}
+use Rattle.verdict.specs.declared.fill.Counts.{Counts}
+use Rattle.verdict.proofs.Regularity.{regular}
 use Rattle.verdict.proofs.ListPlaces.{below-at, at-below, at-mem}
 use Rattle.verdict.proofs.RowRaces.{row-range}
 use Rattle.verdict.proofs.Tallies.{bundle-tallied}

@@ -30,5 +30,4 @@ pub mod RowRaces
 pub mod EveryPair
 pub mod Tallies
 pub mod PairCases
-pub mod Regulars
 pub mod JudgeCases

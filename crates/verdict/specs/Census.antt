@@ -12,7 +12,7 @@ use Rattle.verdict.specs.Races.{accessesOf, racesOf}
 use Rattle.verdict.specs.Matrix.{PathBits}
 use Rattle.verdict.specs.Working.{AccessTable}
 use Rattle.verdict.specs.Tallying.{aboveKey}
-use Rattle.verdict.specs.Standin.{Reached}
+use Rattle.verdict.specs.Edges.{Reached}
 use Rattle.verdict.specs.declared.race.Race.{Race}
 use Rattle.verdict.specs.declared.race.Verdict.{Verdict}
 use Rattle.verdict.specs.declared.race.Verdict.the-variants as Ver

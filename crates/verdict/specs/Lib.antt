@@ -9,6 +9,5 @@ pub mod Working
 pub mod Edges
 pub mod Filling
 pub mod Tallying
-pub mod Standin
 pub mod Census
 pub mod Promise

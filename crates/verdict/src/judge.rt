@@ -1,4 +1,7 @@
 // Judge a bundle, and the next race.
+use crate::edges::reach;
+use crate::fill::Counts;
+use crate::fill::fill;
 use crate::pairs::Key;
 use crate::pairs::Tally;
 use crate::pairs::all_pairs;
@@ -7,9 +10,6 @@ use crate::race::Judging;
 use crate::race::Name;
 use crate::race::Next;
 use crate::race::Verdict;
-use crate::standin::Counts;
-use crate::standin::fill;
-use crate::standin::reach;
 use bundle::check::Indexing;
 use bundle::check::index_bundle;
 use bundle::refusal::Cause;
@@ -21,7 +21,8 @@ ghost use Rattle.bundle.specs.Check.{Accepted};
 ghost use Rattle.verdict.specs.Judge.{judgedOf, judgeOf, nextAbove, nextOf, judgingOf, nextRaceOf};
 ghost use Rattle.verdict.specs.Races.{keyOf};
 ghost use Rattle.verdict.specs.Tallying.{tallyAll, TablesFit};
-ghost use Rattle.verdict.specs.Standin.{Room, Filled, Tables};
+ghost use Rattle.verdict.specs.Edges.{Tables};
+ghost use Rattle.verdict.specs.Filling.{Room, Filled};
 ghost use Rattle.verdict.specs.Census.{matrixPart, rowsPart, MatrixFilled, AreaFilled, Counted, verdictIn, nextIn};
 ghost use Rattle.verdict.specs.Promise.{Promise};
 

@@ -6,4 +6,3 @@ mod matrix;
 mod pairs;
 pub mod race;
 mod rows;
-mod standin;
