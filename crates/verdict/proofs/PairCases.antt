@@ -19,7 +19,30 @@ use Rattle.order.proofs.SharedByte.{shared-some}
 use Rattle.order.proofs.PairBytes.{touch-fits}
 use Rattle.verdict.specs.Races.{nameBelow}
 use Rattle.verdict.specs.Working.{accessRowAt}
-use Rattle.verdict.specs.Tallying.{rowRange, rowName, boundsMeet, kindsClash, locksApart, unordered, rowsClash, raceFrom, raceBetween, clashRace, pairRace, replaces, keeping, counting, addRace, addPair, tallyRow, noTally, tallyAll, RowFits, TablesFit}
+use Rattle.verdict.specs.Tallying.{
+  rowRange,
+  rowName,
+  boundsMeet,
+  kindsClash,
+  locksApart,
+  unordered,
+  rowsClash,
+  raceFrom,
+  raceBetween,
+  raceAtByte,
+  clashRace,
+  pairRace,
+  replaces,
+  keeping,
+  counting,
+  addRace,
+  addPair,
+  tallyRow,
+  noTally,
+  tallyAll,
+  RowFits,
+  TablesFit,
+}
 use Rattle.verdict.specs.declared.race.Name.{Name}
 use Rattle.verdict.specs.declared.race.Race.{Race}
 use Rattle.verdict.specs.declared.rows.AccessRow.{AccessRow}
@@ -74,6 +97,17 @@ module _ (m : List ℕ) (one other : AccessRow) {k : Bool} (e : k ≡ kindsClash
     paths-decide h g =
         g ∙ sym (passed ∙ ap (λ (x : Bool). x && unordered m (one .segment) (other .segment)) (not-false l h))
 
+-- the lowest shared byte of two rows
+module _ (one other : AccessRow) {a b : Range} (l : Lowest)
+    (f : a ≡ rowRange one) (g : b ≡ rowRange other) (s : lowestOf l ≡ sharedByte a b) where
+  shared-rows : sharedByte (rowRange one) (rowRange other) ≡ lowestOf l
+  shared-rows = sym (s ∙ ap₂ sharedByte f g)
+
+  pub byte-fits : RowFits one → {w : ℕ} → l ≡ Lo.Byte w → w < 4294967296
+  byte-fits fits {w} h =
+      touch-fits (rowRange one) w (fits .range)
+      (shared-some (rowRange one) (rowRange other) w (shared-rows ∙ ap lowestOf h) .one)
+
 -- two rows whose bounds meet
 module _ (m : List ℕ) (one other : AccessRow) (key : Key) (t : Tally) {c : Bool} (e : c ≡ rowsClash m one other) where
   pub no-clash : not c ≡ true → t ≡ addPair key t (clashRace m one other)
@@ -81,37 +115,27 @@ module _ (m : List ℕ) (one other : AccessRow) (key : Key) (t : Tally) {c : Boo
   no-clash h =
       sym
       (ap
-      (λ (x : Bool).
-      addPair key t
-      (cond x (fromOption none (λ witness. some (raceBetween one other witness)) (sharedByte (rowRange one) (rowRange other))) none))
+      (λ (x : Bool). addPair key t (cond x (raceAtByte one other (sharedByte (rowRange one) (rowRange other))) none))
       (sym e ∙ not-true c h))
 
   module _ (p : not c ≡ false) {a b : Range} (l : Lowest)
       (f : a ≡ rowRange one) (g : b ≡ rowRange other) (s : lowestOf l ≡ sharedByte a b) where
-    clashing :
-        clashRace m one other ≡ fromOption none (λ witness. some (raceBetween one other witness)) (lowestOf l)
+    clashing : {k : Lowest} → l ≡ k → addPair key t (clashRace m one other) ≡ addPair key t (raceAtByte one other (lowestOf k))
     unfolding clashRace
-    clashing =
+    clashing h =
         ap₂
-        (λ (x : Bool) (o : Option ℕ). cond x (fromOption none (λ witness. some (raceBetween one other witness)) o) none)
+        (λ (x : Bool) (o : Option ℕ). addPair key t (cond x (raceAtByte one other o) none))
         (sym e ∙ not-false c p)
-        (sym (s ∙ ap₂ sharedByte f g))
-
-    pub byte-fits : RowFits one → {w : ℕ} → l ≡ Lo.Byte w → w < 4294967296
-    byte-fits fits {w} h =
-        touch-fits (rowRange one) w (fits .range) (shared-some (rowRange one) (rowRange other) w (sym (s ∙ ap₂ sharedByte f g) ∙ ap lowestOf h) .one)
+        (shared-rows one other l f g s ∙ ap lowestOf h)
 
     pub clash-added :
-        {w : ℕ} {r : Race} {t′ : Tally} → l ≡ Lo.Byte w → r ≡ raceBetween one other w → t′ ≡ addRace key t r → t′ ≡ addPair key t (clashRace m one other)
+        {w : ℕ} {r : Race} {u : Tally} → l ≡ Lo.Byte w → r ≡ raceBetween one other w → u ≡ addRace key t r → u ≡ addPair key t (clashRace m one other)
     unfolding addPair
-    clash-added h i j =
-        j ∙ ap (addRace key t) i
-        ∙ sym (ap (addPair key t) (clashing ∙ ap (λ (x : Lowest). fromOption none (λ witness. some (raceBetween one other witness)) (lowestOf x)) h))
+    clash-added h i j = j ∙ ap (addRace key t) i ∙ sym (clashing h)
 
     pub clash-apart : l ≡ Lo.Nothing → t ≡ addPair key t (clashRace m one other)
     unfolding addPair
-    clash-apart h =
-        sym (ap (addPair key t) (clashing ∙ ap (λ (x : Lowest). fromOption none (λ witness. some (raceBetween one other witness)) (lowestOf x)) h))
+    clash-apart h = sym (clashing h)
 
 -- a row and the j-th
 module _ (m rows : List ℕ) (one : AccessRow) (j : ℕ) (key : Key) (t : Tally) {c : Bool}

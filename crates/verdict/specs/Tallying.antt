@@ -96,11 +96,12 @@ raceBetween one other witness =
     cond (nameBelow (rowName one) (rowName other)) (raceFrom one other witness) (raceFrom other one witness)
 
 -- the race of two accesses, or none
+abbrev pub raceAtByte : AccessRow → AccessRow → Option ℕ → Option Race
+raceAtByte one other byte = fromOption none (λ witness. some (raceBetween one other witness)) byte
+
 unfoldable pub clashRace : List ℕ → AccessRow → AccessRow → Option Race
 clashRace matrix one other =
-    cond (rowsClash matrix one other)
-    (fromOption none (λ witness. some (raceBetween one other witness)) (sharedByte (rowRange one) (rowRange other)))
-    none
+    cond (rowsClash matrix one other) (raceAtByte one other (sharedByte (rowRange one) (rowRange other))) none
 
 unfoldable pub pairRace : List ℕ → AccessRow → AccessRow → Option Race
 pairRace matrix one other =

@@ -19,10 +19,27 @@ loop-holds : tie.Need-loop-holds Inv-loop μ-loop
 loop-holds c = (search needs, refl, refl)
 
 loop-again : tie.Need-loop-again Inv-loop μ-loop
-loop-again c = let turn = c .before .loop in (search needs, length-set (turn .area) (turn .i) 0 ∙ turn .inv .1, ap (λ (l : List ℕ). set l (turn .i) 0) (turn .inv .2) ∙ fill-more (turn .i) 0 _ (search needs))
+loop-again c =
+    let turn = c .before .loop in (
+      search needs,
+      length-set (turn .area) (turn .i) 0 ∙ turn .inv .1,
+      ap (λ (l : List ℕ). set l (turn .i) 0) (turn .inv .2) ∙ fill-more (turn .i) 0 _ (search needs),
+    )
 
 returns : tie.Need-returns Inv-loop μ-loop
 returns c = cleared _ _ _ (c .before .loop .inv .0) (c .before .loop .inv .1) (c .loop-test .left) (c .before .loop .inv .2)
 
 pub clear-spec : {M : Type 1} → statement M
-clear-spec = tie.close (tie.spec Inv-loop μ-loop loop-holds (λ c. search needs) (λ c. search needs) (λ c. search needs) (λ c. search needs) loop-again (λ c. search needs) returns)
+clear-spec =
+    tie.close
+    (tie.spec
+    Inv-loop
+    μ-loop
+    loop-holds
+    (λ c. search needs)
+    (λ c. search needs)
+    (λ c. search needs)
+    (λ c. search needs)
+    loop-again
+    (λ c. search needs)
+    returns)

@@ -6,16 +6,24 @@ use Rattle.verdict.proofs.judge.fill_matrix.Statement.{statement}
 use Rattle.verdict.proofs.judge.fill_matrix.Tie as tie
 
 slice-aggregate-reach : tie.Need-slice-aggregate-reach
-slice-aggregate-reach c = sym (matrix-long (c .before .before .before .before .before .args .area .now) (c .before .before .before .before .before .pre .1))
+slice-aggregate-reach c =
+    let start = c .before .before .before .before .before in
+    sym (matrix-long (start .args .area .now) (start .pre .1))
 
 reach-requires : tie.Need-reach-requires
-reach-requires c κs = (c .before .before .before .before .before .pre .0, matrix-long (c .before .before .before .before .before .args .area .now) (c .before .before .before .before .before .pre .1))
+reach-requires c κs =
+    let start = c .before .before .before .before .before in
+    (start .pre .0, matrix-long (start .args .area .now) (start .pre .1))
 
 same-length : tie.Need-same-length
-same-length c = matrix-filled (c .before .before .before .before .before .before .before .before .args .area .now) (c .before .before .before .before .before .before .before .before .pre .1) _ (c .before .before .reach .ensures) .len
+same-length c =
+    let start = c .before .before .before .before .before .before .before .before in
+    matrix-filled (start .args .area .now) (start .pre .1) _ (c .before .before .reach .ensures) .len
 
 returns : tie.Need-returns
-returns c = matrix-filled (c .before .before .before .before .before .before .before .before .args .area .now) (c .before .before .before .before .before .before .before .before .pre .1) _ (c .before .before .reach .ensures)
+returns c =
+    let start = c .before .before .before .before .before .before .before .before in
+    matrix-filled (start .args .area .now) (start .pre .1) _ (c .before .before .reach .ensures)
 
 pub fill-matrix-spec : {M : Type 1} → statement M
 fill-matrix-spec = tie.close (tie.spec (λ c. search needs) slice-aggregate-reach reach-requires same-length returns)

@@ -8,7 +8,10 @@ returns : tie.Need-returns
 returns c = next-small _ _ _ _ _ (c .if1 .taken)
 
 returns-2 : tie.Need-returns-2
-returns-2 c = next-large _ _ _ _ _ (c .before .before .before .before .before .before .next-in .last .1 .1 .0) (c .before .before .before .before .before .before .before .before .if1 .left) (c .before .before .before .before .before .before .next-in .ensures .0) (c .before .before .before .before .before .before .next-in .ensures .1) (c .before .before .clear .ensures)
+returns-2 c =
+    let found = c .before .before .before .before .before .before in
+    next-large _ _ _ _ _ (found .next-in .last .1 .1 .0) (found .before .before .if1 .left) (found .next-in .ensures .0)
+    (found .next-in .ensures .1) (c .before .before .clear .ensures)
 
 pub next-race-spec : {M : Type 1} → statement M
 next-race-spec = tie.close (tie.spec returns (λ c κs. search needs) (λ c κs. search needs) (λ c. search needs) returns-2)

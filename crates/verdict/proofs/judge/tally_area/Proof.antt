@@ -10,4 +10,12 @@ returns : tie.Need-returns
 returns c = c .all-pairs .ensures
 
 pub tally-area-spec : {M : Type 1} → statement M
-tally-area-spec = tie.close (tie.spec (λ c. search needs) (λ c. search needs) (λ c. search needs) (λ c. search needs) all-pairs-requires returns)
+tally-area-spec =
+    tie.close
+    (tie.spec
+    (λ c. search needs)
+    (λ c. search needs)
+    (λ c. search needs)
+    (λ c. search needs)
+    all-pairs-requires
+    returns)

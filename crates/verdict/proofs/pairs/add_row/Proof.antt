@@ -36,4 +36,16 @@ returns : tie.Need-returns Inv-loop μ-loop
 returns c = row-all _ _ _ _ _ _ _ (c .before .loop .inv .0) (c .loop-test .left) (c .before .loop .inv .1)
 
 pub add-row-spec : {M : Type 1} → statement M
-add-row-spec = tie.close (tie.spec Inv-loop μ-loop loop-holds (λ c κs. search needs) (λ c κs. search needs) add-clash-requires (λ c. search needs) (λ c. search needs) loop-again returns)
+add-row-spec =
+    tie.close
+    (tie.spec
+    Inv-loop
+    μ-loop
+    loop-holds
+    (λ c κs. search needs)
+    (λ c κs. search needs)
+    add-clash-requires
+    (λ c. search needs)
+    (λ c. search needs)
+    loop-again
+    returns)

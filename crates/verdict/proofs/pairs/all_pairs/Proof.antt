@@ -18,13 +18,30 @@ unfolding tallyAll
 loop-holds c = (search needs, c .no-tally .ensures)
 
 add-row-requires : tie.Need-add-row-requires Inv-loop μ-loop
-add-row-requires c κs = all-fit _ _ _ _ _ (c .before .before .before .before .before .before .pre) (c .before .loop-test .taken) (c .before .before .loop .inv .1) (c .access-at .ensures)
+add-row-requires c κs =
+    let turn = c .before .before in
+    all-fit _ _ _ _ _ (turn .before .before .before .before .pre) (c .before .loop-test .taken) (turn .loop .inv .1) (c .access-at .ensures)
 
 loop-again : tie.Need-loop-again Inv-loop μ-loop
-loop-again c = (search needs, all-more _ _ _ _ (c .before .before .before .loop .inv .1) (c .before .access-at .ensures) (c .add-row .ensures))
+loop-again c = (
+  search needs,
+  all-more _ _ _ _ (c .before .before .before .loop .inv .1) (c .before .access-at .ensures) (c .add-row .ensures),
+)
 
 returns : tie.Need-returns Inv-loop μ-loop
 returns c = all-all _ _ _ _ _ (c .before .loop .inv .0) (c .loop-test .left) (c .before .loop .inv .1)
 
 pub all-pairs-spec : {M : Type 1} → statement M
-all-pairs-spec = tie.close (tie.spec Inv-loop μ-loop (λ c κs. search needs) loop-holds (λ c κs. search needs) add-row-requires (λ c. search needs) (λ c. search needs) loop-again returns)
+all-pairs-spec =
+    tie.close
+    (tie.spec
+    Inv-loop
+    μ-loop
+    (λ c κs. search needs)
+    loop-holds
+    (λ c κs. search needs)
+    add-row-requires
+    (λ c. search needs)
+    (λ c. search needs)
+    loop-again
+    returns)

@@ -9,4 +9,11 @@ unfolding accessRowAt
 returns c = cc
 
 pub bounds-meet-spec : {M : Type 1} → statement M
-bounds-meet-spec = tie.close (tie.spec (λ c. search needs) (λ c. search needs) (λ c κs. search needs) (λ c κs. search needs) returns)
+bounds-meet-spec =
+    tie.close
+    (tie.spec
+    (λ c. search needs)
+    (λ c. search needs)
+    (λ c κs. search needs)
+    (λ c κs. search needs)
+    returns)
