@@ -1,10 +1,16 @@
 //! Answers of the plain Rust code, one for each line of standard input:
-//! `check HEX` gives `accepted` or `refused N at P`; `shared` and the two ranges' eight numbers give a number.
+//! `check HEX` gives `accepted` or `refused N at P`; `shared` and the two ranges' eight numbers give a number;
+//! `judge WORDS HEX`, `next WORDS KEY HEX` and `list HEX` give a judgement, a race or `none`, and a listing whose lines
+//! end in `;`. WORDS is the length of the work area, which is not clean before and must be left as document 01 says; KEY
+//! is a witness and two names, seven numbers.
 //! bench/compare_reader holds them to the second reader's.
 
+mod judge;
 mod ranges;
 mod reader;
 
+use judge::{Closure, Judgement, LEAST_WORDS, Name, Race};
+use reader::Refusal;
 use std::io::{BufRead, Write};
 
 fn main() {
@@ -12,29 +18,88 @@ fn main() {
     for line in std::io::stdin().lock().lines() {
         let line = line.expect("a line of text");
         let (operation, rest) = line.split_once(' ').expect("an operation and its input");
+        let words: Vec<&str> = rest.split(' ').collect();
         let answer = match operation {
-            "check" => check(rest),
-            "shared" => shared(rest),
+            "check" => match reader::check(&bytes_of(rest)) {
+                Ok(()) => "accepted".to_string(),
+                Err(refusal) => refusal_text(refusal),
+            },
+            "shared" => shared(&numbers(&words)),
+            "judge" => judge(numbers(&words[..1])[0], &bytes_of(words[1])),
+            "next" => next(&numbers(&words[..8]), &bytes_of(words[8])),
+            "list" => list(&bytes_of(rest)),
             _ => panic!("unknown operation {operation}"),
         };
         writeln!(out, "{answer}").expect("standard output");
     }
 }
 
-fn check(text: &str) -> String {
+fn numbers(words: &[&str]) -> Vec<u32> {
+    words.iter().map(|word| word.parse().expect("a number")).collect()
+}
+
+fn bytes_of(text: &str) -> Vec<u8> {
     let byte_at = |i| u8::from_str_radix(&text[i..i + 2], 16).expect("hexadecimal digits");
-    let bytes: Vec<u8> = (0..text.len()).step_by(2).map(byte_at).collect();
-    match reader::check(&bytes) {
-        Ok(()) => "accepted".to_string(),
-        Err(refusal) => format!("refused {} at {}", refusal.number, refusal.place),
+    (0..text.len()).step_by(2).map(byte_at).collect()
+}
+
+fn refusal_text(refusal: Refusal) -> String {
+    format!("refused {} at {}", refusal.number, refusal.place)
+}
+
+fn shared(n: &[u32]) -> String {
+    let answers = [ranges::shared_by_elements, ranges::shared_by_euclid]
+        .map(|shared| shared(n[0], n[1] as u16, n[2] as u16, n[3] as u8, n[4], n[5] as u16, n[6] as u16, n[7] as u8));
+    assert_eq!(answers[0], answers[1], "the two answers to {n:?}");
+    answers[0].to_string()
+}
+
+/// Asks over a work area of so many words, once for each closure.
+fn over<T: PartialEq + std::fmt::Debug>(words: u32, ask: impl Fn(&mut [u32], Closure) -> T) -> T {
+    let before: Vec<u32> = (0..words).map(|word| word.wrapping_mul(0x9e37_79b9) | 1).collect();
+    let [one, other] = [Closure::Warshall, Closure::Teams].map(|closure| {
+        let mut work = before.clone();
+        let answer = ask(&mut work, closure);
+        if work.len() < LEAST_WORDS {
+            assert_eq!(work, before, "the work area");
+        } else {
+            assert!(work.iter().all(|&word| word == 0), "the work area");
+        }
+        answer
+    });
+    assert_eq!(one, other, "the two closures");
+    one
+}
+
+fn judge(words: u32, bytes: &[u8]) -> String {
+    match over(words, |work, closure| judge::judge(bytes, work, closure)) {
+        Ok(judgement) => judgement_text(judgement),
+        Err(refusal) => refusal_text(refusal),
     }
 }
 
-fn shared(text: &str) -> String {
-    let n: Vec<u32> = text.split(' ').map(|word| word.parse().expect("a number")).collect();
-    let answers = [ranges::shared_by_elements, ranges::shared_by_euclid].map(|shared| {
-        shared(n[0], n[1] as u16, n[2] as u16, n[3] as u8, n[4], n[5] as u16, n[6] as u16, n[7] as u8)
-    });
-    assert_eq!(answers[0], answers[1], "the two answers to {text}");
-    answers[0].to_string()
+fn next(n: &[u32], bytes: &[u8]) -> String {
+    let name = |n: &[u32]| Name { team: n[0] as u16, member: n[1] as u8, number: n[2] as u16 };
+    let key = (n[1], name(&n[2..5]), name(&n[5..8]));
+    match over(n[0], |work, closure| judge::next_race(bytes, key, work, closure)) {
+        Ok(race) => race.map_or("none".to_string(), race_text),
+        Err(refusal) => refusal_text(refusal),
+    }
+}
+
+fn list(bytes: &[u8]) -> String {
+    let text = over(LEAST_WORDS as u32, |work, closure| judge::racelist(bytes, work, closure));
+    String::from_utf8(text).expect("text").replace('\n', ";")
+}
+
+fn judgement_text(judgement: Judgement) -> String {
+    let Judgement { chunks, segments, accesses, races, least } = judgement;
+    let verdict = least.map_or("race-free".to_string(), race_text);
+    format!("chunks {chunks} segments {segments} accesses {accesses} races {races} {verdict}")
+}
+
+fn race_text(race: Race) -> String {
+    let name = |name: Name| format!("{}.{}.{}", name.team, name.member, name.number);
+    let Race { witness, first, first_site, second, second_site } = race;
+    format!("race {witness} {} {first_site} {} {second_site}", name(first), name(second))
 }

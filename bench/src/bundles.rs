@@ -8,7 +8,7 @@ pub struct Case {
 }
 
 /// A chunk's bytes, MEMBER to END.
-type Chunk = Vec<u8>;
+pub type Chunk = Vec<u8>;
 
 pub fn cases(random: &mut Random) -> Vec<Case> {
     let mut cases = Vec::new();
@@ -20,8 +20,11 @@ pub fn cases(random: &mut Random) -> Vec<Case> {
     let accesses = with_accesses(wide_teams(55), random);
     let full = with_locks(accesses.clone(), 65_536);
     add("65,536 bytes of locks", locks.clone());
-    add("504 chunks, 8 teams", shuffled(wide.clone(), random));
-    add("256 chunks, 255 teams", shuffled(small.clone(), random));
+    add("504 chunks, 8 teams", wide.concat());
+    add("the same, shuffled", shuffled(wide.clone(), random));
+    add("256 chunks, 255 teams", small.concat());
+    add("the same, shuffled", shuffled(small.clone(), random));
+    add("the same, back to front", small.iter().rev().flatten().copied().collect());
     add("1,024 accesses, 504 chunks", shuffled(accesses, random));
     add("all limits reached", shuffled(full.clone(), random));
 
@@ -48,12 +51,12 @@ pub fn cases(random: &mut Random) -> Vec<Case> {
     cases
 }
 
-fn member(team: u16, member: u8) -> Chunk {
+pub fn member(team: u16, member: u8) -> Chunk {
     let [low, high] = team.to_le_bytes();
     vec![0x01, low, high, member]
 }
 
-fn region(team: u16, size: u8) -> [u8; 4] {
+pub fn region(team: u16, size: u8) -> [u8; 4] {
     let [low, high] = team.to_le_bytes();
     [0x10, low, high, size]
 }
@@ -75,7 +78,7 @@ fn access(random: &mut Random) -> Vec<u8> {
     bytes
 }
 
-fn end(chunk: &mut Chunk) {
+pub fn end(chunk: &mut Chunk) {
     chunk.push(0x02);
 }
 
@@ -144,7 +147,7 @@ fn with_locks(mut chunks: Vec<Chunk>, bytes: usize) -> Vec<Chunk> {
 }
 
 /// The chunks in a random order.
-fn shuffled(mut chunks: Vec<Chunk>, random: &mut Random) -> Vec<u8> {
+pub fn shuffled(mut chunks: Vec<Chunk>, random: &mut Random) -> Vec<u8> {
     for i in (1..chunks.len()).rev() {
         chunks.swap(i, random.from(0, i as u64) as usize);
     }

@@ -3,6 +3,9 @@
 mod bundles;
 mod exports;
 mod generate;
+mod judge;
+mod judge_cases;
+mod judgements;
 mod ranges;
 mod reader;
 
@@ -41,6 +44,8 @@ fn main() {
         all_equal &= time_check(case);
     }
     all_equal &= check_damaged(&cases, &mut random);
+    println!();
+    all_equal &= judgements::compare(&mut random);
     println!();
     if !all_equal {
         println!("bench: answers differ");
@@ -81,10 +86,10 @@ fn equal_answers(name: &str, pairs: &[Pair]) -> bool {
 }
 
 /// The quickest of some rounds for each task, in seconds. The tasks take turns, so that a busy machine slows none alone.
-fn quickest<const TASKS: usize>(rounds: usize, tasks: [&dyn Fn(); TASKS]) -> [f64; TASKS] {
+fn quickest<const TASKS: usize>(rounds: usize, mut tasks: [&mut dyn FnMut(); TASKS]) -> [f64; TASKS] {
     let mut best = [f64::INFINITY; TASKS];
     for _ in 0..rounds {
-        for (best, task) in best.iter_mut().zip(tasks) {
+        for (best, task) in best.iter_mut().zip(&mut tasks) {
             let began = Instant::now();
             task();
             *best = best.min(began.elapsed().as_secs_f64());
@@ -107,8 +112,9 @@ fn time_pairs(name: &str, random: &mut Random, make: fn(&mut Random) -> Pair) ->
     }
     let mut nanoseconds = [0.0; 3];
     for block in pairs.chunks(BLOCK) {
-        let [proved, elements, euclid] = SHARED_BYTES.map(|shared_byte| move || ask_all(shared_byte, block));
-        for (sum, best) in nanoseconds.iter_mut().zip(quickest(ROUNDS, [&proved, &elements, &euclid])) {
+        let [mut proved, mut elements, mut euclid] =
+            SHARED_BYTES.map(|shared_byte| move || ask_all(shared_byte, block));
+        for (sum, best) in nanoseconds.iter_mut().zip(quickest(ROUNDS, [&mut proved, &mut elements, &mut euclid])) {
             *sum += best * 1e9 / PAIRS as f64;
         }
     }
@@ -152,9 +158,9 @@ fn time_check(case: &Case) -> bool {
     if !equal_checks(case.name, bytes) {
         return false;
     }
-    let proved = || _ = black_box(exports::check(black_box(bytes)));
-    let rust = || _ = black_box(check_by_reader(black_box(bytes)));
-    let [proved, rust] = quickest(CHECK_ROUNDS, [&proved, &rust]).map(|best| best * 1e6);
+    let mut proved = || _ = black_box(exports::check(black_box(bytes)));
+    let mut rust = || _ = black_box(check_by_reader(black_box(bytes)));
+    let [proved, rust] = quickest(CHECK_ROUNDS, [&mut proved, &mut rust]).map(|best| best * 1e6);
     let answer = answer_text(exports::check(bytes));
     println!("{:<32}{:>7}{answer:>12}{proved:>9.1}{rust:>9.1}{:>8.2}", case.name, bytes.len(), proved / rust);
     true

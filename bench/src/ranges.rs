@@ -1,8 +1,6 @@
 //! The lowest byte that two ranges share, in plain Rust: by a loop over the elements, and by the proved code's own algorithm.
 //! An answer is the number that the exported function gives.
 
-use crate::reader::range_is_good;
-
 /// The bytes base + k * stride + j, with k below count and j below size.
 #[derive(Clone, Copy, Debug)]
 pub struct Range {
@@ -13,8 +11,19 @@ pub struct Range {
 }
 
 impl Range {
-    fn is_good(&self) -> bool {
-        range_is_good(self.base, self.stride, self.count, self.size)
+    /// Count at least 1, stride 0 exactly when it is 1, size 1, 2, 4 or 8, last byte at most 4,294,967,295.
+    #[inline]
+    pub fn is_good(&self) -> bool {
+        self.count >= 1
+            && (self.stride == 0) == (self.count == 1)
+            && matches!(self.size, 1 | 2 | 4 | 8)
+            && self.last_byte() <= u32::MAX as u64
+    }
+
+    /// For a count and size of at least 1.
+    #[inline]
+    pub fn last_byte(&self) -> u64 {
+        self.start_of(self.count as u64 - 1) + (self.size as u64 - 1)
     }
 
     fn start_of(&self, element: u64) -> u64 {
@@ -69,7 +78,8 @@ fn first_pair(stride: u64, pace: u64, low: u64, high: u64, count: u64, limit: u6
 }
 
 /// Euclid's algorithm on the strides.
-fn by_euclid(first: Range, second: Range) -> Option<u64> {
+#[inline]
+pub fn by_euclid(first: Range, second: Range) -> Option<u64> {
     let (lower, upper) = if first.base <= second.base { (first, second) } else { (second, first) };
     let distance = (upper.base - lower.base) as u64;
     if distance < lower.size as u64 {

@@ -1,5 +1,7 @@
 //! A plain reader of bundles, written from document 01: check, with refusals 1 to 12.
 
+use crate::ranges::Range;
+
 const MOST_BYTES: usize = 65_536;
 const MOST_SEGMENTS: u32 = 512;
 const MOST_ACCESSES: u32 = 1_024;
@@ -11,20 +13,47 @@ pub struct Refusal {
     pub place: usize,
 }
 
-fn refuse<T>(number: u32, place: usize) -> Result<T, Refusal> {
+pub fn refuse<T>(number: u32, place: usize) -> Result<T, Refusal> {
     Err(Refusal { number, place })
 }
 
 /// Refuses the bundle, or accepts it.
 pub fn check(bytes: &[u8]) -> Result<(), Refusal> {
+    read(bytes, &mut ()).map(|_| ())
+}
+
+/// Takes the segments and accesses of a bundle in the order of the bytes, while its commands are checked.
+pub trait Log {
+    /// A segment is opened by the REGION of a team, or with 0 by MEMBER or BARRIER.
+    fn segment(&mut self, team: u16);
+    /// An access to a good range, with the locks held there.
+    fn access(&mut self, access: Access, locks: u64);
+}
+
+/// For check, nothing is kept.
+impl Log for () {
+    fn segment(&mut self, _: u16) {}
+    fn access(&mut self, _: Access, _: u64) {}
+}
+
+/// Checks the bundle. Its chunks come sorted by name, its REGIONs by team.
+pub fn read(bytes: &[u8], log: &mut impl Log) -> Result<(Vec<Chunk>, Vec<Fork>), Refusal> {
     if bytes.len() > MOST_BYTES {
         return refuse(1, 0);
     }
-    let (chunks, forks) = scan(bytes)?;
-    check_shape(chunks, forks)
+    let (mut chunks, mut forks) = scan(bytes, log)?;
+    check_shape(&mut chunks, &mut forks)?;
+    Ok((chunks, forks))
 }
 
-/// Of an access, only what check looks at.
+/// The code is the command byte, 0x30 to 0x33.
+#[derive(Clone, Copy)]
+pub struct Access {
+    pub code: u8,
+    pub site: u16,
+    pub range: Range,
+}
+
 enum Command {
     Member { team: u16, member: u8 },
     End,
@@ -32,7 +61,7 @@ enum Command {
     Barrier,
     Acquire(u8),
     Release(u8),
-    Access { base: u32, stride: u16, count: u16, size: u8 },
+    Access(Access),
 }
 
 /// The command at a position and the position after it, its operands not yet tested; or 2 or 3.
@@ -45,47 +74,46 @@ fn decode(bytes: &[u8], at: usize) -> Result<(Command, usize), Refusal> {
         [0x11, ..] => (Command::Barrier, at + 1),
         [0x20, lock, ..] => (Command::Acquire(lock), at + 2),
         [0x21, lock, ..] => (Command::Release(lock), at + 2),
-        [0x30..=0x33, _, _, b0, b1, b2, b3, s0, s1, c0, c1, size, ..] => {
+        [code @ 0x30..=0x33, low, high, b0, b1, b2, b3, s0, s1, c0, c1, size, ..] => {
             let base = u32::from_le_bytes([b0, b1, b2, b3]);
             let stride = u16::from_le_bytes([s0, s1]);
             let count = u16::from_le_bytes([c0, c1]);
-            (Command::Access { base, stride, count, size }, at + 12)
+            let range = Range { base, stride, count, size };
+            (Command::Access(Access { code, site: u16::from_le_bytes([low, high]), range }), at + 12)
         }
         [0x01 | 0x10 | 0x20 | 0x21 | 0x30..=0x33, ..] => return refuse(3, at),
         _ => return refuse(2, at),
     })
 }
 
-/// Count at least 1, stride 0 exactly when it is 1, size 1, 2, 4 or 8, last byte at most 4,294,967,295.
-pub fn range_is_good(base: u32, stride: u16, count: u16, size: u8) -> bool {
-    count >= 1
-        && (stride == 0) == (count == 1)
-        && matches!(size, 1 | 2 | 4 | 8)
-        && base as u64 + (count as u64 - 1) * stride as u64 + (size as u64 - 1) <= u32::MAX as u64
+/// A chunk: the offset of its MEMBER, its name, the barriers that it passes, and its segments and accesses among those
+/// of the bundle, from a number up to a number, in the order of the bytes. An offset is at most 65,535.
+#[derive(Clone, Copy)]
+pub struct Chunk {
+    pub place: u16,
+    pub team: u16,
+    pub member: u8,
+    pub barriers: u16,
+    pub segments: (u16, u16),
+    pub accesses: (u16, u16),
 }
 
-/// A chunk: the offset of its MEMBER, its name, and the barriers that it passes.
-struct Chunk {
-    place: usize,
-    team: u16,
-    member: u8,
-    barriers: u32,
-}
-
-/// A REGION: its offset, the team that it forks with its size, and the team that it stands in.
-struct Fork {
-    place: usize,
-    team: u16,
-    size: u8,
-    by_team: u16,
+/// A REGION: its offset, the team that it forks with its size, the team that it stands in, and the segment that it
+/// opens.
+pub struct Fork {
+    pub place: u16,
+    pub team: u16,
+    pub size: u8,
+    pub by_team: u16,
+    pub segment: u16,
 }
 
 /// The chunks and REGIONs in the order of the bytes, or the first command that is refused, with 2 to 7.
-fn scan(bytes: &[u8]) -> Result<(Vec<Chunk>, Vec<Fork>), Refusal> {
+fn scan(bytes: &[u8], log: &mut impl Log) -> Result<(Vec<Chunk>, Vec<Fork>), Refusal> {
     let mut chunks = Vec::new();
     let mut forks = Vec::new();
     let mut open = false;
-    let mut chunk = Chunk { place: 0, team: 0, member: 0, barriers: 0 };
+    let mut chunk = Chunk { place: 0, team: 0, member: 0, barriers: 0, segments: (0, 0), accesses: (0, 0) };
     let mut locks = 0u64;
     let mut segments = 0;
     let mut accesses = 0;
@@ -104,7 +132,10 @@ fn scan(bytes: &[u8]) -> Result<(Vec<Chunk>, Vec<Fork>), Refusal> {
                     return refuse(7, at);
                 }
                 open = true;
-                chunk = Chunk { place: at, team, member, barriers: 0 };
+                let (segment, access) = (segments as u16, accesses as u16);
+                let place = at as u16;
+                chunk = Chunk { place, team, member, barriers: 0, segments: (segment, 0), accesses: (access, 0) };
+                log.segment(0);
                 segments += 1;
             }
             Command::End => {
@@ -115,7 +146,9 @@ fn scan(bytes: &[u8]) -> Result<(Vec<Chunk>, Vec<Fork>), Refusal> {
                     return refuse(6, at);
                 }
                 open = false;
-                chunks.push(Chunk { ..chunk });
+                chunk.segments.1 = segments as u16;
+                chunk.accesses.1 = accesses as u16;
+                chunks.push(chunk);
             }
             Command::Region { team, size } => {
                 if !open {
@@ -127,7 +160,8 @@ fn scan(bytes: &[u8]) -> Result<(Vec<Chunk>, Vec<Fork>), Refusal> {
                 if segments == MOST_SEGMENTS {
                     return refuse(7, at);
                 }
-                forks.push(Fork { place: at, team, size, by_team: chunk.team });
+                forks.push(Fork { place: at as u16, team, size, by_team: chunk.team, segment: segments as u16 });
+                log.segment(team);
                 segments += 1;
             }
             Command::Barrier => {
@@ -138,6 +172,7 @@ fn scan(bytes: &[u8]) -> Result<(Vec<Chunk>, Vec<Fork>), Refusal> {
                     return refuse(7, at);
                 }
                 chunk.barriers += 1;
+                log.segment(0);
                 segments += 1;
             }
             Command::Acquire(lock) => {
@@ -164,16 +199,17 @@ fn scan(bytes: &[u8]) -> Result<(Vec<Chunk>, Vec<Fork>), Refusal> {
                 }
                 locks &= !(1 << lock);
             }
-            Command::Access { base, stride, count, size } => {
+            Command::Access(access) => {
                 if !open {
                     return refuse(4, at);
                 }
-                if !range_is_good(base, stride, count, size) {
+                if !access.range.is_good() {
                     return refuse(5, at);
                 }
                 if accesses == MOST_ACCESSES {
                     return refuse(7, at);
                 }
+                log.access(access, locks);
                 accesses += 1;
             }
         }
@@ -186,39 +222,46 @@ fn scan(bytes: &[u8]) -> Result<(Vec<Chunk>, Vec<Fork>), Refusal> {
 }
 
 /// The lowest number of 8 to 12, then the lowest offset.
-fn check_shape(mut chunks: Vec<Chunk>, mut forks: Vec<Fork>) -> Result<(), Refusal> {
+fn check_shape(chunks: &mut [Chunk], forks: &mut [Fork]) -> Result<(), Refusal> {
     // Sorted by name, then place: of equal names the first stands lowest in the bundle.
-    chunks.sort_unstable_by_key(|chunk| (chunk.team as u64) << 40 | (chunk.member as u64) << 32 | chunk.place as u64);
-    forks.sort_unstable_by_key(|fork| (fork.team as u64) << 32 | fork.place as u64);
-    refuse_lowest(8, places_forked_before(&forks))?;
-    refuse_lowest(9, places_of_stray_chunks(&chunks, &forks))?;
+    chunks.sort_unstable_by_key(|chunk| (chunk.team as u64) << 24 | (chunk.member as u64) << 16 | chunk.place as u64);
+    forks.sort_unstable_by_key(|fork| (fork.team as u32) << 16 | fork.place as u32);
+    refuse_lowest(8, places_forked_before(forks))?;
+    refuse_lowest(9, places_of_stray_chunks(chunks, forks))?;
     if !chunks.first().is_some_and(|chunk| chunk.team == 0 && chunk.member == 0) {
         return refuse(10, 0);
     }
-    refuse_lowest(10, places_lacking_chunks(&chunks, &forks))?;
-    refuse_lowest(11, places_too_deep(&forks))?;
-    refuse_lowest(12, places_of_unlike_barriers(&chunks))
+    refuse_lowest(10, places_lacking_chunks(chunks, forks))?;
+    refuse_lowest(11, places_too_deep(forks))?;
+    refuse_lowest(12, places_of_unlike_barriers(chunks))
 }
 
-fn refuse_lowest(number: u32, places: impl Iterator<Item = usize>) -> Result<(), Refusal> {
+fn refuse_lowest(number: u32, places: impl Iterator<Item = u16>) -> Result<(), Refusal> {
     match places.min() {
-        Some(place) => refuse(number, place),
+        Some(place) => refuse(number, place as usize),
         None => Ok(()),
     }
 }
 
 /// 8: a team forked before, at the later REGION.
-fn places_forked_before(forks: &[Fork]) -> impl Iterator<Item = usize> + '_ {
+fn places_forked_before(forks: &[Fork]) -> impl Iterator<Item = u16> + '_ {
     forks.windows(2).filter(|pair| pair[0].team == pair[1].team).map(|pair| pair[1].place)
 }
 
 /// The chunks of each team, by member.
-fn teams(chunks: &[Chunk]) -> impl Iterator<Item = &[Chunk]> {
+pub fn teams(chunks: &[Chunk]) -> impl Iterator<Item = &[Chunk]> {
     chunks.chunk_by(|one, other| one.team == other.team)
 }
 
+/// The chunks of one team, by member.
+pub fn team(chunks: &[Chunk], team: u16) -> &[Chunk] {
+    let start = chunks.partition_point(|chunk| chunk.team < team);
+    let length = chunks[start..].partition_point(|chunk| chunk.team == team);
+    &chunks[start..start + length]
+}
+
 /// 9: a chunk of a team that is never forked, a member number not below the size, or a second chunk of one member.
-fn places_of_stray_chunks<'a>(chunks: &'a [Chunk], forks: &'a [Fork]) -> impl Iterator<Item = usize> + 'a {
+fn places_of_stray_chunks<'a>(chunks: &'a [Chunk], forks: &'a [Fork]) -> impl Iterator<Item = u16> + 'a {
     let stray = teams(chunks).flat_map(|team| {
         let size = match team[0].team {
             0 => 1,
@@ -231,16 +274,12 @@ fn places_of_stray_chunks<'a>(chunks: &'a [Chunk], forks: &'a [Fork]) -> impl It
 }
 
 /// 10: a forked team lacking a chunk, at its REGION. Past 9, each chunk is of a member of its team, and the only one.
-fn places_lacking_chunks<'a>(chunks: &'a [Chunk], forks: &'a [Fork]) -> impl Iterator<Item = usize> + 'a {
-    let chunks_of = |team| {
-        let start = chunks.partition_point(|chunk| chunk.team < team);
-        chunks[start..].partition_point(|chunk| chunk.team == team)
-    };
-    forks.iter().filter(move |fork| chunks_of(fork.team) < fork.size as usize).map(|fork| fork.place)
+fn places_lacking_chunks<'a>(chunks: &'a [Chunk], forks: &'a [Fork]) -> impl Iterator<Item = u16> + 'a {
+    forks.iter().filter(|fork| team(chunks, fork.team).len() < fork.size as usize).map(|fork| fork.place)
 }
 
 /// 11: a team more than 4 deep below the root, at its REGION. A team's number is above that of the team that forks it.
-fn places_too_deep(forks: &[Fork]) -> impl Iterator<Item = usize> + '_ {
+fn places_too_deep(forks: &[Fork]) -> impl Iterator<Item = u16> + '_ {
     let mut depths = Vec::with_capacity(forks.len());
     for fork in forks {
         let outer = forks[..depths.len()].binary_search_by_key(&fork.by_team, |fork| fork.team);
@@ -250,7 +289,7 @@ fn places_too_deep(forks: &[Fork]) -> impl Iterator<Item = usize> + '_ {
 }
 
 /// 12: a barrier count unlike that of member 0, which stands first of its team.
-fn places_of_unlike_barriers(chunks: &[Chunk]) -> impl Iterator<Item = usize> + '_ {
+fn places_of_unlike_barriers(chunks: &[Chunk]) -> impl Iterator<Item = u16> + '_ {
     teams(chunks).flat_map(|team| {
         team.iter().filter(|chunk| chunk.barriers != team[0].barriers).map(|chunk| chunk.place)
     })

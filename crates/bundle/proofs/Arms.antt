@@ -1,41 +1,35 @@
--- What each arm of reading answers, at the byte that stands at the position.
+-- What each arm of decoding answers, at the byte that stands at the position; and what reading makes of it.
 -- Assumes nothing.
 use mathlib.Core.Path.{_≡_, refl, sym, ap, _∙_}
-use mathlib.Core.Bool.{Bool, true, false}
+use mathlib.Core.Bool.{true, false}
 use mathlib.Core.List.{List}
-use Prim.Native.Nat.{ℕ, _+_, _-_, _≤_, _<_}
-use native.Mathlib.Nat.{add-assoc}
+use mathlib.Core.Option.{none}
+use Prim.Native.Nat.{ℕ, suc, _+_, _-_, _≤_, _<_}
 use native.Mathlib.Omega.{arith}
 use borrow.Author.Tests.{ne-eqb, lt-leb, le-leb, lt-ltb, le-ltb}
-use lib.Dec.{eqb}
 use lib.ListN.{length, getD}
-use Rattle.bundle.specs.Answer.{refuses}
-use Rattle.bundle.specs.Commands.{numberAt, kindOf, byteOf, widthOf, accessAt, commandAt, decodeByte, decodeAt, ranged, readAt}
-use Rattle.bundle.specs.Inner.{StandsAt, AccessAt, RangeAt}
-use Rattle.bundle.specs.declared.command.AccessKind.the-variants as Kind
-use Rattle.bundle.specs.declared.command.Access.{Access}
+use Rattle.bundle.specs.Answer.{gives, refuses}
+use Rattle.bundle.specs.Commands.{kindOf, accessWidths, accessOf, formOf, sum, widthOf, operandsFrom, commandAt, inRange, decodeByte, decodeAt, ranged, readAt, readingOf}
+use Rattle.bundle.specs.Inner.{StandsAt, AccessAt}
+use Rattle.bundle.specs.declared.refusal.Cause.{Cause}
 use Rattle.bundle.specs.declared.command.Command.{Command}
-use Rattle.bundle.specs.declared.command.Command.the-variants as Com
-use Rattle.bundle.proofs.Decoding.{Known, member, end, region, barrier, acquire, release, access, access-elim, access-width, access-at, known-width, width-known}
+use Rattle.bundle.specs.declared.command.Reading.{Reading}
+use Rattle.bundle.specs.declared.command.Reading.the-variants as Read
+use Rattle.bundle.proofs.Forms.{form-of-access}
+use Rattle.bundle.proofs.Decoding.{width-none}
 
-pub read-past : (s : List ℕ) (at : ℕ) → length s ≤ at → refuses 18 at ≡ readAt s at
-unfolding readAt decodeAt
-read-past s at h = sym (rw (le-leb (length s) at h))
+pub decode-past : (s : List ℕ) (at : ℕ) → length s ≤ at → refuses 18 at ≡ decodeAt s at
+unfolding decodeAt
+decode-past s at h = sym (rw (le-leb (length s) at h))
 
 module _ {b : ℕ} (s : List ℕ) (at : ℕ) (stands : StandsAt s at b) where
-  pub read-unknown : (Known b → ⊥) → refuses 2 at ≡ readAt s at
-  unfolding readAt decodeAt decodeByte
-  read-unknown n =
-      let none : eqb (widthOf b) 0 ≡ true = unknown (eqb (widthOf b) 0) refl in
-      sym (simp (stands .byte, lt-leb (length s) at (stands .within), none))
-    where
-      unknown : (t : Bool) → eqb (widthOf b) 0 ≡ t → t ≡ true
-      unknown true e = refl
-      unknown false e = absurd (n (width-known b e))
+  pub decode-unknown : formOf b ≡ none → refuses 2 at ≡ decodeAt s at
+  unfolding decodeAt decodeByte
+  decode-unknown n = sym (simp (stands .byte, lt-leb (length s) at (stands .within), width-none b n))
 
-  pub read-cut : Known b → length s - at < widthOf b → refuses 3 at ≡ readAt s at
-  unfolding readAt decodeAt decodeByte
-  read-cut k h =
+  pub decode-cut : length s - at < widthOf b → refuses 3 at ≡ decodeAt s at
+  unfolding decodeAt decodeByte
+  decode-cut h =
       sym (simp (
         stands .byte,
         lt-leb (length s) at (stands .within),
@@ -43,11 +37,14 @@ module _ {b : ℕ} (s : List ℕ) (at : ℕ) (stands : StandsAt s at b) where
         lt-ltb (length s - at) (widthOf b) h,
       ))
 
-  pub read-whole : (c : Command) → Known b → widthOf b ≤ length s - at → c ≡ commandAt s at b
-      → ranged at (record { command = c; next = at + widthOf b }) ≡ readAt s at
-  unfolding readAt decodeAt decodeByte
-  read-whole c k h e =
-      let w = known-width k in
+  pub decode-whole :
+      (c : Command)
+      → 0 < widthOf b
+      → widthOf b ≤ length s - at
+      → c ≡ commandAt s at b
+      → gives (record { command = c; next = at + widthOf b }) ≡ decodeAt s at
+  unfolding decodeAt decodeByte
+  decode-whole c w h e =
       sym (simp (
         stands .byte,
         lt-leb (length s) at (stands .within),
@@ -60,48 +57,36 @@ module _ (s : List ℕ) (at : ℕ) (stands : AccessAt s at) where
   access-stands : StandsAt s at (getD s at 0)
   access-stands = record { within = stands .within; byte = refl }
 
-  access-known : Known (getD s at 0)
-  access-known = access-elim Known access (getD s at 0) (stands .low) (stands .high)
+  access-width : widthOf (getD s at 0) ≡ suc (sum accessWidths)
+  unfolding widthOf
+  access-width = rw (form-of-access (getD s at 0) (stands .low) (stands .high))
 
-  access-width-at : 12 ≡ widthOf (getD s at 0)
-  access-width-at = access-elim (λ (b : ℕ). 12 ≡ widthOf b) access-width (getD s at 0) (stands .low) (stands .high)
+  pub access-cut : length s - at < suc (sum accessWidths) → refuses 3 at ≡ decodeAt s at
+  access-cut h = decode-cut s at access-stands (rw access-width h)
 
-  pub access-cut : length s - at < 12 → refuses 3 at ≡ readAt s at
-  access-cut h = read-cut s at access-stands access-known (omega (arith, access-width-at))
+  pub access-whole :
+      (c : Command)
+      → suc (sum accessWidths) ≤ length s - at
+      → c ≡ accessOf (kindOf (getD s at 0)) (λ k. getD (operandsFrom s at 1 accessWidths) k 0)
+      → gives (record { command = c; next = at + suc (sum accessWidths) }) ≡ decodeAt s at
+  unfolding commandAt
+  access-whole c h e =
+      let w = access-width in
+      ap (λ (m : ℕ). gives (record { command = c; next = at + m })) (sym w)
+      ∙ decode-whole s at access-stands c (omega arith) (rw w h)
+      (rw (form-of-access (getD s at 0) (stands .low) (stands .high)) e)
 
-  pub access-whole : (a : Access) → 12 ≤ length s - at → a .kind ≡ kindOf (getD s at 0) → a .site ≡ numberAt 2 s (at + 1) → RangeAt s (at + 3) (a .range)
-      → ranged at (record { command = Com.Access a; next = at + 12 }) ≡ readAt s at
-  unfolding accessAt
-  access-whole a h k n r =
-      let w = access-width-at in
-      let parts : a ≡ accessAt s at (getD s at 0) =
-      λ i. record {
-        kind = k i;
-        site = n i;
-        range =
-            record {
-              base = r .base i;
-              stride = (r .stride ∙ ap (numberAt 2 s) (add-assoc at 3 4)) i;
-              count = (r .count ∙ ap (numberAt 2 s) (add-assoc at 3 6)) i;
-              size = (r .size ∙ ap (numberAt 1 s) (add-assoc at 3 8)) i;
-            };
-      }
-      in
-      ap (λ (m : ℕ). ranged at (record { command = Com.Access a; next = at + m })) w
-      ∙ read-whole s at access-stands (Com.Access a) access-known (omega arith)
-      (ap Com.Access parts ∙ sym (access-elim (λ (b : ℕ). commandAt s at b ≡ Com.Access (accessAt s at b)) (access-at s at) (getD s at 0) (stands .low) (stands .high)))
+-- what reading makes of what is decoded
+module _ (s : List ℕ) (at : ℕ) {r : Reading} (decodes : readingOf r ≡ decodeAt s at) where
+  pub read-refused : {place : ℕ} {cause : Cause} → r ≡ Read.Refused place cause → readingOf r ≡ readAt s at
+  unfolding readAt
+  read-refused e = rw (← decodes, e)
 
--- no other byte begins a command
-pub not-known : {b : ℕ} → (b ≡ 0x01 → ⊥) → (b ≡ 0x02 → ⊥) → (b ≡ 0x10 → ⊥) → (b ≡ 0x11 → ⊥) → (b ≡ 0x20 → ⊥) → (b ≡ 0x21 → ⊥)
-    → (0x30 ≤ b → b < 0x34 → ⊥) → Known b → ⊥
-unfolding byteOf
-not-known n₁ n₂ n₃ n₄ n₅ n₆ n member = n₁ refl
-not-known n₁ n₂ n₃ n₄ n₅ n₆ n end = n₂ refl
-not-known n₁ n₂ n₃ n₄ n₅ n₆ n region = n₃ refl
-not-known n₁ n₂ n₃ n₄ n₅ n₆ n barrier = n₄ refl
-not-known n₁ n₂ n₃ n₄ n₅ n₆ n acquire = n₅ refl
-not-known n₁ n₂ n₃ n₄ n₅ n₆ n release = n₆ refl
-not-known n₁ n₂ n₃ n₄ n₅ n₆ n (access Kind.Read) = n (omega arith) (omega arith)
-not-known n₁ n₂ n₃ n₄ n₅ n₆ n (access Kind.Write) = n (omega arith) (omega arith)
-not-known n₁ n₂ n₃ n₄ n₅ n₆ n (access Kind.AtomicRead) = n (omega arith) (omega arith)
-not-known n₁ n₂ n₃ n₄ n₅ n₆ n (access Kind.AtomicWrite) = n (omega arith) (omega arith)
+  pub read-beyond : {next : ℕ} {c : Command} → r ≡ Read.Taken next c → inRange c ≡ false → refuses 5 at ≡ readAt s at
+  unfolding readAt ranged
+  read-beyond e b = rw (← decodes, e, b)
+
+  pub read-within :
+      {next : ℕ} {c : Command} → r ≡ Read.Taken next c → inRange c ≡ true → gives (record { command = c; next = next }) ≡ readAt s at
+  unfolding readAt ranged
+  read-within e b = rw (← decodes, e, b)

@@ -1,44 +1,42 @@
--- What check and find answer, case by case; and that a chunk ends where the next begins.
-use Prim.Native.Nat.{ℕ, zero, suc, _+_, _-_, _≤_, _<_}
+-- What check and find answer, case by case; and where the chunks of an accepted bundle stand.
+use Prim.Native.Nat.{ℕ, _+_, _-_, _≤_, _<_}
 use mathlib.Core.Path.{_≡_, refl, sym, _∙_, ap, ap₂, subst}
-use mathlib.Core.Logic.{_⊎_, inl, inr}
+use mathlib.Core.Logic.{⊎-elim}
 use mathlib.Core.Bool.{Bool, true, false, cond}
 use mathlib.Core.List.{List, [], _∷_, _++_, map, List·Memᴰ, List·Memᴰ·not-nil, List·Memᴰ·cases-cons}
-use mathlib.Core.Logic.{⊎-elim}
 use mathlib.Core.Option.{Option, none, some}
 use native.Mathlib.Omega.{arith}
-use native.Mathlib.Nat.{add-assoc, add-zero, zero-add}
-use native.Mathlib.Numerals.{add-one}
-use lib.Dec.{eqb, ltb, leb}
-use lib.ListN.{length, take, drop, getD, length-append, length-map, List·getD-map, drop-of-length-le}
-use lib.Seq.{drop-cons}
+use native.Mathlib.Nat.{add-assoc}
+use lib.Dec.{ltb}
+use lib.ListN.{length, take, drop, length-append}
 use borrow.Author.Tests.{lt-ltb, le-ltb}
 use Rattle.bundle.specs.Answer.{Answer, gives, refuses, whenGiven, numberOf}
 use Rattle.bundle.specs.Lists.{first, concatMap, fromOption}
-use Rattle.bundle.specs.Commands.{Bytes, inRange, bytesOf}
+use Rattle.bundle.specs.Commands.{Bytes, bytesOf}
 use Rattle.bundle.specs.Chunks.{Placed, Front, Chunk, frontOf, gather, chunksOf, partOf, isOf, chunkOf}
-use Rattle.bundle.specs.Check.{forksOf, shapeOf, checkOf, checkingOf, findOf}
-use Rattle.bundle.specs.Scan.{start, scanned, scanOf}
-use Rattle.bundle.specs.Rows.{rowOf, rowsOf, chunkRow, forkRow, isRow, indexOf, shapeByRows}
+use Rattle.bundle.specs.Walk.{opensSegment, addsAccess}
+use Rattle.bundle.specs.Check.{shapeOf, checkOf, checkingOf, findOf}
+use Rattle.bundle.specs.Scan.{start, scanOf}
+use Rattle.bundle.specs.Index.{chunkRowAt, forkRowAt, table, isRow, total, logOf, chunkRow, rowsFrom, chunkRows, indexOf, Indexed}
+use Rattle.bundle.specs.Shape.{shapeByRows}
 use Rattle.bundle.specs.Survey.{InTables, Surveyed}
-use Rattle.bundle.specs.Find.{Ends, endsOf, foundOf, nextPlace, endsByRows, countedIn, AcceptedRows, CheckedRows, HandedBack, handedBack}
+use Rattle.bundle.specs.Find.{Ends, endsOf, foundOf, endsByRows, indexedAs, IndexedAs, HandedBack, handedBack}
 use Rattle.bundle.specs.declared.refusal.Cause.{Cause}
 use Rattle.bundle.specs.declared.chunk.Scan.{Scan}
-use Rattle.bundle.specs.declared.command.Command.{Command}
-use Rattle.bundle.specs.declared.rows.Row.{Row}
+use Rattle.bundle.specs.declared.index.ChunkRow.{ChunkRow}
 use Rattle.bundle.specs.declared.survey.Survey.{Survey}
 use Rattle.bundle.specs.declared.survey.Survey.the-variants as Surveys
-use Rattle.bundle.specs.declared.check.Checking.{Checking}
-use Rattle.bundle.specs.declared.check.Checking.the-variants as Checks
-use Rattle.bundle.specs.declared.check.Checked.{Checked}
-use Rattle.bundle.specs.declared.check.Checked.the-variants as Checkeds
+use Rattle.bundle.specs.declared.answer.Checking.{Checking}
+use Rattle.bundle.specs.declared.answer.Checking.the-variants as Checks
+use Rattle.bundle.specs.declared.check.Indexing.{Indexing}
+use Rattle.bundle.specs.declared.check.Indexing.the-variants as Indexings
 use Rattle.bundle.proofs.ListLaws.{concatMap-append, first-some}
-use Rattle.bundle.proofs.Scanning.{Room, orderly, orderly-head, orderly-tail, uncounted, Passed, walk-elim, total}
-use Rattle.bundle.proofs.Gathering.{Formed, placedOf, logOf, Outside, all-in-chunks}
+use Rattle.bundle.proofs.Tables.{first-at, first-past}
+use Rattle.bundle.proofs.Gathering.{placedOf, all-in-chunks}
 use Rattle.bundle.proofs.ScanChunks.{commands-of-chunks}
 use Rattle.bundle.proofs.Printing.{printed, placedFrom, prints-front, front-of-printed}
 use Rattle.bundle.proofs.Settling.{settled, settle, gather-settle}
-use Rattle.bundle.proofs.ShapeRows.{shape-rows, of-chunk}
+use Rattle.bundle.proofs.ShapeRows.{shape-rows}
 use Rattle.bundle.proofs.Reorder.{checked, scan-passed, orderly-range}
 
 -- check
@@ -60,123 +58,114 @@ module _ (s : List ℕ) where
       (n m : ℕ) (chunks forks : List ℕ) (r : Checking)
       → length s ≤ 65536
       → InTables s n m chunks forks
-      → checkingOf r ≡ shapeByRows (rowsOf (take n chunks)) (rowsOf (take m forks))
-      → {q : Checked}
-      → q ≡ countedIn n r
-      → CheckedRows s q chunks
+      → checkingOf r ≡ shapeByRows (table (chunkRowAt chunks) n) (table (forkRowAt forks) m)
+      → {q : Indexing}
+      → q ≡ indexedAs n m r
+      → IndexedAs s q chunks forks
   check-rows n m chunks forks r h t e {q} w =
-      subst (λ (x : Checked). CheckedRows s x chunks) (sym w)
+      subst (λ (x : Indexing). IndexedAs s x chunks forks) (sym w)
       (cases r (check-shape (t .scan) h (t .passes) ∙ sym (shape-rows (chunksOf s)) ∙ ap₂ shapeByRows (sym (t .chunk-rows)) (sym (t .fork-rows)) ∙ sym e))
     where
-      cases : (r : Checking) → checkOf s ≡ checkingOf r → CheckedRows s (countedIn n r) chunks
-      cases Checks.Accepted e = record { accepted = e; within = t .chunks-within; rows = t .chunk-rows }
-      cases (Checks.Refused cause place) e = e
+      cases : (r : Checking) → checkOf s ≡ checkingOf r → IndexedAs s (indexedAs n m r) chunks forks
+      cases Checks.Accepted e = record { accepted = e; few = t .few; chunk-table = t .chunk-table; fork-table = t .fork-table; chunk-rows = t .chunk-rows; fork-rows = t .fork-rows }
+      cases (Checks.Refused place cause) e = e
 
-  pub checked-accepted : (table : List ℕ) {q : Checked} {n : ℕ} → CheckedRows s q table → q ≡ Checkeds.Accepted n → AcceptedRows s n table
-  checked-accepted table v e = subst (λ (x : Checked). CheckedRows s x table) e v
+  module _ (chunks forks : List ℕ) {q : Indexing} (v : IndexedAs s q chunks forks) where
+    pub indexed-accepted : {n m : ℕ} → q ≡ Indexings.Accepted n m → Indexed s n m chunks forks
+    indexed-accepted e = subst (λ (x : Indexing). IndexedAs s x chunks forks) e v
 
-  pub checked-refused :
-      (table : List ℕ) {q : Checked} {cause : Cause} {place : ℕ}
-      → CheckedRows s q table
-      → q ≡ Checkeds.Refused cause place
-      → checkOf s ≡ refuses (numberOf cause) place
-  checked-refused table v e = subst (λ (x : Checked). CheckedRows s x table) e v
+    pub indexed-refused : {cause : Cause} {place : ℕ} → q ≡ Indexings.Refused place cause → checkOf s ≡ refuses (numberOf cause) place
+    indexed-refused e = subst (λ (x : Indexing). IndexedAs s x chunks forks) e v
 
--- the place of a row, or the end behind the last
-pub place-found :
-    (ws : List ℕ) (i end : ℕ) {r : Row}
-    → i < length ws
-    → r ≡ rowOf (getD ws i 0)
-    → r .place ≡ nextPlace (drop i (rowsOf ws)) end
-unfolding rowsOf nextPlace
-place-found ws i end {r} h e =
-    ap (λ (x : Row). x .place) (e ∙ sym (List·getD-map rowOf ws i 0))
-    ∙ sym (ap (λ (l : List Row). nextPlace l end) (drop-cons (map rowOf ws) i (rowOf 0) (rw (length-map ws rowOf) h)))
+  module _ (chunks forks : List ℕ) {r : Survey} (v : Surveyed s r chunks forks) where
+    pub surveyed-tables : {n m : ℕ} → r ≡ Surveys.Complete n m → InTables s n m chunks forks
+    surveyed-tables e = subst (λ (x : Survey). Surveyed s x chunks forks) e v
 
-pub place-past : (ws : List ℕ) (i end : ℕ) → length ws ≤ i → end ≡ nextPlace (drop i (rowsOf ws)) end
-unfolding rowsOf nextPlace
-place-past ws i end h = rw (drop-of-length-le (map rowOf ws) {i = i} (rw (length-map ws rowOf) h))
+    pub surveyed-refusal : {cause : Cause} {place : ℕ} → r ≡ Surveys.Refused place cause → scanOf s ≡ refuses (numberOf cause) place
+    surveyed-refusal e = subst (λ (x : Survey). Surveyed s x chunks forks) e v
 
--- the ends of a chunk by the rows
-module _ (t m end : ℕ) where
-  none-by-rows : (rs : List Row) → length rs ≤ indexOf (isRow t m) rs → refuses 14 0 ≡ endsByRows rs end t m
-  unfolding indexOf endsByRows
-  none-by-rows [] h = refl
-  none-by-rows (r ∷ rs) h = go (isRow t m r) h (none-by-rows rs)
-    where
-      go :
-          (b : Bool)
-          → suc (length rs) ≤ cond b 0 (suc (indexOf (isRow t m) rs))
-          → (length rs ≤ indexOf (isRow t m) rs → refuses 14 0 ≡ endsByRows rs end t m)
-          → refuses 14 0 ≡ cond b (gives (record { start = r .place; end = nextPlace rs end })) (endsByRows rs end t m)
-      go true l ih = absurd (omega arith)
-      go false l ih = ih (omega arith)
+-- the ends of a chunk by the index of its row
+module _ (f : ℕ → ChunkRow) (n t m i : ℕ) (e : i ≡ indexOf (isRow t m) (table f n)) where
+  pub ends-none : n ≤ i → refuses 14 0 ≡ endsByRows (table f n) t m
+  unfolding endsByRows
+  ends-none h = rw (first-past (isRow t m) f n i e h)
 
-  abbrev EndsAt : List Row → ℕ → Type 0
-  EndsAt rs i = gives (record { start = nextPlace (drop i rs) end; end = nextPlace (drop (suc i) rs) end }) ≡ endsByRows rs end t m
+  pub ends-some : i < n → {r : ChunkRow} → r ≡ f i → gives (record { start = r .place; end = r .past }) ≡ endsByRows (table f n) t m
+  unfolding endsByRows
+  ends-some h q = rw (first-at (isRow t m) f n i e h, q)
 
-  some-by-rows : (rs : List Row) → indexOf (isRow t m) rs < length rs → EndsAt rs (indexOf (isRow t m) rs)
-  unfolding indexOf endsByRows
-  some-by-rows [] h = absurd (omega arith)
-  some-by-rows (r ∷ rs) h = go (isRow t m r) h (some-by-rows rs)
-    where
-      go :
-          (b : Bool)
-          → cond b 0 (suc (indexOf (isRow t m) rs)) < suc (length rs)
-          → (indexOf (isRow t m) rs < length rs → EndsAt rs (indexOf (isRow t m) rs))
-          → gives (record { start = nextPlace (drop (cond b 0 (suc (indexOf (isRow t m) rs))) (r ∷ rs)) end; end = nextPlace (drop (cond b 0 (suc (indexOf (isRow t m) rs))) rs) end })
-          ≡ cond b (gives (record { start = r .place; end = nextPlace rs end })) (endsByRows rs end t m)
-      go true l ih = unfold nextPlace in refl
-      go false l ih = ih (omega arith)
+-- and by the chunks
+abbrev endsIn : Option Chunk → Answer Ends
+endsIn o = fromOption (refuses 14 0) (λ (c : Chunk). gives (record { start = c .place; end = c .past })) o
 
-  pub ends-none : (ws : List ℕ) (i : ℕ) → i ≡ indexOf (isRow t m) (rowsOf ws) → length ws ≤ i → refuses 14 0 ≡ endsByRows (rowsOf ws) end t m
-  ends-none ws i e h = none-by-rows (rowsOf ws) (rw (← e) (unfold rowsOf in (rw (length-map ws rowOf) h)))
+ends-rows : (t m g n : ℕ) (cs : List Chunk) → endsByRows (rowsFrom g n cs) t m ≡ endsIn (first (isOf t m) cs)
+unfolding endsByRows rowsFrom chunkRow isRow isOf
+ends-rows t m g n [] = refl
+ends-rows t m g n (c ∷ cs) = go (isOf t m c) (ends-rows t m (g + total opensSegment (logOf c)) (n + total addsAccess (logOf c)) cs)
+  where
+    rows : List ChunkRow
+    rows = rowsFrom (g + total opensSegment (logOf c)) (n + total addsAccess (logOf c)) cs
 
-  pub ends-some :
-      (ws : List ℕ) (i a b : ℕ)
-      → i ≡ indexOf (isRow t m) (rowsOf ws)
-      → i < length ws
-      → a ≡ nextPlace (drop i (rowsOf ws)) end
-      → b ≡ nextPlace (drop (i + 1) (rowsOf ws)) end
-      → gives (record { start = a; end = b }) ≡ endsByRows (rowsOf ws) end t m
-  ends-some ws i a b e h x y =
-      rw (x, y, add-one)
-      (rw e (some-by-rows (rowsOf ws) (rw (← e) (unfold rowsOf in (rw (length-map ws rowOf) h)))))
+    go :
+        (b : Bool)
+        → endsByRows rows t m ≡ endsIn (first (isOf t m) cs)
+        → fromOption (refuses 14 0) (λ (r : ChunkRow). gives (record { start = r .place; end = r .past })) (cond b (some (chunkRow g n c)) (first (isRow t m) rows))
+        ≡ endsIn (cond b (some c) (first (isOf t m) cs))
+    go true ih = refl
+    go false ih = ih
 
--- chunks one after another: each ends where the next begins
-settle-next : (at : ℕ) (ds : List Chunk) → nextPlace (map chunkRow (settle at ds)) (at + length (printed (concatMap logOf ds))) ≡ at
-unfolding settle settled chunkRow nextPlace printed
-settle-next at [] = add-zero at
-settle-next at (d ∷ ds) = refl
+ends-chunks : (t m : ℕ) (cs : List Chunk) → endsByRows (chunkRows cs) t m ≡ endsIn (chunkOf cs t m)
+unfolding chunkRows chunkOf
+ends-chunks t m cs = ends-rows t m 0 0 cs
 
+pub find-rows :
+    (s : List ℕ) (n m : ℕ) (chunks forks : List ℕ) (team member : ℕ)
+    → Indexed s n m chunks forks
+    → endsByRows (table (chunkRowAt chunks) n) team member ≡ endsOf s team member
+unfolding endsOf
+find-rows s n m chunks forks team member x = rw (x .chunk-rows, x .accepted) (ends-chunks team member (chunksOf s))
+
+-- a member's chunk by the index of its row
+pub record RowOf (cs : List Chunk) (t m : ℕ) (r : ChunkRow) : Type 0 where
+  pub chunk : Chunk
+  pub found : chunkOf cs t m ≡ some chunk
+  pub placed : chunk .place ≡ r .place
+
+module _
+    (cs : List Chunk) (f : ℕ → ChunkRow) (n t m i : ℕ)
+    (rows : table f n ≡ chunkRows cs)
+    (e : i ≡ indexOf (isRow t m) (table f n))
+  where
+    by-chunks : endsByRows (table f n) t m ≡ endsIn (chunkOf cs t m)
+    by-chunks = rw rows (ends-chunks t m cs)
+
+    pub row-none : n ≤ i → chunkOf cs t m ≡ none
+    row-none h = go (chunkOf cs t m) (ends-none f n t m i e h ∙ by-chunks)
+      where
+        go : (o : Option Chunk) → refuses 14 0 ≡ endsIn o → o ≡ none
+        go none q = refl
+        go (some c) q = let z : _≡_ {A = ℕ} 0 1 = cc in absurd (omega arith)
+
+    pub row-some : i < n → {r : ChunkRow} → r ≡ f i → RowOf cs t m r
+    row-some h {r} q = go (chunkOf cs t m) refl (ends-some f n t m i e h q ∙ by-chunks)
+      where
+        go : (o : Option Chunk) → chunkOf cs t m ≡ o → gives (record { start = r .place; end = r .past }) ≡ endsIn o → RowOf cs t m r
+        go none w x = let z : _≡_ {A = ℕ} 0 1 = cc in absurd (omega arith)
+        go (some c) w x =
+            let ends : _≡_ {A = Ends} (record { start = c .place; end = c .past }) (record { start = r .place; end = r .past }) = cc in
+            record { chunk = c; found = w; placed = ap (λ (d : Ends). d .start) ends }
+
+pub find-refused : (s : List ℕ) (t m n p : ℕ) → checkOf s ≡ refuses n p → refuses n p ≡ endsOf s t m
+unfolding endsOf
+find-refused s t m n p e = rw e
+
+-- chunks one after another
 settle-end : (at : ℕ) (d : Chunk) (ds : List Chunk) → at + length (printed (concatMap logOf (d ∷ ds))) ≡ at + length (printed (logOf d)) + length (printed (concatMap logOf ds))
 unfolding printed
 settle-end at d ds =
     ap (λ (l : List ℕ). at + length l) (concatMap-append bytesOf (logOf d) (concatMap logOf ds))
     ∙ ap (λ (n : ℕ). at + n) (length-append (concatMap bytesOf (logOf d)) (concatMap bytesOf (concatMap logOf ds)))
     ∙ sym (add-assoc at (length (concatMap bytesOf (logOf d))) (length (concatMap bytesOf (concatMap logOf ds))))
-
-abbrev endsIn : Option Chunk → Answer Ends
-endsIn o = fromOption (refuses 14 0) (λ (c : Chunk). gives (record { start = c .place; end = c .past })) o
-
-ends-settle :
-    (t m at : ℕ) (ds : List Chunk)
-    → endsByRows (map chunkRow (settle at ds)) (at + length (printed (concatMap logOf ds))) t m ≡ endsIn (first (isOf t m) (settle at ds))
-unfolding settle endsByRows
-ends-settle t m at [] = refl
-ends-settle t m at (d ∷ ds) =
-    rw (settle-end at d ds, of-chunk t m (settled at d), settle-next (at + length (printed (logOf d))) ds, ends-settle t m (at + length (printed (logOf d))) ds)
-    (go (isOf t m (settled at d)))
-  where
-    rest : Option Chunk
-    rest = first (isOf t m) (settle (at + length (printed (logOf d))) ds)
-
-    go :
-        (b : Bool)
-        → cond b (gives (record { start = chunkRow (settled at d) .place; end = at + length (printed (logOf d)) })) (endsIn rest)
-        ≡ endsIn (cond b (some (settled at d)) rest)
-    go true = unfold chunkRow settled in refl
-    go false = refl
 
 -- the chunks of a bundle that passes the scan stand one after another
 pub record OneAfterAnother (s : List ℕ) : Type 0 where
@@ -204,39 +193,6 @@ one-after-another s k b e =
 
 pub accepted-chunks : (s : List ℕ) → Bytes s → checkOf s ≡ gives tt → OneAfterAnother s
 accepted-chunks s b e = let k = checked s e in one-after-another s (k .scan) b (k .scan-ok)
-
--- find by the rows
-pub find-rows :
-    (s : List ℕ) (n : ℕ) (table : List ℕ) (t m : ℕ)
-    → Bytes s
-    → AcceptedRows s n table
-    → endsByRows (rowsOf (take n table)) (length s) t m ≡ endsOf s t m
-unfolding endsOf chunkOf
-find-rows s n table t m b a =
-    let o = accepted-chunks s b (a .accepted) in
-    let cs = chunksOf s in
-    rw (a .rows, a .accepted)
-    (ap₂ (λ (l : List Chunk) (i : ℕ). endsByRows (map chunkRow l) i t m) (o .chunks) (ap length (o .bytes) ∙ sym (zero-add (length (printed (concatMap logOf cs)))))
-    ∙ ends-settle t m 0 cs
-    ∙ ap (λ (l : List Chunk). endsIn (first (isOf t m) l)) (sym (o .chunks)))
-
-pub find-refused : (s : List ℕ) (t m n p : ℕ) → checkOf s ≡ refuses n p → refuses n p ≡ endsOf s t m
-unfolding endsOf
-find-refused s t m n p e = rw e
-
-pub surveyed-tables :
-    (s chunks forks : List ℕ) {r : Survey} {n m : ℕ}
-    → Surveyed s r chunks forks
-    → r ≡ Surveys.Complete n m
-    → InTables s n m chunks forks
-surveyed-tables s chunks forks v e = subst (λ (x : Survey). Surveyed s x chunks forks) e v
-
-pub surveyed-refusal :
-    (s chunks forks : List ℕ) {r : Survey} {cause : Cause} {place : ℕ}
-    → Surveyed s r chunks forks
-    → r ≡ Surveys.Refused cause place
-    → scanOf s ≡ refuses (numberOf cause) place
-surveyed-refusal s chunks forks v e = subst (λ (x : Survey). Surveyed s x chunks forks) e v
 
 -- the part between the ends of a chunk
 find-ends-part : (s : List ℕ) (t m : ℕ) → findOf s t m ≡ whenGiven (endsOf s t m) (λ (e : Ends). gives (take (e .end - e .start) (drop (e .start) s)))

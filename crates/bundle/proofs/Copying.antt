@@ -15,7 +15,7 @@ use Rattle.bundle.specs.Commands.{bytesOf, inRange, written, putAt}
 use Rattle.bundle.specs.Inner.{Holds}
 use Rattle.bundle.specs.declared.command.Command.{Command}
 use Rattle.bundle.specs.declared.command.Encoded.{Encoded}
-use Rattle.bundle.proofs.Decoding.{first-known, known-width, length-bytes}
+use Rattle.bundle.proofs.RoundTrip.{bytes-some}
 
 pub copy-more : (old bytes new : List ℕ) (at i : ℕ) → at + length bytes ≤ length old → i < length bytes → new ≡ paste old at bytes i
     → set new (at + i) (getD bytes i 0) ≡ paste old at bytes (i + 1)
@@ -33,8 +33,8 @@ unfolding putAt
 put-out-of-range c s at r = rw r
 
 module _ (c : Command) {e : Encoded} (holds : Holds e (bytesOf c)) where
-  pub encoded-length : (1 ≤ e .length) × (e .length ≤ 12)
-  encoded-length = omega (arith, holds .long, length-bytes c, known-width (first-known c))
+  pub encoded-length : 1 ≤ e .length
+  encoded-length = omega (arith, holds .long, bytes-some c)
 
   pub encoded-prefix : e .length ≡ length (take (e .length) (e .bytes))
   encoded-prefix = holds .long ∙ sym (ap length (holds .prefix))

@@ -2,139 +2,65 @@
 -- bytes appended do not change it.
 -- Assumes nothing.
 use mathlib.Core.Path.{_≡_, refl, sym, ap, ap₂, subst, _∙_}
-use mathlib.Core.Bool.{Bool, true, false, cond, _&&_, true≢false}
+use mathlib.Core.Bool.{Bool, true, false, cond, true≢false}
 use mathlib.Core.List.{List, _++_}
+use mathlib.Core.Option.{Option, none, some}
 use Prim.Native.Nat.{ℕ, zero, suc, _+_, _-_, _≤_, _<_}
 use native.Mathlib.Nat.{add-assoc, zero-add, suc-add}
-use native.Mathlib.Decide.{ℕ-discrete}
 use native.Mathlib.Omega.{arith}
-use borrow.Author.Tests.{leb-true, leb-false, ltb-true, ltb-false, eqb-true, ne-eqb, lt-leb, le-ltb}
+use borrow.Author.Tests.{leb-false, ltb-false, ne-eqb, lt-leb, le-ltb}
 use lib.Dec.{eqb, ltb, leb, leb·suc-suc}
 use lib.ListN.{length, getD, length-append, List·getD-append}
 use lib.Seq.{getD-append-add}
 use Rattle.bundle.specs.Answer.{Answer, gives, refuses, whenGiven}
+use Rattle.bundle.specs.Lists.{fromOption}
 use Rattle.bundle.specs.Commands.{
   Taken,
-  lowFirst,
-  kindOf,
-  byteOf,
+  Form,
+  formOf,
+  sum,
   widthOf,
-  accessAt,
+  widthsOf,
+  operandsFrom,
   commandAt,
-  bytesOf,
   decodeByte,
   decodeAt,
   inRange,
   ranged,
   readAt,
 }
-use Rattle.bundle.specs.declared.command.AccessKind.{AccessKind}
-use Rattle.bundle.specs.declared.command.AccessKind.the-variants as Kind
 use Rattle.bundle.specs.declared.command.Command.{Command}
 use Rattle.bundle.specs.declared.command.Command.the-variants as Com
-use Rattle.bundle.proofs.Tests.{cond-elim, and-left, and-right}
-use Rattle.bundle.proofs.Digits.{number-behind, number-before}
+use Rattle.bundle.proofs.Tests.{cond-elim}
+use Rattle.bundle.proofs.Forms.{Known}
+use Rattle.bundle.proofs.Operands.{operands-before, operands-behind}
 
--- the bytes that begin a command
-pub data Known : ℕ → Type 0 where
-  member : Known 0x01
-  end : Known 0x02
-  region : Known 0x10
-  barrier : Known 0x11
-  acquire : Known 0x20
-  release : Known 0x21
-  access : (k : AccessKind) → Known (byteOf k)
+-- what a form says of its byte
+module _ {b : ℕ} (k : Known b) where
+  pub known-width : widthOf b ≡ suc (sum (k .form .widths))
+  unfolding widthOf
+  known-width = rw (k .is)
 
--- what holds of the four kinds' bytes holds of 0x30 to 0x33
-pub access-elim : (P : ℕ → Type 0) → ((k : AccessKind) → P (byteOf k)) → (b : ℕ) → 0x30 ≤ b → b < 0x34 → P b
-unfolding byteOf
-access-elim P f b l h = go (ℕ-discrete b 0x30) (ℕ-discrete b 0x31) (ℕ-discrete b 0x32)
-  where
-    go : Dec (b ≡ 0x30) → Dec (b ≡ 0x31) → Dec (b ≡ 0x32) → P b
-    go (yes e) q r = subst P (sym e) (f Kind.Read)
-    go (no n) (yes e) r = subst P (sym e) (f Kind.Write)
-    go (no n) (no m) (yes e) = subst P (sym e) (f Kind.AtomicRead)
-    go (no n) (no m) (no k) =
-        let e : b ≡ 0x33 = omega arith in
-        subst P (sym e) (f Kind.AtomicWrite)
+  pub known-widths : widthsOf b ≡ k .form .widths
+  unfolding widthsOf
+  known-widths = rw (k .is)
 
--- the byte b, if its width is w, begins a command
-record Begins (b w : ℕ) : Type 0 where
-  known : eqb w 0 ≡ false → Known b
+  pub known-command : (s : List ℕ) (at : ℕ) → commandAt s at b ≡ k .form .command (operandsFrom s at 1 (k .form .widths))
+  unfolding commandAt
+  known-command s at = rw (k .is)
 
-begins-at : {b : ℕ} (n w : ℕ) {v : ℕ} → Known n → Begins b v → Begins b (cond (eqb b n) w v)
-begins-at {b} n w {v} k r =
-    cond-elim (Begins b) (eqb b n) w v (λ e. record { known = λ _. subst Known (sym (eqb-true b n e)) k }) (λ _. r)
-
+-- a byte has a width where it begins a command, and only there
 pub width-known : (b : ℕ) → eqb (widthOf b) 0 ≡ false → Known b
 unfolding widthOf
-width-known b =
-    begins-at 0x01 4 member
-    (begins-at 0x02 1 end
-    (begins-at 0x10 4 region
-    (begins-at 0x11 1 barrier
-    (begins-at 0x20 2 acquire
-    (begins-at 0x21 2 release
-    (cond-elim (Begins b) (leb 0x30 b && ltb b 0x34) 12 0
-    (λ e. record { known = λ _. access-elim Known access b (leb-true 0x30 b (and-left (leb 0x30 b) (ltb b 0x34) e)) (ltb-true b 0x34 (and-right (leb 0x30 b) (ltb b 0x34) e)) })
-    (λ _. record { known = λ e. absurd (true≢false e) }))))))) .known
+width-known b = go (formOf b) refl
+  where
+    go : (o : Option Form) → formOf b ≡ o → eqb (fromOption 0 (λ f. suc (sum (f .widths))) o) 0 ≡ false → Known b
+    go none e w = absurd (true≢false w)
+    go (some f) e w = record { form = f; is = e }
 
--- each of them has a width, and no width passes 12
-pub known-width : {b : ℕ} → Known b → (0 < widthOf b) × (widthOf b ≤ 12)
-unfolding widthOf byteOf
-known-width member = omega arith
-known-width end = omega arith
-known-width region = omega arith
-known-width barrier = omega arith
-known-width acquire = omega arith
-known-width release = omega arith
-known-width (access Kind.Read) = omega arith
-known-width (access Kind.Write) = omega arith
-known-width (access Kind.AtomicRead) = omega arith
-known-width (access Kind.AtomicWrite) = omega arith
-
--- a command's first byte is known, and gives its width
-pub first-known : (c : Command) → Known (getD (bytesOf c) 0 0)
-unfolding bytesOf lowFirst
-first-known (Com.Member t m) = member
-first-known Com.End = end
-first-known (Com.Region t z) = region
-first-known Com.Barrier = barrier
-first-known (Com.Acquire l) = acquire
-first-known (Com.Release l) = release
-first-known (Com.Access a) = access (a .kind)
-
-pub access-width : (k : AccessKind) → 12 ≡ widthOf (byteOf k)
-unfolding widthOf byteOf
-access-width Kind.Read = refl
-access-width Kind.Write = refl
-access-width Kind.AtomicRead = refl
-access-width Kind.AtomicWrite = refl
-
-pub length-bytes : (c : Command) → length (bytesOf c) ≡ widthOf (getD (bytesOf c) 0 0)
-unfolding bytesOf lowFirst widthOf
-length-bytes (Com.Member t m) = refl
-length-bytes Com.End = refl
-length-bytes (Com.Region t z) = refl
-length-bytes Com.Barrier = refl
-length-bytes (Com.Acquire l) = refl
-length-bytes (Com.Release l) = refl
-length-bytes (Com.Access a) = access-width (a .kind)
-
-pub kind-byte : (k : AccessKind) → kindOf (byteOf k) ≡ k
-unfolding kindOf byteOf
-kind-byte Kind.Read = refl
-kind-byte Kind.Write = refl
-kind-byte Kind.AtomicRead = refl
-kind-byte Kind.AtomicWrite = refl
-
--- their bytes begin an access
-pub access-at : (s : List ℕ) (at : ℕ) (k : AccessKind) → commandAt s at (byteOf k) ≡ Com.Access (accessAt s at (byteOf k))
-unfolding commandAt byteOf
-access-at s at Kind.Read = refl
-access-at s at Kind.Write = refl
-access-at s at Kind.AtomicRead = refl
-access-at s at Kind.AtomicWrite = refl
+pub width-none : (b : ℕ) → formOf b ≡ none → widthOf b ≡ 0
+unfolding widthOf
+width-none b e = rw e
 
 -- what it means that the command t is decoded at a position
 pub record Decoded (s : List ℕ) (at : ℕ) (t : Taken) : Type 0 where
@@ -189,24 +115,10 @@ decode-next s at t e =
 
 -- bytes appended change no command that was decoded
 command-before : {b : ℕ} (s q : List ℕ) (at : ℕ) → Known b → at + widthOf b ≤ length s → commandAt (s ++ q) at b ≡ commandAt s at b
-unfolding commandAt accessAt kindOf byteOf widthOf
-command-before s q at member h = ap₂ Com.Member (number-before 2 s q (at + 1) (omega arith)) (number-before 1 s q (at + 3) (omega arith))
-command-before s q at end h = refl
-command-before s q at region h = ap₂ Com.Region (number-before 2 s q (at + 1) (omega arith)) (number-before 1 s q (at + 3) (omega arith))
-command-before s q at barrier h = refl
-command-before s q at acquire h = ap Com.Acquire (number-before 1 s q (at + 1) (omega arith))
-command-before s q at release h = ap Com.Release (number-before 1 s q (at + 1) (omega arith))
-command-before s q at (access k) h =
-    let w = access-width k in
-    simp (
-      number-before 2 s q (at + 1) (omega arith),
-      number-before 1 s q (at + 1) (omega arith),
-      number-before 4 s q (at + 3) (omega arith),
-      number-before 1 s q (at + 3) (omega arith),
-      number-before 2 s q (at + 7) (omega arith),
-      number-before 2 s q (at + 9) (omega arith),
-      number-before 1 s q (at + 11) (omega arith),
-    )
+command-before s q at k h =
+    known-command k (s ++ q) at
+    ∙ ap (k .form .command) (operands-before s q at 1 (k .form .widths) (omega (arith, known-width k)))
+    ∙ sym (known-command k s at)
 
 pub decode-before : (s q : List ℕ) (at : ℕ) (t : Taken) → decodeAt s at ≡ gives t → decodeAt (s ++ q) at ≡ gives t
 decode-before s q at t e =
@@ -227,8 +139,15 @@ shifted n (gives t) = gives (record { command = t .command; next = n + t .next }
 shifted n (refuses m place) = refuses m (n + place)
 
 command-behind : (p s : List ℕ) (at b : ℕ) → commandAt (p ++ s) (length p + at) b ≡ commandAt s at b
-unfolding commandAt accessAt
-command-behind p s at b = simp (add-assoc, number-behind)
+unfolding commandAt
+command-behind p s at b = go (formOf b)
+  where
+    at-offset : List ℕ → ℕ → Option Form → Command
+    at-offset l n o = fromOption Com.End (λ f. f .command (operandsFrom l n 1 (f .widths))) o
+
+    go : (o : Option Form) → at-offset (p ++ s) (length p + at) o ≡ at-offset s at o
+    go none = refl
+    go (some f) = ap (f .command) (operands-behind p s at 1 (f .widths))
 
 leb-shifted : (n a b : ℕ) → leb (n + a) (n + b) ≡ leb a b
 leb-shifted zero a b = ap₂ leb (zero-add a) (zero-add b)

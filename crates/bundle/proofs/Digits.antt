@@ -8,7 +8,7 @@ use native.Mathlib.Numerals.{add-one}
 use native.Mathlib.Omega.{arith}
 use lib.Dec.{lit<}
 use lib.ListN.{length, getD, take, drop, List·getD-append}
-use lib.Seq.{getD-append-add, drop-cons, take-add, drop-drop}
+use lib.Seq.{getD-append-add, drop-cons}
 use Rattle.bundle.specs.Commands.{Bytes, lowFirst, numberAt}
 
 pub length-lowFirst : (k x : ℕ) → length (lowFirst k x) ≡ k
@@ -53,12 +53,6 @@ digits-written (suc k) s at b h =
 -- a number with bytes before and after it
 pub digits-between : (k x : ℕ) (p rest : List ℕ) → x < 256 ^ k → numberAt k (p ++ (lowFirst k x ++ rest)) (length p + 0) ≡ x
 digits-between k x p rest h = number-behind k p (lowFirst k x ++ rest) 0 ∙ digits-read k x rest h
-
--- the bytes from a position, and those of the number that follows them
-pub digits-joined : (k m : ℕ) (s : List ℕ) (from at : ℕ) → Bytes s → from + k ≡ at → at + m ≤ length s
-    → take k (drop from s) ++ lowFirst m (numberAt m s at) ≡ take (k + m) (drop from s)
-digits-joined k m s from at b e h =
-    rw (digits-written m s at b h, take-add k m, drop-drop, e)
 
 -- one byte; and a number in two parts
 pub number-one : (s : List ℕ) (at : ℕ) → numberAt 1 s at ≡ getD s at 0

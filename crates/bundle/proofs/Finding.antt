@@ -14,7 +14,9 @@ use Rattle.bundle.specs.Answer.{Answer, gives, refuses, whenGiven}
 use Rattle.bundle.specs.Lists.{any, first, concatMap, fromOption}
 use Rattle.bundle.specs.Commands.{Bytes, Taken, inRange, decodeAt, readAt}
 use Rattle.bundle.specs.Chunks.{Placed, Front, Chunk, follow, frontFrom, frontOf, gather, chunksOf, partOf, isOf, chunkOf}
-use Rattle.bundle.specs.Check.{Fork, forksOf, sizeOf, failing, forkedBefore, stray, lacksChunk, unlikeFirst, depthOf, refusedAt, shapeOf, checkOf, findOf, Accepted}
+use Rattle.bundle.specs.Walk.{forksOf}
+use Rattle.bundle.specs.declared.index.Fork.{Fork}
+use Rattle.bundle.specs.Check.{sizeOf, failing, forkedBefore, stray, lacksChunk, unlikeFirst, depthOf, refusedAt, shapeOf, checkOf, findOf, Accepted}
 use Rattle.bundle.specs.Scan.{start, scanOf}
 use Rattle.bundle.specs.declared.chunk.Scan.{Scan}
 use Rattle.bundle.specs.declared.command.Command.{Command}

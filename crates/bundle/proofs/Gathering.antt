@@ -1,67 +1,57 @@
 -- Chunks and commands: the commands of a bundle that passes the scan are those of its chunks, one chunk after another.
 use Prim.Native.Nat.{ℕ, _+_}
-use mathlib.Core.Path.{_≡_, refl, sym, _∙_, ap}
+use mathlib.Core.Path.{_≡_, refl, sym, _∙_, ap, subst}
 use mathlib.Core.Logic.{_⊎_, inl, inr, ⊎-elim}
-use mathlib.Core.Bool.{Bool, true, false, not, _&&_}
+use mathlib.Core.Bool.{Bool, true, false, cond, not, _&&_}
 use mathlib.Core.List.{List, [], _∷_, _++_, map, append-assoc, List·Memᴰ, List·Memᴰ·head, List·Memᴰ·tail, List·Memᴰ·not-nil, List·Memᴰ·cases-cons}
-use native.Mathlib.Omega.{arith}
+use lib.ListN.{length}
 use Rattle.bundle.specs.Lists.{concatMap}
-use Rattle.bundle.specs.Chunks.{Placed, Chunk, Gathered, gatherOne, gather, commandsOf}
-use Rattle.bundle.specs.Scan.{isMember, misplaced, start, onward, scanned}
+use Rattle.bundle.specs.Cases.{onDelimiter}
+use Rattle.bundle.specs.Commands.{bytesOf}
+use Rattle.bundle.specs.Chunks.{Placed, Chunk, Gathered, gatherOne, gather}
+unfoldable pub use Rattle.bundle.specs.Index.{logOf}
+use Rattle.bundle.specs.Scan.{isMember, misplaced, start, scanned}
 use Rattle.bundle.specs.declared.chunk.Scan.{Scan}
 use Rattle.bundle.specs.declared.command.Command.{Command}
 use Rattle.bundle.specs.declared.command.Command.the-variants as Com
 use Rattle.bundle.proofs.Tests.{false-is-true}
+unfoldable pub use Rattle.bundle.proofs.Delimiters.{plain, closes}
+use Rattle.bundle.proofs.Delimiters.{Delimiter, opens-chunk, closes-chunk, neither, delimits, on-plain, on-closes}
 use Rattle.bundle.proofs.Scanning.{uncounted, orderly, orderly-head, orderly-tail}
 
--- neither MEMBER nor END
-unfoldable pub plain : Command → Bool
-plain (Com.Member t m) = false
-plain Com.End = false
-plain (Com.Region t z) = true
-plain Com.Barrier = true
-plain (Com.Acquire l) = true
-plain (Com.Release l) = true
-plain (Com.Access a) = true
-
--- the commands of a chunk after MEMBER: plain ones, then END
+-- the commands of a chunk after MEMBER: plain ones, then one that closes it
 pub data Body : List Placed → Type 0 where
-  ends : {p : Placed} → p .command ≡ Com.End → Body (p ∷ [])
+  ends : {p : Placed} → closes (p .command) ≡ true → Body (p ∷ [])
   goes : {p : Placed} {ps : List Placed} → plain (p .command) ≡ true → Body ps → Body (p ∷ ps)
 
-pub gather-plain :
-    (p : Placed) (c : Command) (g : Gathered)
-    → plain c ≡ true
-    → gatherOne p c g ≡ record { body = p ∷ g .body; past = g .past; chunks = g .chunks }
-unfolding plain gatherOne
-gather-plain p (Com.Member t m) g e = false-is-true e
-gather-plain p Com.End g e = false-is-true e
-gather-plain p (Com.Region t z) g e = refl
-gather-plain p Com.Barrier g e = refl
-gather-plain p (Com.Acquire l) g e = refl
-gather-plain p (Com.Release l) g e = refl
-gather-plain p (Com.Access a) g e = refl
+pub gather-plain : (p : Placed) (g : Gathered) → plain (p .command) ≡ true → gatherOne p g ≡ record { body = p ∷ g .body; past = g .past; chunks = g .chunks }
+unfolding gatherOne
+gather-plain p g e = on-plain _ _ _ (p .command) e
+
+pub gather-closes :
+    (p : Placed) (g : Gathered)
+    → closes (p .command) ≡ true
+    → gatherOne p g ≡ record { body = p ∷ []; past = p .at + length (bytesOf (p .command)); chunks = g .chunks }
+unfolding gatherOne
+gather-closes p g e = on-closes _ _ _ (p .command) e
 
 pub gather-body :
     {ps : List Placed} (rest : List Placed)
     → Body ps
     → gather (ps ++ rest) ≡ record { body = ps; past = gather ps .past; chunks = gather rest .chunks }
-unfolding gather gatherOne
-gather-body rest (ends e) = rw e
+unfolding gather
+gather-body rest (ends {p = p} e) = rw (gather-closes p (gather rest) e, gather-closes p (gather []) e)
 gather-body rest (goes {p = p} {ps = ps} e b) =
-    rw (gather-plain p (p .command) (gather (ps ++ rest)) e, gather-plain p (p .command) (gather ps) e, gather-body rest b)
+    rw (gather-plain p (gather (ps ++ rest)) e, gather-plain p (gather ps) e, gather-body rest b)
 
 -- a chunk whose body is a body, and whose end is behind its END
 pub record Formed (c : Chunk) : Type 0 where
   pub body-ok : Body (c .body)
   pub past-ok : c .past ≡ gather (c .body) .past
 
--- a chunk's commands with their places, and without
+-- a chunk's commands with their places
 unfoldable pub placedOf : Chunk → List Placed
 placedOf c = record { at = c .place; command = Com.Member (c .team) (c .member) } ∷ c .body
-
-unfoldable pub logOf : Chunk → List Command
-logOf c = Com.Member (c .team) (c .member) ∷ commandsOf c
 
 pub gather-chunks : (cs : List Chunk) → ((c : Chunk) → List·Memᴰ c cs → Formed c) → gather (concatMap placedOf cs) .chunks ≡ cs
 unfolding gather gatherOne placedOf
@@ -107,16 +97,18 @@ member-behind p t m ps e i =
           (List·Memᴰ·cases-cons l);
     })
 
-end-behind : (p : Placed) (ps : List Placed) → p .command ≡ Com.End → Outside ps → Inside (p ∷ ps)
-unfolding gather gatherOne
+end-behind : (p : Placed) (ps : List Placed) → closes (p .command) ≡ true → Outside ps → Inside (p ∷ ps)
+unfolding gather
 end-behind p ps e o =
-    rw e
-    (record {
-      parts = ap (λ (l : List Placed). record { at = p .at; command = Com.End } ∷ l) (o .parts);
-      body-ok = ends refl;
-      past-ok = refl;
-      formed = o .formed;
-    })
+    record {
+      parts = rw here (ap (λ (l : List Placed). p ∷ l) (o .parts));
+      body-ok = rw here (ends e);
+      past-ok = rw (here, gather-closes p (gather []) e);
+      formed = λ c m. o .formed c (rw here at m);
+    }
+  where
+    here : gatherOne p (gather ps) ≡ record { body = p ∷ []; past = p .at + length (bytesOf (p .command)); chunks = gather ps .chunks }
+    here = gather-closes p (gather ps) e
 
 plain-behind : (p : Placed) (ps : List Placed) → plain (p .command) ≡ true → Inside ps → Inside (p ∷ ps)
 unfolding gather
@@ -124,46 +116,58 @@ plain-behind p ps e i =
     record {
       parts = rw (here) (ap (λ (l : List Placed). p ∷ l) (i .parts));
       body-ok = rw (here) (goes e (i .body-ok));
-      past-ok = rw (here, gather-plain p (p .command) (gather (gather ps .body)) e) (i .past-ok);
+      past-ok = rw (here, gather-plain p (gather (gather ps .body)) e) (i .past-ok);
       formed = λ c m. i .formed c (rw here at m);
     }
   where
-    here : gatherOne p (p .command) (gather ps) ≡ record { body = p ∷ gather ps .body; past = gather ps .past; chunks = gather ps .chunks }
-    here = gather-plain p (p .command) (gather ps) e
-
-plain-step :
-    (i : Bool) (p : Placed) (ps : List Placed) (c : Command)
-    → p .command ≡ c
-    → plain c ≡ true
-    → not (not i) ≡ true
-    → Behind i ps
-    → Behind i (p ∷ ps)
-plain-step true p ps c e h q b = plain-behind p ps (ap plain e ∙ h) b
-plain-step false p ps c e h q b = false-is-true q
+    here : gatherOne p (gather ps) ≡ record { body = p ∷ gather ps .body; past = gather ps .past; chunks = gather ps .chunks }
+    here = gather-plain p (gather ps) e
 
 -- by the command: where it stands, and where the next stands
 step-behind :
-    (k : Scan) (p : Placed) (ps : List Placed) (c : Command)
-    → p .command ≡ c
-    → not (misplaced k c) ≡ true
-    → Behind (uncounted (scanned k c) .inside) ps
+    (k : Scan) (p : Placed) (ps : List Placed)
+    → Delimiter (p .command)
+    → not (misplaced k (p .command)) ≡ true
+    → Behind (uncounted (scanned k (p .command)) .inside) ps
     → Behind (k .inside) (p ∷ ps)
-unfolding misplaced isMember uncounted scanned onward plain
-step-behind k p ps (Com.Member t m) e h b = go (k .inside) h
+unfolding misplaced isMember uncounted scanned
+step-behind k p ps d h b = go (p .command) refl d h b
   where
-    go : (i : Bool) → not i ≡ true → Behind i (p ∷ ps)
-    go true q = false-is-true q
-    go false q = member-behind p t m ps e b
-step-behind k p ps Com.End e h b = go (k .inside) h
-  where
-    go : (i : Bool) → not (not i) ≡ true → Behind i (p ∷ ps)
-    go true q = end-behind p ps e b
-    go false q = false-is-true q
-step-behind k p ps (Com.Region t z) e h b = plain-step (k .inside) p ps (Com.Region t z) e refl h b
-step-behind k p ps Com.Barrier e h b = plain-step (k .inside) p ps Com.Barrier e refl h b
-step-behind k p ps (Com.Acquire l) e h b = plain-step (k .inside) p ps (Com.Acquire l) e refl h b
-step-behind k p ps (Com.Release l) e h b = plain-step (k .inside) p ps (Com.Release l) e refl h b
-step-behind k p ps (Com.Access a) e h b = plain-step (k .inside) p ps (Com.Access a) e refl h b
+    from : (c : Command) → Bool → Bool
+    from c i = cond (isMember c) i (not i)
+
+    stands : (i : Bool) → not (not i) ≡ true → i ≡ true
+    stands true q = refl
+    stands false q = q
+
+    inside : Inside (p ∷ ps) → (i : Bool) → not (not i) ≡ true → Behind i (p ∷ ps)
+    inside x true q = x
+    inside x false q = false-is-true q
+
+    go :
+        (c : Command)
+        → p .command ≡ c
+        → Delimiter c
+        → not (cond (isMember c) (k .inside) (not (k .inside))) ≡ true
+        → Behind (onDelimiter (k .inside) (λ t m. true) false c) ps
+        → Behind (k .inside) (p ∷ ps)
+    go c e (opens-chunk t m) q x = outside (k .inside) q
+      where
+        outside : (i : Bool) → not i ≡ true → Behind i (p ∷ ps)
+        outside true r = false-is-true r
+        outside false r = member-behind p t m ps e x
+    go c e (closes-chunk f) q x =
+        inside
+        (end-behind p ps (ap closes e ∙ f) (subst (λ (i : Bool). Behind i ps) (on-closes (k .inside) (λ t m. true) false c f) x))
+        (k .inside)
+        (rw (on-closes false (λ t m. true) false c f) at q)
+    go c e (neither f) q x =
+        let i = rw (on-plain false (λ t m. true) false c f) at q in
+        inside
+        (plain-behind p ps (ap plain e ∙ f)
+        (subst (λ (j : Bool). Behind j ps) (on-plain (k .inside) (λ t m. true) false c f ∙ stands (k .inside) i) x))
+        (k .inside)
+        i
 
 behind : (ps : List Placed) (k : Scan) → orderly k (map (λ (p : Placed). p .command) ps) ≡ true → Behind (k .inside) ps
 unfolding orderly
@@ -171,7 +175,7 @@ behind [] k o = nothing-behind (k .inside) o
 behind (p ∷ ps) k o =
     let c = p .command in
     let cs = map (λ (q : Placed). q .command) ps in
-    step-behind k p ps c refl
+    step-behind k p ps (delimits c)
     (orderly-head k c cs o .in-place)
     (behind ps (uncounted (scanned k c)) (orderly-tail k c cs o))
 

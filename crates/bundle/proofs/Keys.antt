@@ -8,7 +8,7 @@ use mathlib.Core.Option.{Option, none, some}
 use native.Mathlib.Omega.{arith}
 use Rattle.bundle.specs.Lists.{any, all, first}
 use Rattle.bundle.proofs.Tests.{same-test}
-use Rattle.bundle.proofs.ListLaws.{any-elim, any-intro, first-some, first-of, first-none, perm-mem, Distinct, distinct-nil, distinct-cons, distinct-head, distinct-tail}
+use Rattle.bundle.proofs.ListLaws.{any-elim, any-intro, all-agree, first-some, first-of, first-none, perm-mem, Distinct, distinct-nil, distinct-cons, distinct-head, distinct-tail}
 
 module _ {A : Type 0} where
   pub perm-distinct : {xs ys : List A} → List·Permᴰ xs ys → Distinct xs → Distinct ys
@@ -57,8 +57,7 @@ module _ {A : Type 0} where
 
   -- tests that agree at each element
   pub all-same : (p q : A → Bool) (xs : List A) → ((x : A) → p x ≡ q x) → all p xs ≡ all q xs
-  all-same p q [] h = refl
-  all-same p q (x ∷ xs) h = rw (h x, all-same p q xs h)
+  all-same p q xs h = all-agree p q xs (λ x m. h x)
 
 -- a test over changed elements
 pub any-map : {A B : Type 0} (g : A → B) (p : B → Bool) (q : A → Bool) → ((x : A) → p (g x) ≡ q x) → (xs : List A) → any p (map g xs) ≡ any q xs

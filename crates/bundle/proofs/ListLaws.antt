@@ -69,6 +69,11 @@ module _ {A : Type 0} where
   all-intro p [] h = refl
   all-intro p (x ∷ xs) h = both (h x (List·Memᴰ·head refl)) (all-intro p xs (λ y m. h y (List·Memᴰ·tail m)))
 
+  -- tests that agree at each element of a list
+  pub all-agree : (p q : A → Bool) (xs : List A) → ((x : A) → List·Memᴰ x xs → p x ≡ q x) → all p xs ≡ all q xs
+  all-agree p q [] h = refl
+  all-agree p q (x ∷ xs) h = rw (h x (List·Memᴰ·head refl), all-agree p q xs (λ y m. h y (List·Memᴰ·tail m)))
+
   pub passing-elim : (p : A → Bool) {x : A} (xs : List A) → List·Memᴰ x (passing p xs) → List·Memᴰ x xs × (p x ≡ true)
   passing-elim p [] m = absurd (List·Memᴰ·not-nil m)
   passing-elim p {x} (y ∷ ys) m = go (passing-elim p ys) (p y) refl m
@@ -237,6 +242,10 @@ module _ {A B : Type 0} where
 
 module _ {A B : Type 0} where
   -- what does not see that the elements are changed
+  pub concatMap-along : (f : A → List B) (g : A → A) (h : B → B) → ((x : A) → f (g x) ≡ map h (f x)) → (xs : List A) → concatMap f (map g xs) ≡ map h (concatMap f xs)
+  concatMap-along f g h e [] = refl
+  concatMap-along f g h e (x ∷ xs) = rw (e x, concatMap-along f g h e xs) (sym (map-append h (f x) (concatMap f xs)))
+
   pub concatMap-map : (f : A → List B) (g : A → A) → ((x : A) → f (g x) ≡ f x) → (xs : List A) → concatMap f (map g xs) ≡ concatMap f xs
   concatMap-map f g same [] = refl
   concatMap-map f g same (x ∷ xs) = rw (same x, concatMap-map f g same xs)

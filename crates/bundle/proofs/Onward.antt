@@ -3,30 +3,34 @@ use Prim.Native.Nat.{ℕ, zero, suc, _+_, _≤_, _<_}
 use mathlib.Core.Path.{_≡_, refl, sym, _∙_, ap, subst}
 use mathlib.Core.Logic.{_⊎_, inl, inr, ⊎-elim}
 use mathlib.Core.Bool.{true, false}
-use mathlib.Core.List.{List, [], _∷_, map, List·Memᴰ, List·Memᴰ·head, List·Memᴰ·tail, List·Memᴰ·not-nil, List·Memᴰ·cases-cons}
+use mathlib.Core.List.{List, [], _∷_, _++_, map, nil≢cons, head-eq-of-cons-eq, tail-eq-of-cons-eq, List·Memᴰ, List·Memᴰ·head, List·Memᴰ·tail, List·Memᴰ·not-nil, List·Memᴰ·cases-cons}
 use native.Mathlib.Omega.{arith}
 use native.Mathlib.Nat.{add-zero}
 use lib.ListN.{length}
-use lib.Dec.{leb}
+use lib.Dec.{ltb, leb}
 use borrow.Author.Tests.{leb-true, leb-false, ltb-true, ltb-false}
 use Rattle.bundle.specs.Answer.{Answer, gives, refuses}
 use Rattle.bundle.specs.Lists.{concatMap}
 use Rattle.bundle.specs.Commands.{Taken, inRange, decodeAt, readAt}
+use Rattle.bundle.specs.Cases.{onRegion}
 use Rattle.bundle.specs.Chunks.{Placed, Front, Chunk, fresh, afterCommand, follow, frontFrom, frontOf, chunksOf, commandsOf}
-use Rattle.bundle.specs.Scan.{aboveOwnTeam, start, onward, scanned, scanOf}
-use Rattle.bundle.specs.Check.{Fork, forkHere, forksFrom, forksIn, forksOf, Accepted}
+use Rattle.bundle.specs.Walk.{opensSegment, addsAccess, Entry, entriesFrom, entriesOf, forkAt, forksIn, forksOf}
+use Rattle.bundle.specs.Scan.{aboveOwnTeam, start, scanned, scanOf}
+use Rattle.bundle.specs.Check.{Accepted}
+use Rattle.bundle.specs.declared.index.Fork.{Fork}
 use Rattle.bundle.specs.declared.chunk.ChunkState.{ChunkState}
 use Rattle.bundle.specs.declared.chunk.Scan.{Scan}
 use Rattle.bundle.specs.declared.command.Command.{Command}
 use Rattle.bundle.specs.declared.command.Command.the-variants as Com
-use Rattle.bundle.proofs.Tests.{decide, false-is-true}
+use Rattle.bundle.proofs.Tests.{decide, and-right}
+use Rattle.bundle.proofs.Delimiters.{on-plain, on-other, Forking, forks-team, forks-none, forkings}
 use Rattle.bundle.proofs.ListLaws.{all-elim, concatMap-elim}
 use Rattle.bundle.proofs.Decoding.{decode-reads, read-next}
 use Rattle.bundle.proofs.Printing.{front-stops, front-goes}
 use Rattle.bundle.proofs.Scanning.{total, uncounted, orderly, orderly-head, orderly-tail, Room, Passed, walk-elim}
 use Rattle.bundle.proofs.Gathering.{plain, Body, ends, goes, Formed, placedOf, logOf, all-in-chunks}
-use Rattle.bundle.proofs.ScanChunks.{scan-chunks, commands-of-chunks}
-use Rattle.bundle.proofs.Shape.{Shaped, shaped-elim}
+use Rattle.bundle.proofs.ScanChunks.{scan-chunk, scan-chunks, commands-of-chunks}
+use Rattle.bundle.proofs.Shaped.{Shaped, shaped-elim}
 use Rattle.bundle.proofs.Reorder.{Checked, checked, orderly-range, scan-passed}
 
 -- the commands that are read from a position on, up to the end
@@ -123,61 +127,131 @@ legible s a = go (scan-passed s (k .scan) (k .scan-ok))
               shaped = shaped-elim (chunksOf s) (k .shape);
             }
 
+-- the commands behind the first ones
+onward-tail : {s : List ℕ} {at : ℕ} {p : Placed} {ps : List Placed} → Onward s at (p ∷ ps) → (at′ : ℕ) × Onward s at′ ps
+onward-tail {p = p} {ps = ps} o = go o refl
+  where
+    go : {s : List ℕ} {at : ℕ} {qs : List Placed} → Onward s at qs → qs ≡ p ∷ ps → (at′ : ℕ) × Onward s at′ ps
+    go (at-end l) e = absurd (nil≢cons e)
+    go {s = s} (goes-on {t = t} q o′) e = (t .next, subst (Onward s (t .next)) (tail-eq-of-cons-eq e) o′)
+
+onward-behind : {s : List ℕ} {at : ℕ} (xs ys : List Placed) → Onward s at (xs ++ ys) → (at′ : ℕ) × Onward s at′ ys
+onward-behind {at = at} [] ys o = (at, o)
+onward-behind (x ∷ xs) ys o = onward-behind xs ys (onward-tail o .1)
+
+onward-head : {s : List ℕ} {at : ℕ} {p : Placed} {ps : List Placed} → Onward s at (p ∷ ps) → at ≡ p .at
+onward-head {p = p} {ps = ps} o = go o refl
+  where
+    go : {s : List ℕ} {at : ℕ} {qs : List Placed} → Onward s at qs → qs ≡ p ∷ ps → at ≡ p .at
+    go (at-end l) e = absurd (nil≢cons e)
+    go (goes-on q o′) e = ap (λ (x : Placed). x .at) (head-eq-of-cons-eq e)
+
+-- a chunk's commands are read from its MEMBER on, and pass the scan's tests
+pub record ChunkRead (s : List ℕ) (c : Chunk) : Type 0 where
+  pub behind : List Placed
+  pub onwards : Onward s (c .place) (placedOf c ++ behind)
+  pub order : orderly start (map (λ (p : Placed). p .command) (placedOf c ++ behind)) ≡ true
+
+chunks-read :
+    (s : List ℕ) (at : ℕ) (cs : List Chunk) (c : Chunk)
+    → ((d : Chunk) → List·Memᴰ d cs → Formed d)
+    → Onward s at (concatMap placedOf cs)
+    → orderly start (concatMap logOf cs) ≡ true
+    → List·Memᴰ c cs
+    → ChunkRead s c
+chunks-read s at [] c f o r m = absurd (List·Memᴰ·not-nil m)
+chunks-read s at (d ∷ ds) c f o r m =
+    ⊎-elim
+    (λ (e : c ≡ d).
+    let here : at ≡ d .place = unfold placedOf in (onward-head o) in
+    rw e
+    (record {
+      behind = concatMap placedOf ds;
+      onwards = subst (λ (n : ℕ). Onward s n (placedOf d ++ concatMap placedOf ds)) here o;
+      order = ap (orderly start) (commands-of-chunks (d ∷ ds)) ∙ r;
+    }))
+    (λ l.
+    let w = onward-behind (placedOf d) (concatMap placedOf ds) o in
+    let apart = sym (scan-chunk d (concatMap logOf ds) (f d (List·Memᴰ·head refl))) ∙ r in
+    let rest = and-right (orderly start (logOf d)) (orderly start (concatMap logOf ds)) apart in
+    chunks-read s (w .0) ds c (λ x k. f x (List·Memᴰ·tail k)) (w .1) rest l)
+    (List·Memᴰ·cases-cons m)
+
+pub chunk-read : (s : List ℕ) → Accepted s → (c : Chunk) → List·Memᴰ c (chunksOf s) → ChunkRead s c
+chunk-read s a c m =
+    let k = legible s a in
+    chunks-read s 0 (chunksOf s) c (k .formed) (rw (k .parts) at (k .onwards)) (k .order) m
+
 -- "A REGION's team number is greater than that of the chunk it stands in"
 scanned-plain : (k : Scan) (c : Command) → plain c ≡ true → uncounted (scanned k c) .team ≡ k .team
-unfolding plain uncounted scanned onward
-scanned-plain k (Com.Member t m) e = false-is-true e
-scanned-plain k Com.End e = false-is-true e
-scanned-plain k (Com.Region t z) e = refl
-scanned-plain k Com.Barrier e = refl
-scanned-plain k (Com.Acquire l) e = refl
-scanned-plain k (Com.Release l) e = refl
-scanned-plain k (Com.Access a) e = refl
-
-fork-above :
-    (z : Scan) (t m : ℕ) (k : ChunkState) (at : ℕ) (c : Command) (rest : List Fork) (f : Fork)
-    → z .team ≡ t
-    → aboveOwnTeam (z .team) c ≡ true
-    → (List·Memᴰ f rest → f .byTeam < f .team)
-    → List·Memᴰ f (forkHere t m k at c rest)
-    → f .byTeam < f .team
-unfolding forkHere aboveOwnTeam
-fork-above z t m k at (Com.Member u i) rest f e h ih l = ih l
-fork-above z t m k at Com.End rest f e h ih l = ih l
-fork-above z t m k at (Com.Region u y) rest f e h ih l =
-    let above = ltb-true (z .team) u h in
-    ⊎-elim (λ (q : f ≡ record { place = at; team = u; size = y; byTeam = t; byMember = m; state = k }). rw q (rw e at above)) ih (List·Memᴰ·cases-cons l)
-fork-above z t m k at Com.Barrier rest f e h ih l = ih l
-fork-above z t m k at (Com.Acquire u) rest f e h ih l = ih l
-fork-above z t m k at (Com.Release u) rest f e h ih l = ih l
-fork-above z t m k at (Com.Access a) rest f e h ih l = ih l
+unfolding uncounted scanned
+scanned-plain k c e = on-plain (k .team) (λ t m. t) 0 c e
 
 body-above :
-    (z : Scan) (t m : ℕ) (k : ChunkState) {ps : List Placed} (f : Fork)
+    (z : Scan) {ps : List Placed}
     → Body ps
-    → z .team ≡ t
     → orderly z (map (λ (p : Placed). p .command) ps) ≡ true
-    → List·Memᴰ f (forksFrom t m k ps)
-    → f .byTeam < f .team
-unfolding forksFrom
-body-above z t m k f (ends {p = p} e) q o l =
-    fork-above z t m k (p .at) (p .command) [] f q (orderly-head z (p .command) [] o .above-own) (λ n. absurd (List·Memᴰ·not-nil n)) l
-body-above z t m k f (goes {p = p} {ps = ps} e b) q o l =
-    let c = p .command in
+    → (p : Placed)
+    → List·Memᴰ p ps
+    → aboveOwnTeam (z .team) (p .command) ≡ true
+body-above z (ends {p = q} e) o p m =
+    ⊎-elim
+    (λ (h : p ≡ q). rw h (orderly-head z (q .command) [] o .above-own))
+    (λ l. absurd (List·Memᴰ·not-nil l))
+    (List·Memᴰ·cases-cons m)
+body-above z (goes {p = q} {ps = ps} e b) o p m =
+    let c = q .command in
     let cs = map (λ (r : Placed). r .command) ps in
-    fork-above z t m k (p .at) c (forksFrom t m (afterCommand k c) ps) f q (orderly-head z c cs o .above-own)
-    (body-above (uncounted (scanned z c)) t m (afterCommand k c) f b (scanned-plain z c e ∙ q) (orderly-tail z c cs o))
-    l
+    ⊎-elim
+    (λ (h : p ≡ q). rw h (orderly-head z c cs o .above-own))
+    (λ l. rw (scanned-plain z c e) at (body-above (uncounted (scanned z c)) b (orderly-tail z c cs o) p l))
+    (List·Memᴰ·cases-cons m)
 
-chunk-above : (c : Chunk) (f : Fork) → Formed c → orderly start (logOf c) ≡ true → List·Memᴰ f (forksIn c) → f .byTeam < f .team
-unfolding logOf forksIn commandsOf
+pub record Stands (ps : List Placed) (e : Entry) : Type 0 where
+  pub placed : Placed
+  pub present : List·Memᴰ placed ps
+  pub command : placed .command ≡ e .command
+
+pub entry-stands : (k : ChunkState) (g n : ℕ) (ps : List Placed) (e : Entry) → List·Memᴰ e (entriesFrom k g n ps) → Stands ps e
+unfolding entriesFrom
+entry-stands k g n [] e m = absurd (List·Memᴰ·not-nil m)
+entry-stands k g n (p ∷ ps) e m =
+    ⊎-elim
+    (λ (q : e ≡ record { at = p .at; command = p .command; state = k; segment = g; accesses = n }).
+    record { placed = p; present = List·Memᴰ·head refl; command = ap (λ (x : Entry). x .command) (sym q) })
+    (λ l.
+    let s = entry-stands (afterCommand k (p .command)) (g + opensSegment (p .command)) (n + addsAccess (p .command)) ps e l in
+    record { placed = s .placed; present = List·Memᴰ·tail (s .present); command = s .command })
+    (List·Memᴰ·cases-cons m)
+
+fork-above : (t m : ℕ) (e : Entry) (f : Fork) → aboveOwnTeam t (e .command) ≡ true → List·Memᴰ f (forkAt t m e) → f .parent < f .team
+unfolding forkAt aboveOwnTeam
+fork-above t m e f h l = go (e .command) (forkings (e .command)) h l
+  where
+    made : ℕ → ℕ → List Fork
+    made u z = record { place = e .at; team = u; size = z; parent = t; member = m; state = e .state } ∷ []
+
+    go : (c : Command) → Forking c → onRegion true (λ u z. ltb t u) c ≡ true → List·Memᴰ f (onRegion [] made c) → f .parent < f .team
+    go c (forks-team u z) q k =
+        let above = ltb-true t u q in
+        ⊎-elim
+        (λ (r : f ≡ record { place = e .at; team = u; size = z; parent = t; member = m; state = e .state }). rw r above)
+        (λ n. absurd (List·Memᴰ·not-nil n))
+        (List·Memᴰ·cases-cons k)
+    go c (forks-none x) q k = absurd (List·Memᴰ·not-nil (rw (on-other [] made c x) at k))
+
+chunk-above : (c : Chunk) (f : Fork) → Formed c → orderly start (logOf c) ≡ true → List·Memᴰ f (forksIn c) → f .parent < f .team
+unfolding logOf forksIn commandsOf entriesOf
 chunk-above c f d o l =
     let m = Com.Member (c .team) (c .member) in
     let k = uncounted (scanned start m) in
     let own : k .team ≡ c .team = unfold uncounted scanned in refl in
-    body-above k (c .team) (c .member) fresh f (d .body-ok) own (orderly-tail start m (map (λ (p : Placed). p .command) (c .body)) o) l
+    let from = concatMap-elim (forkAt (c .team) (c .member)) (entriesFrom fresh 0 0 (c .body)) l in
+    let p = entry-stands fresh 0 0 (c .body) (from .source) (from .present) in
+    let above = body-above k (d .body-ok) (orderly-tail start m (map (λ (q : Placed). q .command) (c .body)) o) (p .placed) (p .present) in
+    fork-above (c .team) (c .member) (from .source) f (rw (own, p .command) at above) (from .gives)
 
-pub team-falls : (s : List ℕ) → Accepted s → (f : Fork) → List·Memᴰ f (forksOf (chunksOf s)) → f .byTeam < f .team
+pub team-falls : (s : List ℕ) → Accepted s → (f : Fork) → List·Memᴰ f (forksOf (chunksOf s)) → f .parent < f .team
 unfolding forksOf
 team-falls s a f l =
     let k = legible s a in

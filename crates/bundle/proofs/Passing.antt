@@ -1,32 +1,38 @@
 -- The pass over a bundle: each command adds its rows, and at the end the tables hold the rows of all chunks and REGIONs.
-use Prim.Native.Nat.{ℕ, zero, suc, _+_, _-_, _≤_, _<_}
+use Prim.Native.Nat.{ℕ, zero, suc, _+_, _-_, _*_, _≤_, _<_}
 use mathlib.Core.Path.{_≡_, refl, sym, _∙_, ap, ap₂, subst}
-use mathlib.Core.Logic.{_⊎_, inl, inr}
-use mathlib.Core.Bool.{Bool, true, false, cond, not, _&&_, _||_}
+use mathlib.Core.Bool.{Bool, true, false, cond, not}
 use mathlib.Core.List.{List, [], _∷_, _++_, map, append-assoc, append-nil}
 use native.Mathlib.Omega.{arith}
-use native.Mathlib.Nat.{zero-add, add-zero}
+use native.Mathlib.Nat.{add-zero, add-assoc}
 use lib.Dec.{eqb, ltb, leb}
-use lib.ListN.{length, getD, take}
-use borrow.Author.Tests.{eqb-true, leb-true, le-leb, lt-leb, ltb-false}
+use lib.ListN.{length}
+use borrow.Author.Tests.{eqb-true, le-leb, lt-leb, ltb-false}
 use Rattle.bundle.specs.Answer.{Answer, gives, refuses, whenGiven, numberOf}
 use Rattle.bundle.specs.Lists.{concatMap}
-use Rattle.bundle.specs.Commands.{Taken, decodeAt}
-use Rattle.bundle.specs.Chunks.{Placed, Front, Chunk, fresh, afterBarrier, afterJoin, afterAcquire, afterRelease, afterCommand, afterCommands, follow, frontFrom, frontOf, gatherOne, gather, chunksOf, commandsOf}
-use Rattle.bundle.specs.Check.{Fork, forkHere, forksFrom, forksIn, forksOf, barriersOf}
-use Rattle.bundle.specs.Scan.{isMember, misplaced, opensSegment, addsAccess, tooMany, faultOf, start, onward, scanned, finish, walk, scanOf}
-use Rattle.bundle.specs.Rows.{rowsOf, chunkRow, forkRow}
+use Rattle.bundle.specs.Cases.{onDelimiter, onRegion}
+use Rattle.bundle.specs.Commands.{Taken, bytesOf, decodeAt}
+use Rattle.bundle.specs.Chunks.{Placed, Front, Chunk, Gathered, fresh, afterBarrier, afterJoin, afterAcquire, afterRelease, afterCommand, afterCommands, follow, frontFrom, frontOf, gatherOne, gather, chunksOf, commandsOf}
+use Rattle.bundle.specs.Walk.{opensSegment, addsAccess, Entry, entriesFrom, entriesOf, barriersOf, forkAt, forksIn, forksOf}
+use Rattle.bundle.specs.Scan.{isMember, misplaced, tooMany, faultOf, start, scanned, finish, walk, scanOf}
+use Rattle.bundle.specs.Index.{chunkRowAt, forkRowAt, tableFrom, table, Added, total, logOf, chunkRow, rowsFrom, chunkRows}
 use Rattle.bundle.specs.Survey.{
   Bounded,
   Stepped,
   testedAt,
   stepAt,
   beginning,
+  openedAt,
+  closedRow,
+  forkHere,
   passAfter,
   newChunks,
   newForks,
+  Near,
   Notable,
   Noted,
+  openRow,
+  rowsBehind,
   chunksToCome,
   forksToCome,
   Surveying,
@@ -38,46 +44,153 @@ use Rattle.bundle.specs.Survey.{
 use Rattle.bundle.specs.declared.refusal.Cause.{Cause}
 use Rattle.bundle.specs.declared.chunk.ChunkState.{ChunkState}
 use Rattle.bundle.specs.declared.chunk.Scan.{Scan}
-use Rattle.bundle.specs.declared.command.Access.{Access}
 use Rattle.bundle.specs.declared.command.Command.{Command}
 use Rattle.bundle.specs.declared.command.Command.the-variants as Com
-use Rattle.bundle.specs.declared.rows.Row.{Row}
+use Rattle.bundle.specs.declared.index.ChunkRow.{ChunkRow}
+use Rattle.bundle.specs.declared.index.Fork.{Fork}
+use Rattle.bundle.specs.declared.survey.Open.{Open}
 use Rattle.bundle.specs.declared.survey.Pass.{Pass}
 use Rattle.bundle.specs.declared.survey.Turn.{Turn}
 use Rattle.bundle.specs.declared.survey.Turn.the-variants as Turns
 use Rattle.bundle.specs.declared.survey.Survey.{Survey}
 use Rattle.bundle.specs.declared.survey.Survey.the-variants as Surveys
 use Rattle.bundle.specs.declared.refusal.Cause.the-variants as Causes
-use Rattle.bundle.proofs.Tests.{cond-elim, false-is-true, not-both, decide, is-false, or-false}
+use Rattle.bundle.proofs.Tests.{cond-elim, false-is-true, or-false, false-of-not}
+use Rattle.bundle.proofs.Delimiters.{plain, closes, closes-forks-none, closes-keeps, closes-width, state-counts, Delimiter, opens-chunk, closes-chunk, neither, delimits, on-plain, on-closes, forking, Forking, forks-team, forks-none, forkings, on-other}
+use Rattle.bundle.proofs.Tables.{table-none, table-added}
+use Rattle.bundle.proofs.Gathering.{gather-plain, gather-closes}
 use Rattle.bundle.proofs.Decoding.{decode-next}
 use Rattle.bundle.proofs.Scanning.{no-fault, passes, tested}
 
--- what a command adds to the rows, and what is then still to come
-inside-of : (k : Scan) (c : Command) → isMember c ≡ false → misplaced k c ≡ false → k .inside ≡ true
-unfolding misplaced
-inside-of k c m e = go (k .inside) (rw m at e)
+-- a command that is no MEMBER stands inside a chunk
+inside-plain : (k : Scan) (c : Command) → plain c ≡ true → misplaced k c ≡ false → k .inside ≡ true
+unfolding misplaced isMember
+inside-plain k c h e = out (k .inside) (rw (on-plain false (λ t m. true) false c h) at e)
   where
-    go : (i : Bool) → not i ≡ false → i ≡ true
-    go true h = refl
-    go false h = sym h
+    out : (i : Bool) → not i ≡ false → i ≡ true
+    out true q = refl
+    out false q = sym q
 
-module _ (p : Pass) (next : ℕ) (ps : List Placed) where
-  abbrev Comes : Command → Type 0
-  Comes c =
-      (chunksToCome p (record { at = p .at; command = c } ∷ ps)
-      ≡ newChunks p c ++ chunksToCome (passAfter p c (scanned (p .scan) c) next) ps)
-      × (forksToCome p (record { at = p .at; command = c } ∷ ps)
-      ≡ newForks p c ++ forksToCome (passAfter p c (scanned (p .scan) c) next) ps)
+inside-closes : (k : Scan) (c : Command) → closes c ≡ true → misplaced k c ≡ false → k .inside ≡ true
+unfolding misplaced isMember
+inside-closes k c h e = out (k .inside) (rw (on-closes false (λ t m. true) false c h) at e)
+  where
+    out : (i : Bool) → not i ≡ false → i ≡ true
+    out true q = refl
+    out false q = sym q
 
-  comes : (c : Command) → misplaced (p .scan) c ≡ false → Comes c
-  unfolding chunksToCome forksToCome newChunks newForks passAfter scanned onward gather gatherOne afterCommand afterCommands forksFrom forkHere forksIn forksOf forkRow chunkRow barriersOf commandsOf misplaced isMember
-  comes (Com.Member t m) e = rw e (refl, refl)
-  comes Com.End e = rw (inside-of (p .scan) Com.End refl e) (refl, refl)
-  comes (Com.Region t z) e = rw (inside-of (p .scan) (Com.Region t z) refl e) (refl, refl)
-  comes Com.Barrier e = rw (inside-of (p .scan) Com.Barrier refl e) (refl, refl)
-  comes (Com.Acquire l) e = rw (inside-of (p .scan) (Com.Acquire l) refl e) (refl, refl)
-  comes (Com.Release l) e = rw (inside-of (p .scan) (Com.Release l) refl e) (refl, refl)
-  comes (Com.Access a) e = rw (inside-of (p .scan) (Com.Access a) refl e) (refl, refl)
+-- neither a plain command's scan nor the chunk that is open changes but for the state and the counts
+record Continued (p : Pass) (c : Command) (next : ℕ) : Type 0 where
+  scan :
+      scanned (p .scan) c
+      ≡ record {
+        inside = p .scan .inside;
+        team = p .scan .team;
+        state = afterCommand (p .scan .state) c;
+        segments = p .scan .segments + opensSegment c;
+        accesses = p .scan .accesses + addsAccess c;
+      }
+  pass :
+      passAfter p c (scanned (p .scan) c) next
+      ≡ record {
+        at = next;
+        scan = scanned (p .scan) c;
+        chunk = p .chunk;
+        chunks = p .chunks;
+        forks = onRegion (p .forks) (λ t z. p .forks + 1) c;
+      }
+
+continued : (p : Pass) (c : Command) (next : ℕ) → plain c ≡ true → Continued p c next
+continued p c next h =
+    record {
+      scan =
+          unfold scanned in
+          (rw (
+            on-plain (p .scan .inside) (λ t m. true) false c h,
+            on-plain (p .scan .team) (λ t m. t) 0 c h,
+            on-plain (afterCommand (p .scan .state) c) (λ t m. fresh) fresh c h,
+          ));
+      pass =
+          unfold passAfter in
+          (rw (on-plain (p .chunk) (λ t m. openedAt p m) (p .chunk) c h, on-plain (p .chunks) (λ t m. p .chunks) (p .chunks + 1) c h));
+    }
+
+-- what is to come of the rows, with the scan's parts by name
+module _ (p : Pass) (next : ℕ) (ps : List Placed) (c : Command) where
+  abbrev here : Placed
+  here = record { at = p .at; command = c }
+
+  abbrev after : Pass
+  after = passAfter p c (scanned (p .scan) c) next
+
+  abbrev Comes : Type 0
+  Comes =
+      (chunksToCome p (gatherOne here (gather ps)) ≡ newChunks p c ++ chunksToCome after (gather ps))
+      × (forksToCome p (gatherOne here (gather ps)) ≡ newForks p c ++ forksToCome after (gather ps))
+
+-- the REGIONs of entries do not see the numbers of segments and accesses
+forks-any : (t m : ℕ) (k : ChunkState) (g n : ℕ) (ps : List Placed) → concatMap (forkAt t m) (entriesFrom k g n ps) ≡ concatMap (forkAt t m) (entriesFrom k 0 0 ps)
+unfolding entriesFrom forkAt
+forks-any t m k g n [] = refl
+forks-any t m k g n (p ∷ ps) =
+    let k′ = afterCommand k (p .command) in
+    let g′ = opensSegment (p .command) in
+    let n′ = addsAccess (p .command) in
+    rw (forks-any t m k′ (g + g′) (n + n′) ps, forks-any t m k′ (0 + g′) (0 + n′) ps)
+
+comes-opens : (p : Pass) (next : ℕ) (ps : List Placed) (t m : ℕ) → p .scan .inside ≡ false → Comes p next ps (Com.Member t m)
+unfolding chunksToCome forksToCome newChunks newForks passAfter scanned gatherOne openRow rowsBehind openedAt rowsFrom chunkRow total logOf barriersOf commandsOf forksOf forksIn entriesOf opensSegment addsAccess
+comes-opens p next ps t m e =
+    let cs = map (λ (q : Placed). q .command) (gather ps .body) in
+    rw e (
+      ap₂ (λ (g n : ℕ). openRow (after p next ps (Com.Member t m)) cs (gather ps .past) ∷ rowsFrom g n (gather ps .chunks))
+          (sym (add-assoc (p .scan .segments) 1 (total opensSegment cs)))
+          (sym (add-assoc (p .scan .accesses) 0 (total addsAccess cs))),
+      refl,
+    )
+
+comes-closes : (p : Pass) (next : ℕ) (ps : List Placed) (c : Command) → closes c ≡ true → p .scan .inside ≡ true → Comes p next ps c
+unfolding chunksToCome forksToCome newChunks newForks passAfter scanned openRow rowsBehind closedRow forkHere total afterCommands entriesFrom forkAt gather rowsFrom forksOf
+comes-closes p next ps c h e =
+    rw (
+      gather-closes (here p next ps c) (gather ps) h,
+      on-closes (p .scan .inside) (λ t m. true) false c h,
+      e,
+      on-closes [] (λ t m. []) (closedRow p ∷ []) c h,
+      closes-keeps (p .scan .state) c h,
+      closes-width c h,
+      add-zero (opensSegment c),
+      add-zero (addsAccess c),
+    )
+    (refl, ap (λ (fs : List Fork). fs ++ forksOf (gather ps .chunks)) (append-nil (newForks p c)))
+
+comes-plain : (p : Pass) (next : ℕ) (ps : List Placed) (c : Command) → plain c ≡ true → p .scan .inside ≡ true → Comes p next ps c
+unfolding chunksToCome forksToCome newChunks newForks openRow rowsBehind forkHere total afterCommands entriesFrom forkAt gather rowsFrom closedRow forksOf
+comes-plain p next ps c h e =
+    let d = continued p c next h in
+    let cs = map (λ (q : Placed). q .command) (gather ps .body) in
+    let k = afterCommand (p .scan .state) c in
+    rw (
+      gather-plain (here p next ps c) (gather ps) h,
+      d .pass,
+      d .scan,
+      e,
+      on-plain [] (λ t m. []) (closedRow p ∷ []) c h,
+    ) (
+      ap₂ (λ (g n : ℕ). openRow p (c ∷ cs) (gather ps .past) ∷ rowsFrom g n (gather ps .chunks))
+          (sym (add-assoc (p .scan .segments) (opensSegment c) (total opensSegment cs)))
+          (sym (add-assoc (p .scan .accesses) (addsAccess c) (total addsAccess cs))),
+      append-assoc (newForks p c) (concatMap (forkAt (p .scan .team) (p .chunk .member)) (entriesFrom k (0 + opensSegment c) (0 + addsAccess c) (gather ps .body))) (forksOf (gather ps .chunks))
+          ∙ ap (λ (fs : List Fork). newForks p c ++ (fs ++ forksOf (gather ps .chunks))) (forks-any (p .scan .team) (p .chunk .member) k (0 + opensSegment c) (0 + addsAccess c) (gather ps .body)),
+    )
+
+comes : (p : Pass) (next : ℕ) (ps : List Placed) (c : Command) → misplaced (p .scan) c ≡ false → Comes p next ps c
+comes p next ps c e = go c (delimits c) e
+  where
+    go : (c : Command) → Delimiter c → misplaced (p .scan) c ≡ false → Comes p next ps c
+    go c (opens-chunk t m) q = comes-opens p next ps t m (unfold misplaced isMember in q)
+    go c (closes-chunk h) q = comes-closes p next ps c h (inside-closes (p .scan) c h q)
+    go c (neither h) q = comes-plain p next ps c h (inside-plain (p .scan) c h q)
 
 -- the counts after a command
 room : (k : Scan) (c : Command) → tooMany k c ≡ false → (k .segments + opensSegment c ≤ 512) × (k .accesses + addsAccess c ≤ 1024)
@@ -86,8 +199,15 @@ room k c e =
     let f = or-false (ltb 512 (k .segments + opensSegment c)) (ltb 1024 (k .accesses + addsAccess c)) e in
     (ltb-false 512 (k .segments + opensSegment c) (f .0), ltb-false 1024 (k .accesses + addsAccess c) (f .1))
 
-abbrev Open : Bool → ℕ
-Open i = cond i 1 0
+abbrev Opened : Bool → ℕ
+Opened i = cond i 1 0
+
+fork-opens : (n : ℕ) (c : Command) → onRegion n (λ t z. n + 1) c ≤ n + opensSegment c
+fork-opens n c = go c (forkings c)
+  where
+    go : (c : Command) → Forking c → onRegion n (λ t z. n + 1) c ≤ n + opensSegment c
+    go c (forks-team t z) = unfold opensSegment in (omega arith)
+    go c (forks-none h) = rw (on-other n (λ t z. n + 1) c h) (omega arith)
 
 module _ (p : Pass) (next : ℕ) where
   abbrev Counts : Command → Type 0
@@ -95,50 +215,45 @@ module _ (p : Pass) (next : ℕ) where
       Bounded (scanned (p .scan) c)
       × (passAfter p c (scanned (p .scan) c) next .chunks
       + passAfter p c (scanned (p .scan) c) next .forks
-      + Open (passAfter p c (scanned (p .scan) c) next .scan .inside)
-      ≤ passAfter p c (scanned (p .scan) c) next .scan .segments)
+      + Opened (scanned (p .scan) c .inside)
+      ≤ scanned (p .scan) c .segments)
 
   counts :
       (c : Command)
       → misplaced (p .scan) c ≡ false
       → tooMany (p .scan) c ≡ false
       → Bounded (p .scan)
-      → p .chunks + p .forks + Open (p .scan .inside) ≤ p .scan .segments
+      → p .chunks + p .forks + Opened (p .scan .inside) ≤ p .scan .segments
       → Counts c
-  unfolding scanned onward opensSegment addsAccess afterCommand afterBarrier afterJoin afterAcquire afterRelease fresh passAfter misplaced isMember
-  counts (Com.Member t m) e l b f =
-      let r = room (p .scan) (Com.Member t m) l in
-      let o : p .chunks + p .forks + 0 ≤ p .scan .segments = rw e at f in
-      (record { segments = r .0; accesses = b .accesses; opened = omega arith }, omega arith)
-  counts Com.End e l b f =
-      let o : p .chunks + p .forks + 1 ≤ p .scan .segments = rw (inside-of (p .scan) Com.End refl e) at f in
-      (record { segments = b .segments; accesses = b .accesses; opened = omega arith }, omega arith)
-  counts (Com.Region t z) e l b f =
-      let r = room (p .scan) (Com.Region t z) l in
-      let i = inside-of (p .scan) (Com.Region t z) refl e in
-      let o : p .chunks + p .forks + 1 ≤ p .scan .segments = rw i at f in
-      (record { segments = r .0; accesses = r .1; opened = omega (arith, b .opened) }, rw i (omega arith))
-  counts Com.Barrier e l b f =
-      let r = room (p .scan) Com.Barrier l in
-      let i = inside-of (p .scan) Com.Barrier refl e in
-      let o : p .chunks + p .forks + 1 ≤ p .scan .segments = rw i at f in
-      (record { segments = r .0; accesses = r .1; opened = omega (arith, b .opened) }, rw i (omega arith))
-  counts (Com.Acquire a) e l b f =
-      (record { segments = room (p .scan) (Com.Acquire a) l .0; accesses = room (p .scan) (Com.Acquire a) l .1; opened = rw (add-zero (p .scan .segments)) (b .opened) }, rw (add-zero (p .scan .segments)) f)
-  counts (Com.Release a) e l b f =
-      (record { segments = room (p .scan) (Com.Release a) l .0; accesses = room (p .scan) (Com.Release a) l .1; opened = rw (add-zero (p .scan .segments)) (b .opened) }, rw (add-zero (p .scan .segments)) f)
-  counts (Com.Access a) e l b f =
-      (record { segments = room (p .scan) (Com.Access a) l .0; accesses = room (p .scan) (Com.Access a) l .1; opened = rw (add-zero (p .scan .segments)) (b .opened) }, rw (add-zero (p .scan .segments)) f)
+  counts c e l b f = go c (delimits c) e (room (p .scan) c l)
+    where
+      k : Scan
+      k = p .scan
 
-pass-at : (p : Pass) (c : Command) (k : Scan) (next : ℕ) → (passAfter p c k next .at ≡ next) × (passAfter p c k next .scan ≡ k)
-unfolding passAfter
-pass-at p (Com.Member t m) k next = (refl, refl)
-pass-at p Com.End k next = (refl, refl)
-pass-at p (Com.Region t z) k next = (refl, refl)
-pass-at p Com.Barrier k next = (refl, refl)
-pass-at p (Com.Acquire l) k next = (refl, refl)
-pass-at p (Com.Release l) k next = (refl, refl)
-pass-at p (Com.Access a) k next = (refl, refl)
+      go : (c : Command) → Delimiter c → misplaced k c ≡ false → (k .segments + opensSegment c ≤ 512) × (k .accesses + addsAccess c ≤ 1024) → Counts c
+      go c (opens-chunk t m) q r =
+          unfold scanned passAfter opensSegment addsAccess fresh in
+          (let i : k .inside ≡ false = unfold misplaced isMember in q in
+          let o : p .chunks + p .forks + 0 ≤ k .segments = rw i at f in
+          (record { segments = unfold opensSegment in (r .0); accesses = unfold addsAccess in (r .1); opened = omega arith }, omega arith))
+      go c (closes-chunk h) q r =
+          let o : p .chunks + p .forks + 1 ≤ k .segments = rw (inside-closes k c h q) at f in
+          unfold scanned passAfter in
+          (rw (
+            on-closes (k .inside) (λ t m. true) false c h,
+            on-closes (afterCommand (k .state) c) (λ t m. fresh) fresh c h,
+            on-closes (p .chunks) (λ t m. p .chunks) (p .chunks + 1) c h,
+            on-other (p .forks) (λ t z. p .forks + 1) c (closes-forks-none c h),
+          )
+          (record { segments = r .0; accesses = r .1; opened = unfold fresh in (omega arith) }, omega arith))
+      go c (neither h) q r =
+          let i = inside-plain k c h q in
+          let d = continued p c next h in
+          let o : p .chunks + p .forks + 1 ≤ k .segments = rw i at f in
+          let n = fork-opens (p .forks) c in
+          let s = state-counts (k .state) c in
+          rw (d .pass, d .scan, i)
+          (record { segments = r .0; accesses = r .1; opened = omega (arith, b .opened) }, omega arith)
 
 -- what a step that gives, or refuses, tells
 record Gave (k : Scan) (d : Answer Taken) (st : Stepped) : Type 0 where
@@ -188,11 +303,7 @@ front-done (suc fuel) s at h = rw (le-leb (length s) at h)
 not-misplaced : (k : Scan) (c : Command) → faultOf k c ≡ 0 → (misplaced k c ≡ false) × (tooMany k c ≡ false)
 not-misplaced k c e =
     let n = no-fault k c e in
-    (out (misplaced k c) (tested k c (n .0) .in-place), n .1)
-  where
-    out : (b : Bool) → not b ≡ true → b ≡ false
-    out true h = sym h
-    out false h = refl
+    (false-of-not (misplaced k c) (tested k c (n .0) .in-place), n .1)
 
 -- the fuel left, where the bundle goes on
 record More (s : List ℕ) (p : Pass) (chunks forks : List ℕ) : Type 0 where
@@ -200,9 +311,9 @@ record More (s : List ℕ) (p : Pass) (chunks forks : List ℕ) : Type 0 where
   enough : length s ≤ p .at + suc fuel
   scan-rest : walk (follow (frontFrom fuel s) (p .at) (decodeAt s (p .at)) .placed) (follow (frontFrom fuel s) (p .at) (decodeAt s (p .at)) .stop) (p .scan) ≡ scanOf s
   chunk-rest :
-      rowsOf (take (p .chunks) chunks) ++ chunksToCome p (follow (frontFrom fuel s) (p .at) (decodeAt s (p .at)) .placed) ≡ map chunkRow (chunksOf s)
+      table (chunkRowAt chunks) (p .chunks) ++ chunksToCome p (gather (follow (frontFrom fuel s) (p .at) (decodeAt s (p .at)) .placed)) ≡ chunkRows (chunksOf s)
   fork-rest :
-      rowsOf (take (p .forks) forks) ++ forksToCome p (follow (frontFrom fuel s) (p .at) (decodeAt s (p .at)) .placed) ≡ map forkRow (forksOf (chunksOf s))
+      table (forkRowAt forks) (p .forks) ++ forksToCome p (gather (follow (frontFrom fuel s) (p .at) (decodeAt s (p .at)) .placed)) ≡ forksOf (chunksOf s)
 
 more : {s : List ℕ} {p : Pass} {chunks forks : List ℕ} → p .at < length s → Surveying s p chunks forks → More s p chunks forks
 more {s} {p} {chunks} {forks} h v = go (v .fuel) (v .enough) (v .scan-rest) (v .chunk-rest) (v .fork-rest)
@@ -211,8 +322,8 @@ more {s} {p} {chunks} {forks} h v = go (v .fuel) (v .enough) (v .scan-rest) (v .
         (f : ℕ)
         → length s ≤ p .at + f
         → walk (frontFrom f s (p .at) .placed) (frontFrom f s (p .at) .stop) (p .scan) ≡ scanOf s
-        → rowsOf (take (p .chunks) chunks) ++ chunksToCome p (frontFrom f s (p .at) .placed) ≡ map chunkRow (chunksOf s)
-        → rowsOf (take (p .forks) forks) ++ forksToCome p (frontFrom f s (p .at) .placed) ≡ map forkRow (forksOf (chunksOf s))
+        → table (chunkRowAt chunks) (p .chunks) ++ chunksToCome p (gather (frontFrom f s (p .at) .placed)) ≡ chunkRows (chunksOf s)
+        → table (forkRowAt forks) (p .forks) ++ forksToCome p (gather (frontFrom f s (p .at) .placed)) ≡ forksOf (chunksOf s)
         → More s p chunks forks
     go zero e w x y = absurd (omega arith)
     go (suc f) e w x y =
@@ -231,37 +342,26 @@ stopped {s} {p} n q h v e =
     sym (m .scan-rest) ∙ refused (p .scan) (p .at) n q (decodeAt s (p .at)) (frontFrom (m .fuel) s) e
 
 -- before a command that passes there is room for a row
-opens : (c : Command) → isMember c ≡ true → opensSegment c ≡ 1
-unfolding isMember opensSegment
-opens (Com.Member t m) e = refl
-opens Com.End e = false-is-true e
-opens (Com.Region t z) e = refl
-opens Com.Barrier e = refl
-opens (Com.Acquire l) e = false-is-true e
-opens (Com.Release l) e = false-is-true e
-opens (Com.Access a) e = false-is-true e
-
 room-for :
     (p : Pass) (c : Command)
     → misplaced (p .scan) c ≡ false
     → tooMany (p .scan) c ≡ false
     → Bounded (p .scan)
-    → p .chunks + p .forks + Open (p .scan .inside) ≤ p .scan .segments
+    → p .chunks + p .forks + Opened (p .scan .inside) ≤ p .scan .segments
     → p .chunks + p .forks < 512
-unfolding misplaced
-room-for p c e l b f = go (p .scan .inside) e f
+room-for p c e l b f = go c (delimits c) e (room (p .scan) c l .0)
   where
-    go :
-        (i : Bool)
-        → cond (isMember c) i (not i) ≡ false
-        → p .chunks + p .forks + Open i ≤ p .scan .segments
-        → p .chunks + p .forks < 512
-    go true m g = omega (arith, b .segments)
-    go false m g = omega (arith, room (p .scan) c l .0, opens c (member (isMember c) m))
-      where
-        member : (o : Bool) → cond o false true ≡ false → o ≡ true
-        member true q = refl
-        member false q = sym q
+    inner : p .scan .inside ≡ true → p .chunks + p .forks < 512
+    inner i = let o : p .chunks + p .forks + 1 ≤ p .scan .segments = rw i at f in omega (arith, b .segments)
+
+    go : (c : Command) → Delimiter c → misplaced (p .scan) c ≡ false → p .scan .segments + opensSegment c ≤ 512 → p .chunks + p .forks < 512
+    go c (opens-chunk t m) q r =
+        let i : p .scan .inside ≡ false = unfold misplaced isMember in q in
+        let o : p .chunks + p .forks + 0 ≤ p .scan .segments = rw i at f in
+        let w : p .scan .segments + 1 ≤ 512 = unfold opensSegment in r in
+        omega arith
+    go c (closes-chunk h) q r = inner (inside-closes (p .scan) c h q)
+    go c (neither h) q r = inner (inside-plain (p .scan) c h q)
 
 module _ {s : List ℕ} {p : Pass} {chunks forks : List ℕ} (h : p .at < length s) (v : Surveying s p chunks forks) (st : Stepped)
     (e : stepAt s (p .at) (p .scan) ≡ gives st) where
@@ -276,18 +376,18 @@ module _ {s : List ℕ} {p : Pass} {chunks forks : List ℕ} (h : p .at < length
       record {
         chunk-room = omega (arith, n, v .chunk-table);
         fork-room = omega (arith, n, v .fork-table);
-        near = omega (arith, v .short);
-        few = omega (arith, v .bounded .segments, v .bounded .opened);
+        few = n;
+        near = record { at = omega (arith, v .short); bounded = v .bounded };
       }
 
   -- with the scan's own step
   went :
       (r : Pass) (chunks′ forks′ : List ℕ)
-      → length chunks′ ≡ 512
-      → length forks′ ≡ 512
+      → length chunks′ ≡ 1024
+      → length forks′ ≡ 1536
       → r ≡ passAfter p (st .command) (scanned (p .scan) (st .command)) (st .next)
-      → rowsOf (take (r .chunks) chunks′) ≡ rowsOf (take (p .chunks) chunks) ++ newChunks p (st .command)
-      → rowsOf (take (r .forks) forks′) ≡ rowsOf (take (p .forks) forks) ++ newForks p (st .command)
+      → table (chunkRowAt chunks′) (r .chunks) ≡ table (chunkRowAt chunks) (p .chunks) ++ newChunks p (st .command)
+      → table (forkRowAt forks′) (r .forks) ≡ table (forkRowAt forks) (p .forks) ++ newForks p (st .command)
       → (p .at < r .at) × Surveying s r chunks′ forks′
   went r chunks′ forks′ lc lf q x y =
       let g = given in
@@ -297,8 +397,8 @@ module _ {s : List ℕ} {p : Pass} {chunks forks : List ℕ} (h : p .at < length
       let o = not-misplaced (p .scan) c (g .sound) in
       let n = counts p (st .next) c (o .0) (o .1) (v .bounded) (v .few) in
       let d = decode-next s (p .at) (record { command = c; next = st .next }) (g .decodes) in
-      let at : r .at ≡ st .next = ap (λ (z : Pass). z .at) q ∙ pass-at p c k (st .next) .0 in
-      let scan : r .scan ≡ k = ap (λ (z : Pass). z .scan) q ∙ pass-at p c k (st .next) .1 in
+      let at : r .at ≡ st .next = ap (λ (z : Pass). z .at) q ∙ unfold passAfter in refl in
+      let scan : r .scan ≡ k = ap (λ (z : Pass). z .scan) q ∙ unfold passAfter in refl in
       let rest = frontFrom (m .fuel) s (st .next) in
       let to-come = comes p (st .next) (rest .placed) c (o .0) in (
         omega (arith, d .0, at),
@@ -310,21 +410,21 @@ module _ {s : List ℕ} {p : Pass} {chunks forks : List ℕ} (h : p .at < length
           chunk-table = lc;
           fork-table = lf;
           bounded = rw scan (n .0);
-          few = rw q (n .1);
+          few = rw q (unfold passAfter in (n .1));
           scan-rest = rw (at, scan) (walked (m .fuel) (g .decodes) (g .sound) (m .scan-rest));
           chunk-rest =
-              ap (λ (z : ℕ). rowsOf (take (r .chunks) chunks′) ++ chunksToCome r (frontFrom (m .fuel) s z .placed)) at
-              ∙ ap (λ (l : List Row). l ++ chunksToCome r (rest .placed)) x
-              ∙ append-assoc (rowsOf (take (p .chunks) chunks)) (newChunks p c) (chunksToCome r (rest .placed))
-              ∙ ap (λ (z : Pass). rowsOf (take (p .chunks) chunks) ++ (newChunks p c ++ chunksToCome z (rest .placed))) q
-              ∙ ap (λ (l : List Row). rowsOf (take (p .chunks) chunks) ++ l) (sym (to-come .0))
+              ap (λ (z : ℕ). table (chunkRowAt chunks′) (r .chunks) ++ chunksToCome r (gather (frontFrom (m .fuel) s z .placed))) at
+              ∙ ap (λ (l : List ChunkRow). l ++ chunksToCome r (gather (rest .placed))) x
+              ∙ append-assoc (table (chunkRowAt chunks) (p .chunks)) (newChunks p c) (chunksToCome r (gather (rest .placed)))
+              ∙ ap (λ (z : Pass). table (chunkRowAt chunks) (p .chunks) ++ (newChunks p c ++ chunksToCome z (gather (rest .placed)))) q
+              ∙ ap (λ (l : List ChunkRow). table (chunkRowAt chunks) (p .chunks) ++ l) (sym (to-come .0))
               ∙ placed-chunks (m .fuel) (g .decodes) (m .chunk-rest);
           fork-rest =
-              ap (λ (z : ℕ). rowsOf (take (r .forks) forks′) ++ forksToCome r (frontFrom (m .fuel) s z .placed)) at
-              ∙ ap (λ (l : List Row). l ++ forksToCome r (rest .placed)) y
-              ∙ append-assoc (rowsOf (take (p .forks) forks)) (newForks p c) (forksToCome r (rest .placed))
-              ∙ ap (λ (z : Pass). rowsOf (take (p .forks) forks) ++ (newForks p c ++ forksToCome z (rest .placed))) q
-              ∙ ap (λ (l : List Row). rowsOf (take (p .forks) forks) ++ l) (sym (to-come .1))
+              ap (λ (z : ℕ). table (forkRowAt forks′) (r .forks) ++ forksToCome r (gather (frontFrom (m .fuel) s z .placed))) at
+              ∙ ap (λ (l : List Fork). l ++ forksToCome r (gather (rest .placed))) y
+              ∙ append-assoc (table (forkRowAt forks) (p .forks)) (newForks p c) (forksToCome r (gather (rest .placed)))
+              ∙ ap (λ (z : Pass). table (forkRowAt forks) (p .forks) ++ (newForks p c ++ forksToCome z (gather (rest .placed)))) q
+              ∙ ap (λ (l : List Fork). table (forkRowAt forks) (p .forks) ++ l) (sym (to-come .1))
               ∙ placed-forks (m .fuel) (g .decodes) (m .fork-rest);
         },
       )
@@ -343,35 +443,33 @@ module _ {s : List ℕ} {p : Pass} {chunks forks : List ℕ} (h : p .at < length
       placed-chunks :
           (f : ℕ)
           → decodeAt s (p .at) ≡ gives taken
-          → rowsOf (take (p .chunks) chunks) ++ chunksToCome p (follow (frontFrom f s) (p .at) (decodeAt s (p .at)) .placed) ≡ map chunkRow (chunksOf s)
-          → rowsOf (take (p .chunks) chunks) ++ chunksToCome p (record { at = p .at; command = st .command } ∷ frontFrom f s (st .next) .placed) ≡ map chunkRow (chunksOf s)
-      placed-chunks f w a = unfold follow in (rw w at a)
+          → table (chunkRowAt chunks) (p .chunks) ++ chunksToCome p (gather (follow (frontFrom f s) (p .at) (decodeAt s (p .at)) .placed)) ≡ chunkRows (chunksOf s)
+          → table (chunkRowAt chunks) (p .chunks) ++ chunksToCome p (gatherOne (record { at = p .at; command = st .command }) (gather (frontFrom f s (st .next) .placed))) ≡ chunkRows (chunksOf s)
+      placed-chunks f w a = unfold follow gather in (rw w at a)
 
       placed-forks :
           (f : ℕ)
           → decodeAt s (p .at) ≡ gives taken
-          → rowsOf (take (p .forks) forks) ++ forksToCome p (follow (frontFrom f s) (p .at) (decodeAt s (p .at)) .placed) ≡ map forkRow (forksOf (chunksOf s))
-          → rowsOf (take (p .forks) forks) ++ forksToCome p (record { at = p .at; command = st .command } ∷ frontFrom f s (st .next) .placed) ≡ map forkRow (forksOf (chunksOf s))
-      placed-forks f w a = unfold follow in (rw w at a)
+          → table (forkRowAt forks) (p .forks) ++ forksToCome p (gather (follow (frontFrom f s) (p .at) (decodeAt s (p .at)) .placed)) ≡ forksOf (chunksOf s)
+          → table (forkRowAt forks) (p .forks) ++ forksToCome p (gatherOne (record { at = p .at; command = st .command }) (gather (frontFrom f s (st .next) .placed))) ≡ forksOf (chunksOf s)
+      placed-forks f w a = unfold follow gather in (rw w at a)
 
   pub went-on :
       (r : Pass) (chunks′ forks′ : List ℕ)
-      → length chunks′ ≡ 512
-      → length forks′ ≡ 512
       → Noted p (st .command) (st .scan) (st .next) r chunks forks chunks′ forks′
       → (p .at < r .at) × Surveying s r chunks′ forks′
-  went-on r chunks′ forks′ lc lf n =
-      went r chunks′ forks′ lc lf (n .pass ∙ ap (λ (k : Scan). passAfter p (st .command) k (st .next)) (given .scan)) (n .chunk-rows) (n .fork-rows)
+  went-on r chunks′ forks′ n =
+      went r chunks′ forks′ (n .chunk-long ∙ v .chunk-table) (n .fork-long ∙ v .fork-table) (n .pass ∙ ap (λ (k : Scan). passAfter p (st .command) k (st .next)) (given .scan)) (n .chunk-rows) (n .fork-rows)
 
 -- the pass at the front, and at the end
 pub surveying-start :
     (s : List ℕ) (p : Pass) (chunks forks : List ℕ)
     → p ≡ beginning
     → length s ≤ 65536
-    → length chunks ≡ 512
-    → length forks ≡ 512
+    → length chunks ≡ 1024
+    → length forks ≡ 1536
     → Surveying s p chunks forks
-unfolding beginning start fresh scanOf frontOf chunksOf chunksToCome forksToCome rowsOf
+unfolding beginning start fresh scanOf frontOf chunksOf chunksToCome forksToCome chunkRows table tableFrom
 surveying-start s p chunks forks e h lc lf =
     rw e
     (record {
@@ -408,24 +506,24 @@ module _ {s : List ℕ} {p : Pass} {chunks forks : List ℕ} (h : length s ≤ p
       ∙ unfold walk finish in refl
       ∙ ap (λ (n : ℕ). cond (p .scan .inside) (refuses 4 n) (gives (p .scan))) at-end
 
-  chunk-end : p .scan .inside ≡ false → rowsOf (take (p .chunks) chunks) ≡ map chunkRow (chunksOf s)
+  chunk-end : p .scan .inside ≡ false → table (chunkRowAt chunks) (p .chunks) ≡ chunkRows (chunksOf s)
   chunk-end e =
-      sym (append-nil (rowsOf (take (p .chunks) chunks)))
-      ∙ ap (λ (l : List Row). rowsOf (take (p .chunks) chunks) ++ l) (sym (none e))
-      ∙ ap (λ (f : Front). rowsOf (take (p .chunks) chunks) ++ chunksToCome p (f .placed)) (sym done)
+      sym (append-nil (table (chunkRowAt chunks) (p .chunks)))
+      ∙ ap (λ (l : List ChunkRow). table (chunkRowAt chunks) (p .chunks) ++ l) (sym (none e))
+      ∙ ap (λ (f : Front). table (chunkRowAt chunks) (p .chunks) ++ chunksToCome p (gather (f .placed))) (sym done)
       ∙ v .chunk-rest
     where
-      none : p .scan .inside ≡ false → chunksToCome p [] ≡ []
-      none i = unfold chunksToCome gather in (pick-false (p .scan .inside) _ [] i)
+      none : p .scan .inside ≡ false → chunksToCome p (gather []) ≡ []
+      none i = unfold chunksToCome gather rowsFrom in (pick-false (p .scan .inside) _ [] i)
 
-  fork-end : p .scan .inside ≡ false → rowsOf (take (p .forks) forks) ≡ map forkRow (forksOf (chunksOf s))
+  fork-end : p .scan .inside ≡ false → table (forkRowAt forks) (p .forks) ≡ forksOf (chunksOf s)
   fork-end e =
-      sym (append-nil (rowsOf (take (p .forks) forks)))
-      ∙ ap (λ (l : List Row). rowsOf (take (p .forks) forks) ++ l) (sym (none e))
-      ∙ ap (λ (f : Front). rowsOf (take (p .forks) forks) ++ forksToCome p (f .placed)) (sym done)
+      sym (append-nil (table (forkRowAt forks) (p .forks)))
+      ∙ ap (λ (l : List Fork). table (forkRowAt forks) (p .forks) ++ l) (sym (none e))
+      ∙ ap (λ (f : Front). table (forkRowAt forks) (p .forks) ++ forksToCome p (gather (f .placed))) (sym done)
       ∙ v .fork-rest
     where
-      none : p .scan .inside ≡ false → forksToCome p [] ≡ []
+      none : p .scan .inside ≡ false → forksToCome p (gather []) ≡ []
       none i = unfold forksToCome gather forksOf in (pick-false (p .scan .inside) _ [] i)
 
   pub surveyed-end : Surveyed s (finished p (length s)) chunks forks
@@ -433,98 +531,81 @@ module _ {s : List ℕ} {p : Pass} {chunks forks : List ℕ} (h : length s ≤ p
   surveyed-end =
       let few = v .few in
       cond-elim (λ (r : Survey). Surveyed s r chunks forks) (p .scan .inside)
-      (Surveys.Refused Causes.Misplaced (length s))
+      (Surveys.Refused (length s) Causes.Misplaced)
       (Surveys.Complete (p .chunks) (p .forks))
       (λ e. scan-end ∙ pick-true (p .scan .inside) (refuses 4 (length s)) (gives (p .scan)) e)
       (λ e.
       record {
         scan = p .scan;
         passes = scan-end ∙ pick-false (p .scan .inside) (refuses 4 (length s)) (gives (p .scan)) e;
-        chunks-within = omega (arith, v .few, v .bounded .segments, v .chunk-table);
-        forks-within = omega (arith, v .few, v .bounded .segments, v .fork-table);
+        few = omega (arith, v .few, v .bounded .segments);
+        chunk-table = v .chunk-table;
+        fork-table = v .fork-table;
         chunk-rows = chunk-end e;
         fork-rows = fork-end e;
       })
 
 -- what each command notes
 module _ (p : Pass) (k : Scan) (next : ℕ) (r : Pass) (chunks forks : List ℕ) where
-  same-rows :
+  -- no row is added
+  pub noted-none :
       (c : Command)
       → r ≡ passAfter p c k next
-      → r .chunks ≡ p .chunks
-      → r .forks ≡ p .forks
       → newChunks p c ≡ []
       → newForks p c ≡ []
+      → passAfter p c k next .chunks ≡ p .chunks
+      → passAfter p c k next .forks ≡ p .forks
       → Noted p c k next r chunks forks chunks forks
-  same-rows c e n m x y =
+  noted-none c e x y n m =
       record {
         pass = e;
-        chunk-rows = ap (λ (i : ℕ). rowsOf (take i chunks)) n ∙ sym (ap (λ (l : List Row). rowsOf (take (p .chunks) chunks) ++ l) x ∙ append-nil (rowsOf (take (p .chunks) chunks)));
-        fork-rows = ap (λ (i : ℕ). rowsOf (take i forks)) m ∙ sym (ap (λ (l : List Row). rowsOf (take (p .forks) forks) ++ l) y ∙ append-nil (rowsOf (take (p .forks) forks)));
+        chunk-long = refl;
+        fork-long = refl;
+        chunk-rows = rw (e, x, n) (sym (append-nil (table (chunkRowAt chunks) (p .chunks))));
+        fork-rows = rw (e, y, m) (sym (append-nil (table (forkRowAt forks) (p .forks))));
       }
 
-  pub noted-member :
-      (t m : ℕ)
-      → r ≡ record { at = next; scan = k; place = p .at; member = m; chunks = p .chunks; forks = p .forks }
-      → Noted p (Com.Member t m) k next r chunks forks chunks forks
-  unfolding passAfter newChunks newForks
-  noted-member t m e = same-rows (Com.Member t m) e (ap (λ (z : Pass). z .chunks) e) (ap (λ (z : Pass). z .forks) e) refl refl
-
-  module _ (e : r ≡ record { at = next; scan = k; place = p .place; member = p .member; chunks = p .chunks; forks = p .forks }) where
-    pub noted-barrier : Noted p Com.Barrier k next r chunks forks chunks forks
-    unfolding passAfter newChunks newForks
-    noted-barrier = same-rows Com.Barrier e (ap (λ (z : Pass). z .chunks) e) (ap (λ (z : Pass). z .forks) e) refl refl
-
-    pub noted-acquire : (l : ℕ) → Noted p (Com.Acquire l) k next r chunks forks chunks forks
-    unfolding passAfter newChunks newForks
-    noted-acquire l = same-rows (Com.Acquire l) e (ap (λ (z : Pass). z .chunks) e) (ap (λ (z : Pass). z .forks) e) refl refl
-
-    pub noted-release : (l : ℕ) → Noted p (Com.Release l) k next r chunks forks chunks forks
-    unfolding passAfter newChunks newForks
-    noted-release l = same-rows (Com.Release l) e (ap (λ (z : Pass). z .chunks) e) (ap (λ (z : Pass). z .forks) e) refl refl
-
-    pub noted-access : (a : Access) → Noted p (Com.Access a) k next r chunks forks chunks forks
-    unfolding passAfter newChunks newForks
-    noted-access a = same-rows (Com.Access a) e (ap (λ (z : Pass). z .chunks) e) (ap (λ (z : Pass). z .forks) e) refl refl
-
-  pub noted-end :
-      (chunks′ : List ℕ) (n : ℕ) (row : Row)
-      → r ≡ record { at = next; scan = k; place = p .place; member = p .member; chunks = n; forks = p .forks }
-      → n ≡ p .chunks + 1
-      → row ≡ record { place = p .place; other = p .scan .state .barriers; size = 0; member = p .member; team = p .scan .team }
-      → rowsOf (take (p .chunks + 1) chunks′) ≡ rowsOf (take (p .chunks) chunks) ++ (row ∷ [])
-      → Noted p Com.End k next r chunks forks chunks′ forks
-  unfolding passAfter newChunks newForks
-  noted-end chunks′ n row e g w x =
+  pub noted-chunk :
+      (c : Command) (chunks′ : List ℕ) (row : ChunkRow)
+      → closes c ≡ true
+      → r ≡ record { at = next; scan = k; chunk = p .chunk; chunks = p .chunks + 1; forks = p .forks }
+      → row ≡ closedRow p
+      → Added chunkRowAt chunks chunks′ (p .chunks) row
+      → Noted p c k next r chunks forks chunks′ forks
+  noted-chunk c chunks′ row h e w x =
+      let none : newForks p c ≡ [] = unfold newForks in (on-other [] (λ t z. forkHere p t z ∷ []) c (closes-forks-none c h)) in
+      let one : newChunks p c ≡ closedRow p ∷ [] = unfold newChunks in (on-closes [] (λ t m. []) (closedRow p ∷ []) c h) in
       record {
-        pass = e ∙ ap (λ (i : ℕ). record { at = next; scan = k; place = p .place; member = p .member; chunks = i; forks = p .forks }) g;
+        pass =
+            e
+            ∙ unfold passAfter in
+            (rw (
+              on-closes (p .chunk) (λ t m. openedAt p m) (p .chunk) c h,
+              on-closes (p .chunks) (λ t m. p .chunks) (p .chunks + 1) c h,
+              on-other (p .forks) (λ t z. p .forks + 1) c (closes-forks-none c h),
+            ));
+        chunk-long = x .long;
+        fork-long = refl;
         chunk-rows =
-            ap (λ (i : ℕ). rowsOf (take i chunks′)) (ap (λ (z : Pass). z .chunks) e ∙ g)
-            ∙ x
-            ∙ ap (λ (z : Row). rowsOf (take (p .chunks) chunks) ++ (z ∷ [])) w;
-        fork-rows =
-            ap (λ (i : ℕ). rowsOf (take i forks)) (ap (λ (z : Pass). z .forks) e)
-            ∙ sym (append-nil (rowsOf (take (p .forks) forks)));
+            rw (e, one)
+            (table-added chunkRowAt x ∙ ap (λ (z : ChunkRow). table (chunkRowAt chunks) (p .chunks) ++ (z ∷ [])) w);
+        fork-rows = rw (e, none) (sym (append-nil (table (forkRowAt forks) (p .forks))));
       }
 
-  pub noted-region :
-      (forks′ : List ℕ) (t z n : ℕ) (row : Row)
-      → r ≡ record { at = next; scan = k; place = p .place; member = p .member; chunks = p .chunks; forks = n }
-      → n ≡ p .forks + 1
-      → row ≡ record { place = p .at; other = p .scan .team; size = z; member = 0; team = t }
-      → rowsOf (take (p .forks + 1) forks′) ≡ rowsOf (take (p .forks) forks) ++ (row ∷ [])
+  pub noted-fork :
+      (forks′ : List ℕ) (t z : ℕ) (row : Fork)
+      → r ≡ record { at = next; scan = k; chunk = p .chunk; chunks = p .chunks; forks = p .forks + 1 }
+      → row ≡ forkHere p t z
+      → Added forkRowAt forks forks′ (p .forks) row
       → Noted p (Com.Region t z) k next r chunks forks chunks forks′
   unfolding passAfter newChunks newForks
-  noted-region forks′ t z n row e g w x =
+  noted-fork forks′ t z row e w x =
       record {
-        pass = e ∙ ap (λ (i : ℕ). record { at = next; scan = k; place = p .place; member = p .member; chunks = p .chunks; forks = i }) g;
-        chunk-rows =
-            ap (λ (i : ℕ). rowsOf (take i chunks)) (ap (λ (y : Pass). y .chunks) e)
-            ∙ sym (append-nil (rowsOf (take (p .chunks) chunks)));
-        fork-rows =
-            ap (λ (i : ℕ). rowsOf (take i forks′)) (ap (λ (y : Pass). y .forks) e ∙ g)
-            ∙ x
-            ∙ ap (λ (y : Row). rowsOf (take (p .forks) forks) ++ (y ∷ [])) w;
+        pass = e;
+        chunk-long = refl;
+        fork-long = x .long;
+        chunk-rows = rw e (sym (append-nil (table (chunkRowAt chunks) (p .chunks))));
+        fork-rows = rw e (table-added forkRowAt x ∙ ap (λ (y : Fork). table (forkRowAt forks) (p .forks) ++ (y ∷ [])) w);
       }
 
 -- what a turn's answer says by its case, and what the end says
@@ -538,7 +619,7 @@ turned-on s at chunks forks v e = subst (λ (x : Turn). Turned s at x chunks for
 pub turned-off :
     (s : List ℕ) (at : ℕ) (chunks forks : List ℕ) {r : Turn} {cause : Cause} {place : ℕ}
     → Turned s at r chunks forks
-    → r ≡ Turns.Refused cause place
+    → r ≡ Turns.Refused place cause
     → scanOf s ≡ refuses (numberOf cause) place
 turned-off s at chunks forks v e = subst (λ (x : Turn). Turned s at x chunks forks) e v
 

@@ -16,8 +16,8 @@ use Rattle.bundle.specs.Commands.{Bytes, Taken, bytesOf, inRange, writte
 use Rattle.bundle.specs.Chunks.{Placed, Front, follow, frontFrom, frontOf}
 use Rattle.bundle.specs.declared.command.Command.{Command}
 use Rattle.bundle.proofs.Tests.{decide}
-use Rattle.bundle.proofs.Decoding.{known-width, first-known, length-bytes, read-decodes, decode-reads, read-next}
-use Rattle.bundle.proofs.RoundTrip.{written-reads, read-puts-back}
+use Rattle.bundle.proofs.Decoding.{read-decodes, decode-reads, read-next}
+use Rattle.bundle.proofs.RoundTrip.{bytes-some, written-reads, read-puts-back}
 
 -- commands back to back, and their places from an offset on
 unfoldable pub printed : List Command → List ℕ
@@ -26,9 +26,6 @@ printed cs = concatMap bytesOf cs
 unfoldable pub placedFrom : ℕ → List Command → List Placed
 placedFrom at [] = []
 placedFrom at (c ∷ cs) = record { at = at; command = c } ∷ placedFrom (at + length (bytesOf c)) cs
-
-pub bytes-some : (c : Command) → 0 < length (bytesOf c)
-bytes-some c = let k = known-width (first-known c) in let l = length-bytes c in omega (arith, k .0, l)
 
 pub commands-placed : (at : ℕ) (cs : List Command) → map (λ (p : Placed). p .command) (placedFrom at cs) ≡ cs
 unfolding placedFrom

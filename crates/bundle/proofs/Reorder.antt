@@ -22,7 +22,7 @@ use Rattle.bundle.proofs.Gathering.{Formed, placedOf, logOf, all-in-chu
 use Rattle.bundle.proofs.ScanChunks.{scan-chunks, commands-of-chunks}
 use Rattle.bundle.proofs.Printing.{printed, placedFrom, commands-placed, prints-front, front-of-printed}
 use Rattle.bundle.proofs.Settling.{settle, gather-settle, unplaced-settle, part-settle}
-use Rattle.bundle.proofs.Shape.{Shaped, shaped-elim, shaped-intro}
+use Rattle.bundle.proofs.Shaped.{Shaped, shaped-elim, shaped-intro}
 use Rattle.bundle.proofs.ShapeOrder.{shaped-perm, shaped-unplaced, unplaced-shaped}
 
 -- check taken apart

@@ -1,12 +1,13 @@
 -- Round trip: what put writes reads back as the same command, and what read accepts put writes back as the same bytes.
 -- Assumes nothing.
-use mathlib.Core.Path.{_≡_, refl, sym, ap, ap₂, _∙_}
-use mathlib.Core.Bool.{Bool, true, false, cond, _&&_}
+use mathlib.Core.Path.{_≡_, refl, sym, ap, _∙_}
+use mathlib.Core.Bool.{Bool, true, false, cond}
 use mathlib.Core.List.{List, [], _∷_, _++_, append-assoc}
-use Prim.Native.Nat.{ℕ, _+_, _-_, _≤_, _<_}
+use Prim.Native.Nat.{ℕ, suc, _+_, _-_, _≤_, _<_}
+use native.Mathlib.Numerals.{add-one}
 use native.Mathlib.Omega.{arith}
-use borrow.Author.Tests.{leb-true, ltb-true, le-leb}
-use lib.Dec.{ltb, leb}
+use borrow.Author.Tests.{leb-true, le-leb}
+use lib.Dec.{leb}
 use lib.ListN.{length, getD, take, drop, length-drop, take-append-drop}
 use lib.Seq.{length-take-le, drop-cons, take-add}
 use Rattle.bundle.specs.Answer.{gives, refuses}
@@ -14,39 +15,25 @@ use Rattle.bundle.specs.Commands.{
   Bytes,
   Taken,
   Lent,
-  lowFirst,
-  numberAt,
-  byteOf,
+  Code,
+  codeOf,
   widthOf,
-  accessAt,
+  widthsOf,
+  operandBytes,
   commandAt,
   bytesOf,
   inRange,
-  rangeOk,
   readAt,
   written,
   putAt,
 }
-use Rattle.bundle.specs.declared.command.AccessKind.{AccessKind}
 use Rattle.bundle.specs.declared.command.Command.{Command}
-use Rattle.bundle.specs.declared.command.Command.the-variants as Com
-use Rattle.bundle.proofs.Digits.{digits-between, digits-joined}
-use Rattle.bundle.proofs.Tests.{cond-elim, and-left, and-right}
+use Rattle.bundle.proofs.Operands.{operands-read, operands-written, length-operands}
+use Rattle.bundle.proofs.Forms.{Known, coded, code-made}
 use Rattle.bundle.proofs.Decoding.{
-  Known,
-  member,
-  end,
-  region,
-  barrier,
-  acquire,
-  release,
-  access,
   known-width,
-  first-known,
-  access-at,
-  kind-byte,
-  access-width,
-  length-bytes,
+  known-widths,
+  known-command,
   shifted,
   decodes,
   decoded,
@@ -55,87 +42,43 @@ use Rattle.bundle.proofs.Decoding.{
   read-before,
   read-behind,
 }
-use Rattle.bundle.proofs.Ranges.{range-parts, size-within, base-fits}
+use Rattle.bundle.proofs.Ranges.{in-range-fits}
 
--- the four kinds of access in one
-command-access : (s : List ℕ) (at : ℕ) (k : AccessKind)
-    → commandAt s at (byteOf k)
-    ≡ Com.Access
-    (record {
-      kind = k;
-      site = numberAt 2 s (at + 1);
-      range =
-          record { base = numberAt 4 s (at + 3); stride = numberAt 2 s (at + 7); count = numberAt 2 s (at + 9); size = numberAt 1 s (at + 11) };
-    })
-unfolding accessAt
-command-access s at k =
-    access-at s at k
-    ∙ (λ i. Com.Access
-    (record {
-      kind = kind-byte k i;
-      site = numberAt 2 s (at + 1);
-      range =
-          record { base = numberAt 4 s (at + 3); stride = numberAt 2 s (at + 7); count = numberAt 2 s (at + 9); size = numberAt 1 s (at + 11) };
-    }))
+-- a command's bytes begin with its own byte, and are as many as that says
+pub bytes-some : (c : Command) → 0 < length (bytesOf c)
+unfolding bytesOf
+bytes-some c = omega arith
 
 -- a command's bytes say the command
-bytes-say : (c : Command) → inRange c ≡ true → c ≡ commandAt (bytesOf c) 0 (getD (bytesOf c) 0 0)
-unfolding bytesOf lowFirst commandAt inRange
-bytes-say (Com.Member t m) e =
-    let ht : t < 65536 = ltb-true t 65536 (and-left (ltb t 65536) (ltb m 64) e) in
-    let hm : m < 64 = ltb-true m 64 (and-right (ltb t 65536) (ltb m 64) e) in
-    sym (ap₂ Com.Member
-    (digits-between 2 t (0x01 ∷ []) (lowFirst 1 m) ht)
-    (digits-between 1 m (0x01 ∷ lowFirst 2 t) [] (omega arith)))
-bytes-say Com.End e = refl
-bytes-say (Com.Region t z) e =
-    let a : Bool = leb 1 t in
-    let b : Bool = ltb t 65536 in
-    let d : Bool = leb 1 z in
-    let ht : t < 65536 = ltb-true t 65536 (and-right a b (and-left (a && b) d (and-left (a && b && d) (leb z 64) e))) in
-    let hz : z ≤ 64 = leb-true z 64 (and-right (a && b && d) (leb z 64) e) in
-    sym (ap₂ Com.Region
-    (digits-between 2 t (0x10 ∷ []) (lowFirst 1 z) ht)
-    (digits-between 1 z (0x10 ∷ lowFirst 2 t) [] (omega arith)))
-bytes-say Com.Barrier e = refl
-bytes-say (Com.Acquire l) e =
-    let h : l < 64 = ltb-true l 64 e in
-    sym (ap Com.Acquire (digits-between 1 l (0x20 ∷ []) [] (omega arith)))
-bytes-say (Com.Release l) e =
-    let h : l < 64 = ltb-true l 64 e in
-    sym (ap Com.Release (digits-between 1 l (0x21 ∷ []) [] (omega arith)))
-bytes-say (Com.Access a) e =
-    let r = a .range in
-    let site : List ℕ = byteOf (a .kind) ∷ lowFirst 2 (a .site) in
-    let base : List ℕ = site ++ lowFirst 4 (r .base) in
-    let stride : List ℕ = base ++ lowFirst 2 (r .stride) in
-    let count : List ℕ = stride ++ lowFirst 2 (r .count) in
-    let p = range-parts r (and-right (ltb (a .site) 65536) (rangeOk r) e) in
-    let hs : a .site < 65536 = ltb-true (a .site) 65536 (and-left (ltb (a .site) 65536) (rangeOk r) e) in
-    let hb : r .base ≤ 4294967295 = base-fits r (p .last) in
-    let hz : r .size ≤ 8 = size-within (r .size) (p .sized) .1 in
-    sym (command-access (bytesOf (Com.Access a)) 0 (a .kind)
-    ∙ (λ i. Com.Access
-    (record {
-      kind = a .kind;
-      site = digits-between 2 (a .site) (byteOf (a .kind) ∷ []) (lowFirst 4 (r .base) ++ lowFirst 2 (r .stride) ++ lowFirst 2 (r .count) ++ lowFirst 1 (r .size)) hs i;
-      range =
-          record {
-            base = digits-between 4 (r .base) site (lowFirst 2 (r .stride) ++ lowFirst 2 (r .count) ++ lowFirst 1 (r .size)) (omega arith) i;
-            stride = digits-between 2 (r .stride) base (lowFirst 2 (r .count) ++ lowFirst 1 (r .size)) (p .stride-fits) i;
-            count = digits-between 2 (r .count) stride (lowFirst 1 (r .size)) (p .count-fits) i;
-            size = digits-between 1 (r .size) count [] (omega arith) i;
-          };
-    })))
+module _ (c : Command) (r : inRange c ≡ true) where
+  bytes-say : c ≡ commandAt (bytesOf c) 0 (codeOf c .byte)
+  unfolding bytesOf
+  bytes-say =
+      let d = coded c in
+      let ws : List ℕ = d .known .form .widths in
+      let xs : List ℕ = codeOf c .operands in
+      let b : ℕ = codeOf c .byte in
+      let fits = rw (known-widths (d .known)) at (in-range-fits c r) in
+      sym (known-command (d .known) (bytesOf c) 0
+      ∙ rw (known-widths (d .known)) (ap (d .known .form .command) (operands-read ws xs (fits .eq) (b ∷ []) 1 refl) ∙ d .same))
 
--- what is written reads back: by itself, and anywhere in a buffer
-bytes-read : (c : Command) → inRange c ≡ true → readAt (bytesOf c) 0 ≡ gives (record { command = c; next = length (bytesOf c) })
-bytes-read c r =
-    let t : Taken = record { command = c; next = length (bytesOf c) } in
-    let w = length-bytes c in
-    decode-reads (bytesOf c) 0 t
-    (decodes (bytesOf c) 0 t (record { known = first-known c; fits = omega arith; command = bytes-say c r; next = omega arith }))
-    r
+  length-bytes : length (bytesOf c) ≡ widthOf (codeOf c .byte)
+  unfolding bytesOf
+  length-bytes =
+      let d = coded c in
+      let fits = rw (known-widths (d .known)) at (in-range-fits c r) in
+      rw (known-width (d .known), known-widths (d .known))
+      (ap suc (length-operands (d .known .form .widths) (codeOf c .operands) (fits .eq)))
+
+  -- what is written reads back: by itself, and anywhere in a buffer
+  bytes-read : readAt (bytesOf c) 0 ≡ gives (record { command = c; next = length (bytesOf c) })
+  unfolding bytesOf
+  bytes-read =
+      let t : Taken = record { command = c; next = length (bytesOf c) } in
+      let w = length-bytes in
+      decode-reads (bytesOf c) 0 t
+      (decodes (bytesOf c) 0 t (record { known = coded c .known; fits = omega arith; command = bytes-say; next = omega arith }))
+      r
 
 pub written-reads : (c : Command) (s : List ℕ) (at : ℕ) → inRange c ≡ true → at + length (bytesOf c) ≤ length s
     → readAt (written s at (bytesOf c)) at ≡ gives (record { command = c; next = at + length (bytesOf c) })
@@ -166,33 +109,27 @@ put-reads-back c s at next r = rw r (go (leb (length (bytesOf c)) (length s - at
     go : (t : Bool) → leb w (length s - at) ≡ t → put t .answer ≡ gives next → readAt (put t .buffer) at ≡ gives (record { command = c; next = next })
     go true f e =
         let n : at + w ≡ next = cc in
-        let k = known-width (first-known c) in
-        written-reads c s at r (omega (arith, leb-true w (length s - at) f, length-bytes c)) ∙ (λ i. gives (record { command = c; next = n i }))
+        written-reads c s at r (omega (arith, leb-true w (length s - at) f, bytes-some c)) ∙ (λ i. gives (record { command = c; next = n i }))
     go false f e = let z : _≡_ {A = ℕ} 0 1 = cc in absurd (omega arith)
 
 -- what read accepts are the command's bytes
-module _ (s : List ℕ) (bytes : Bytes s) (at : ℕ) where
-  -- the bytes so far, and those of the next operand
-  onward : (k m : ℕ) {l : List ℕ} → at + k + m ≤ length s → l ≡ take k (drop at s) → l ++ lowFirst m (numberAt m s (at + k)) ≡ take (k + m) (drop at s)
-  onward k m h e = rw e (digits-joined k m s at (at + k) bytes refl h)
-
-  first : {b : ℕ} → b ≡ getD s at 0 → at < length s → b ∷ [] ≡ take 1 (drop at s)
-  first e h = rw (e, drop-cons s at 0 h)
-
-  bytes-at : {b : ℕ} → Known b → b ≡ getD s at 0 → at + widthOf b ≤ length s → bytesOf (commandAt s at b) ≡ take (widthOf b) (drop at s)
-  unfolding bytesOf commandAt widthOf
-  bytes-at member e h = onward 3 1 (omega arith) (onward 1 2 (omega arith) (first e (omega arith)))
-  bytes-at end e h = first e (omega arith)
-  bytes-at region e h = onward 3 1 (omega arith) (onward 1 2 (omega arith) (first e (omega arith)))
-  bytes-at barrier e h = first e (omega arith)
-  bytes-at acquire e h = onward 1 1 (omega arith) (first e (omega arith))
-  bytes-at release e h = onward 1 1 (omega arith) (first e (omega arith))
-  bytes-at (access k) e h =
-      let w = access-width k in
-      ap bytesOf (command-access s at k)
-      ∙ onward 11 1 (omega arith)
-      (onward 9 2 (omega arith) (onward 7 2 (omega arith) (onward 3 4 (omega arith) (onward 1 2 (omega arith) (first e (omega arith))))))
-      ∙ ap (λ (n : ℕ). take n (drop at s)) w
+bytes-at :
+    (s : List ℕ) (at : ℕ)
+    → Bytes s
+    → Known (getD s at 0)
+    → at + widthOf (getD s at 0) ≤ length s
+    → bytesOf (commandAt s at (getD s at 0)) ≡ take (widthOf (getD s at 0)) (drop at s)
+unfolding bytesOf
+bytes-at s at bytes k h =
+    let w = known-width k in
+    let ws : List ℕ = k .form .widths in
+    let last = operands-written ws s at 1 bytes (omega arith) in
+    ap bytesOf (known-command k s at)
+    ∙ ap print (code-made k s at)
+    ∙ rw (known-widths k, w, drop-cons s at 0 (omega arith)) (ap (λ (l : List ℕ). getD s at 0 ∷ l) (last ∙ rw add-one))
+  where
+    print : Code → List ℕ
+    print c = c .byte ∷ operandBytes (widthsOf (c .byte)) (c .operands)
 
 -- for every list of bytes: where read gives a command and the position after it, the command's bytes stand there, and put
 -- writes them again: it answers that position and leaves the buffer as it was
@@ -207,7 +144,7 @@ read-puts-back s at t bytes e =
     let d = decoded s at t d′ in
     let w : ℕ = widthOf (getD s at 0) in
     let k = known-width (d .known) in
-    let here : bytesOf (t .command) ≡ take w (drop at s) = ap bytesOf (d .command) ∙ bytes-at s bytes at (d .known) refl (d .fits) in
+    let here : bytesOf (t .command) ≡ take w (drop at s) = ap bytesOf (d .command) ∙ bytes-at s at bytes (d .known) (d .fits) in
     let long : length (bytesOf (t .command)) ≡ w = ap length here ∙ length-take-le w (drop at s) (simp length-drop (omega arith)) in
     let n : t .next - at ≡ w = omega arith in
     let again : take at s ++ take w (drop at s) ++ drop (at + w) s ≡ s = rw (← take-add at w s) (take-append-drop (at + w) s) in

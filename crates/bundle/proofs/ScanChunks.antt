@@ -3,18 +3,28 @@ use mathlib.Core.Path.{_≡_, refl, sym, _∙_, ap}
 use mathlib.Core.Bool.{Bool, true, false, not, _&&_, and-assoc, and-true}
 use mathlib.Core.List.{List, [], _∷_, _++_, map, map-append, List·Memᴰ, List·Memᴰ·head, List·Memᴰ·tail}
 use Rattle.bundle.specs.Lists.{all, concatMap}
-use Rattle.bundle.specs.Chunks.{Placed, Chunk, commandsOf}
+use Rattle.bundle.specs.Chunks.{Placed, Chunk, fresh, afterCommand, commandsOf}
 use Rattle.bundle.specs.Scan.{start, scanned}
 use Rattle.bundle.specs.declared.chunk.Scan.{Scan}
 use Rattle.bundle.specs.declared.command.Command.{Command}
 use Rattle.bundle.specs.declared.command.Command.the-variants as Com
+use Rattle.bundle.proofs.Delimiters.{closes, on-closes}
 use Rattle.bundle.proofs.Scanning.{passes, uncounted, orderly}
 use Rattle.bundle.proofs.Gathering.{Body, ends, goes, Formed, placedOf, logOf}
 
--- after END the scan stands as at the start
-scan-end : (k : Scan) (rest : List Command) → orderly k (Com.End ∷ rest) ≡ (orderly k (Com.End ∷ []) && orderly start rest)
-unfolding orderly uncounted scanned start
-scan-end k rest = rw and-true
+-- after the end of a chunk the scan stands as at the start
+closed-scan : (k : Scan) (c : Command) → closes c ≡ true → uncounted (scanned k c) ≡ start
+unfolding uncounted scanned start
+closed-scan k c e =
+    rw (
+      on-closes (k .inside) (λ t m. true) false c e,
+      on-closes (k .team) (λ t m. t) 0 c e,
+      on-closes (afterCommand (k .state) c) (λ t m. fresh) fresh c e,
+    )
+
+scan-end : (k : Scan) (c : Command) (rest : List Command) → closes c ≡ true → orderly k (c ∷ rest) ≡ (orderly k (c ∷ []) && orderly start rest)
+unfolding orderly
+scan-end k c rest e = rw (closed-scan k c e) (unfold start in (ap (λ (t : Bool). t && orderly start rest) (sym (and-true (passes k c)))))
 
 scan-body :
     (k : Scan) {ps : List Placed} (rest : List Command)
@@ -22,7 +32,7 @@ scan-body :
     → orderly k (map (λ (p : Placed). p .command) ps ++ rest)
     ≡ (orderly k (map (λ (p : Placed). p .command) ps) && orderly start rest)
 unfolding orderly
-scan-body k rest (ends e) = rw e (scan-end k rest)
+scan-body k rest (ends {p = p} e) = scan-end k (p .command) rest e
 scan-body k rest (goes {p = p} {ps = ps} e b) =
     ap (λ (t : Bool). passes k (p .command) && t) (scan-body (uncounted (scanned k (p .command))) rest b)
     ∙ sym

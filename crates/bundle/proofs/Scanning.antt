@@ -6,23 +6,19 @@ use mathlib.Core.Logic.{_⊎_, inl, inr, ⊎-elim}
 use mathlib.Core.Bool.{Bool, true, false, cond, not, _&&_, _||_}
 use mathlib.Core.List.{List, [], _∷_, _++_, map, List·Permᴰ, List·Permᴰ·nil, List·Permᴰ·cons, List·Permᴰ·swap, List·Permᴰ·trans}
 use native.Mathlib.Omega.{arith}
-use native.Mathlib.Nat.{add-zero}
 use lib.Dec.{eqb, ltb}
 use borrow.Author.Tests.{eqb-true, ltb-false, le-ltb, eq-eqb}
 use Rattle.bundle.specs.Answer.{Answer, gives, refuses, whenGiven}
 use Rattle.bundle.specs.Commands.{inRange}
 use Rattle.bundle.specs.Chunks.{Placed, fresh, afterCommand}
-use Rattle.bundle.specs.Scan.{misplaced, aboveOwnTeam, misusesLock, opensSegment, addsAccess, tooMany, faultOf, start, onward, scanned, finish, walk}
+use Rattle.bundle.specs.Walk.{opensSegment, addsAccess}
+use Rattle.bundle.specs.Scan.{misplaced, aboveOwnTeam, misusesLock, tooMany, faultOf, start, scanned, finish, walk}
+unfoldable pub use Rattle.bundle.specs.Index.{total}
 use Rattle.bundle.specs.declared.chunk.Scan.{Scan}
 use Rattle.bundle.specs.declared.command.Command.{Command}
-use Rattle.bundle.specs.declared.command.Command.the-variants as Com
 use Rattle.bundle.proofs.Tests.{false-is-true, both, and-left, and-right, decide, not-both, is-false, not-of-false, or-false}
 
 -- a sum over a list, and over a permutation of it
-unfoldable pub total : {A : Type 0} → (A → ℕ) → List A → ℕ
-total f [] = 0
-total f (x ∷ xs) = f x + total f xs
-
 pub total-append : {A : Type 0} (f : A → ℕ) (xs ys : List A) → total f (xs ++ ys) ≡ total f xs + total f ys
 unfolding total
 total-append f [] ys = omega arith
@@ -52,14 +48,8 @@ unfolding passes uncounted misplaced
 passes-uncounted k c = refl
 
 scanned-uncounted : (k : Scan) (c : Command) → uncounted (scanned (uncounted k) c) ≡ uncounted (scanned k c)
-unfolding uncounted scanned onward
-scanned-uncounted k (Com.Member t m) = refl
-scanned-uncounted k Com.End = refl
-scanned-uncounted k (Com.Region t z) = refl
-scanned-uncounted k Com.Barrier = refl
-scanned-uncounted k (Com.Acquire l) = refl
-scanned-uncounted k (Com.Release l) = refl
-scanned-uncounted k (Com.Access a) = refl
+unfolding uncounted scanned
+scanned-uncounted k c = refl
 
 pub orderly-uncounted : (k : Scan) (cs : List Command) → orderly (uncounted k) cs ≡ orderly k cs
 unfolding orderly uncounted
@@ -96,51 +86,31 @@ pub orderly-tail : (k : Scan) (c : Command) (cs : List Command) → orderly k (c
 unfolding orderly
 orderly-tail k c cs o = and-right (passes k c) (orderly (uncounted (scanned k c)) cs) o
 
--- the counts after a command
-pub record Counted (k : Scan) (c : Command) : Type 0 where
-  pub segments : scanned k c .segments ≡ k .segments + opensSegment c
-  pub accesses : scanned k c .accesses ≡ k .accesses + addsAccess c
-
-counted : (k : Scan) (c : Command) → Counted k c
-unfolding scanned onward opensSegment addsAccess
-counted k (Com.Member t m) = record { segments = refl; accesses = sym (add-zero (k .accesses)) }
-counted k Com.End = record { segments = sym (add-zero (k .segments)); accesses = sym (add-zero (k .accesses)) }
-counted k (Com.Region t z) = record { segments = refl; accesses = refl }
-counted k Com.Barrier = record { segments = refl; accesses = refl }
-counted k (Com.Acquire l) = record { segments = refl; accesses = refl }
-counted k (Com.Release l) = record { segments = refl; accesses = refl }
-counted k (Com.Access a) = record { segments = refl; accesses = refl }
-
 -- room for these commands within 7's limits
 pub record Room (k : Scan) (cs : List Command) : Type 0 where
   pub segments : k .segments + total opensSegment cs ≤ 512
   pub accesses : k .accesses + total addsAccess cs ≤ 1024
 
 room-tail : (k : Scan) (c : Command) (cs : List Command) → Room k (c ∷ cs) → Room (scanned k c) cs
-unfolding total
-room-tail k c cs r =
-    let n = counted k c in
-    record { segments = omega (arith, n .segments, r .segments); accesses = omega (arith, n .accesses, r .accesses) }
+unfolding total scanned
+room-tail k c cs r = record { segments = omega (arith, r .segments); accesses = omega (arith, r .accesses) }
 
 room-cons : (k : Scan) (c : Command) (cs : List Command) → Room (scanned k c) cs → Room k (c ∷ cs)
-unfolding total
-room-cons k c cs r =
-    let n = counted k c in
-    record { segments = omega (arith, n .segments, r .segments); accesses = omega (arith, n .accesses, r .accesses) }
+unfolding total scanned
+room-cons k c cs r = record { segments = omega (arith, r .segments); accesses = omega (arith, r .accesses) }
 
 none-too-many : (k : Scan) (c : Command) → k .segments + opensSegment c ≤ 512 → k .accesses + addsAccess c ≤ 1024 → tooMany k c ≡ false
 unfolding tooMany
 none-too-many k c g a = rw (le-ltb 512 (k .segments + opensSegment c) g, le-ltb 1024 (k .accesses + addsAccess c) a)
 
 room-one : (k : Scan) (c : Command) → tooMany k c ≡ false → Room (scanned k c) []
-unfolding tooMany total
+unfolding tooMany total scanned
 room-one k c e =
     let s = ltb 512 (k .segments + opensSegment c) in
     let a = ltb 1024 (k .accesses + addsAccess c) in
-    let n = counted k c in
     record {
-      segments = omega (arith, n .segments, ltb-false 512 (k .segments + opensSegment c) (or-false s a e .0));
-      accesses = omega (arith, n .accesses, ltb-false 1024 (k .accesses + addsAccess c) (or-false s a e .1));
+      segments = omega (arith, ltb-false 512 (k .segments + opensSegment c) (or-false s a e .0));
+      accesses = omega (arith, ltb-false 1024 (k .accesses + addsAccess c) (or-false s a e .1));
     }
 
 -- a command with no fault

@@ -10,12 +10,12 @@ use lib.ListN.{length, take, drop, length-append}
 use lib.Seq.{take-append-seam, drop-append-seam}
 use Rattle.bundle.specs.Lists.{concatMap}
 use Rattle.bundle.specs.Commands.{bytesOf}
-use Rattle.bundle.specs.Chunks.{Placed, Chunk, gatherOne, gather, commandsOf, partOf}
+use Rattle.bundle.specs.Chunks.{Placed, Chunk, gather, commandsOf, partOf}
 use Rattle.bundle.specs.declared.command.Command.{Command}
 use Rattle.bundle.specs.declared.command.Command.the-variants as Com
 use Rattle.bundle.proofs.ListLaws.{concatMap-append}
 use Rattle.bundle.proofs.Places.{unplacedCommand, unplaced}
-use Rattle.bundle.proofs.Gathering.{Body, ends, goes, gather-plain, Formed, placedOf, logOf, gather-chunks}
+use Rattle.bundle.proofs.Gathering.{Body, ends, goes, gather-plain, gather-closes, Formed, placedOf, logOf, gather-chunks}
 use Rattle.bundle.proofs.Printing.{printed, placedFrom, commands-placed, placed-append}
 
 -- a chunk at an offset, and chunks one after another from an offset on
@@ -55,12 +55,13 @@ past-placed :
     (at : ℕ) {ps : List Placed}
     → Body ps
     → at + length (printed (map (λ (p : Placed). p .command) ps)) ≡ gather (placedFrom at (map (λ (p : Placed). p .command) ps)) .past
-unfolding placedFrom printed gather gatherOne
-past-placed at (ends e) = rw e (unfold bytesOf in refl)
+unfolding placedFrom printed gather
+past-placed at (ends {p = p} e) =
+    rw (gather-closes (record { at = at; command = p .command }) (gather []) e, append-nil (bytesOf (p .command)))
 past-placed at (goes {p = p} {ps = ps} e b) =
     let w = length (bytesOf (p .command)) in
     let cs = map (λ (q : Placed). q .command) ps in
-    rw (gather-plain (record { at = at; command = p .command }) (p .command) (gather (placedFrom (at + w) cs)) e)
+    rw (gather-plain (record { at = at; command = p .command }) (gather (placedFrom (at + w) cs)) e)
     (rw length-append (sym (add-assoc at w (length (concatMap bytesOf cs))) ∙ past-placed (at + w) b))
 
 formed-settled : (at : ℕ) (c : Chunk) → Formed c → Formed (settled at c)

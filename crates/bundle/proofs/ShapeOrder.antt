@@ -7,15 +7,17 @@ use mathlib.Core.Option.{Option, none, some}
 use lib.Dec.{eqb, ltb, leb}
 use borrow.Author.Tests.{eqb-true}
 use Rattle.bundle.specs.Lists.{upTo, any, all, first, concatMap, fromOption}
-use Rattle.bundle.specs.Chunks.{Placed, Chunk, fresh, afterCommand, afterCommands, commandsOf, isOf, chunkOf}
-use Rattle.bundle.specs.Check.{Fork, forkHere, forksFrom, forksIn, forksOf, forkOf, sizeOf, depthFrom, depthOf, barriersOf, lacksChunk, unlikeFirst}
-use Rattle.bundle.specs.declared.chunk.ChunkState.{ChunkState}
+use Rattle.bundle.specs.Cases.{onRegion}
+use Rattle.bundle.specs.Chunks.{Chunk, fresh, afterCommands, commandsOf, isOf, chunkOf}
+use Rattle.bundle.specs.Walk.{Entry, entriesOf, barriersOf, forkAt, forksIn, forksOf}
+use Rattle.bundle.specs.declared.index.Fork.{Fork}
+use Rattle.bundle.specs.Check.{forkOf, sizeOf, depthFrom, depthOf, lacksChunk, unlikeFirst}
 use Rattle.bundle.specs.declared.command.Command.{Command}
-use Rattle.bundle.specs.declared.command.Command.the-variants as Com
-use Rattle.bundle.proofs.ListLaws.{Distinct, perm-mem, perm-map, perm-concatMap}
+use Rattle.bundle.proofs.ListLaws.{Distinct, perm-mem, perm-map, perm-concatMap, concatMap-along}
+use Rattle.bundle.proofs.Delimiters.{Forking, forks-team, forks-none, forkings, on-other}
 use Rattle.bundle.proofs.Keys.{perm-distinct, perm-any, perm-first, all-same, distinct-key, any-map}
-use Rattle.bundle.proofs.Places.{unplacedCommand, unplaced, memberKey, commandsOf-unplaced}
-use Rattle.bundle.proofs.Shape.{Shaped, isOf-elim}
+use Rattle.bundle.proofs.Places.{unplaced, unplacedEntry, memberKey, commandsOf-unplaced, entries-unplaced}
+use Rattle.bundle.proofs.Shaped.{Shaped, isOf-elim}
 
 -- what follows from the same forks for each team, and the same chunks for each member
 abbrev SameFork : List Fork → List Fork → Type 0
@@ -33,10 +35,10 @@ depth-same (suc fuel) fs gs h t = rw (h t) (go (forkOf gs t) (λ u. depth-same f
     go :
         (o : Option Fork)
         → ((u : ℕ) → depthFrom fuel fs u ≡ depthFrom fuel gs u)
-        → fromOption 0 (λ (f : Fork). suc (depthFrom fuel fs (f .byTeam))) o
-        ≡ fromOption 0 (λ (f : Fork). suc (depthFrom fuel gs (f .byTeam))) o
+        → fromOption 0 (λ (f : Fork). suc (depthFrom fuel fs (f .parent))) o
+        ≡ fromOption 0 (λ (f : Fork). suc (depthFrom fuel gs (f .parent))) o
     go none ih = refl
-    go (some f) ih = ap suc (ih (f .byTeam))
+    go (some f) ih = ap suc (ih (f .parent))
 
 lacks-same : (cs ds : List Chunk) → ((t m : ℕ) → any (isOf t m) cs ≡ any (isOf t m) ds) → (t size : ℕ) → lacksChunk cs t size ≡ lacksChunk ds t size
 unfolding lacksChunk
@@ -94,31 +96,29 @@ shaped-perm {cs} {ds} p s =
 -- without places
 unfoldable pub unplacedFork : Fork → Fork
 unplacedFork f =
-    record { place = 0; team = f .team; size = f .size; byTeam = f .byTeam; byMember = f .byMember; state = f .state }
+    record { place = 0; team = f .team; size = f .size; parent = f .parent; member = f .member; state = f .state }
 
-fork-unplaced : (t m : ℕ) (k : ChunkState) (at : ℕ) (c : Command) (fs : List Fork) → forkHere t m k 0 c (map unplacedFork fs) ≡ map unplacedFork (forkHere t m k at c fs)
-unfolding forkHere unplacedFork
-fork-unplaced t m k at (Com.Member u i) fs = refl
-fork-unplaced t m k at Com.End fs = refl
-fork-unplaced t m k at (Com.Region u z) fs = refl
-fork-unplaced t m k at Com.Barrier fs = refl
-fork-unplaced t m k at (Com.Acquire l) fs = refl
-fork-unplaced t m k at (Com.Release l) fs = refl
-fork-unplaced t m k at (Com.Access a) fs = refl
+fork-unplaced : (t m : ℕ) (e : Entry) → forkAt t m (unplacedEntry e) ≡ map unplacedFork (forkAt t m e)
+unfolding forkAt unplacedEntry unplacedFork
+fork-unplaced t m e = go (e .command) (forkings (e .command))
+  where
+    at : ℕ → Command → List Fork
+    at place c = onRegion [] (λ u z. record { place = place; team = u; size = z; parent = t; member = m; state = e .state } ∷ []) c
 
-forks-from-unplaced : (t m : ℕ) (k : ChunkState) (ps : List Placed) → forksFrom t m k (map unplacedCommand ps) ≡ map unplacedFork (forksFrom t m k ps)
-unfolding forksFrom unplacedCommand
-forks-from-unplaced t m k [] = refl
-forks-from-unplaced t m k (p ∷ ps) =
-    ap (forkHere t m k 0 (p .command)) (forks-from-unplaced t m (afterCommand k (p .command)) ps)
-    ∙ fork-unplaced t m k (p .at) (p .command) (forksFrom t m (afterCommand k (p .command)) ps)
+    go : (c : Command) → Forking c → at 0 c ≡ map unplacedFork (at (e .at) c)
+    go c (forks-team u z) = refl
+    go c (forks-none h) = rw (on-other {A = List Fork} [] (λ u z. record { place = 0; team = u; size = z; parent = t; member = m; state = e .state } ∷ []) c h, on-other {A = List Fork} [] (λ u z. record { place = e .at; team = u; size = z; parent = t; member = m; state = e .state } ∷ []) c h)
+
+forks-in-unplaced : (c : Chunk) → forksIn (unplaced c) ≡ map unplacedFork (forksIn c)
+unfolding forksIn
+forks-in-unplaced c =
+    ap (concatMap (forkAt (unplaced c .team) (unplaced c .member))) (entries-unplaced c)
+    ∙ unfold unplaced in
+    (concatMap-along (forkAt (c .team) (c .member)) unplacedEntry unplacedFork (fork-unplaced (c .team) (c .member)) (entriesOf c))
 
 pub forks-unplaced : (cs : List Chunk) → forksOf (map unplaced cs) ≡ map unplacedFork (forksOf cs)
-unfolding forksOf forksIn unplaced
-forks-unplaced [] = refl
-forks-unplaced (c ∷ cs) =
-    rw (forks-from-unplaced (c .team) (c .member) fresh (c .body), forks-unplaced cs)
-    (sym (map-append unplacedFork (forksFrom (c .team) (c .member) fresh (c .body)) (concatMap forksIn cs)))
+unfolding forksOf
+forks-unplaced cs = concatMap-along forksIn unplaced unplacedFork forks-in-unplaced cs
 
 mapOption : {A B : Type 0} → (A → B) → Option A → Option B
 mapOption g none = none
@@ -151,10 +151,10 @@ depth-unplaced (suc fuel) fs t =
     go :
         (o : Option Fork)
         → ((u : ℕ) → depthFrom fuel (map unplacedFork fs) u ≡ depthFrom fuel fs u)
-        → fromOption 0 (λ (f : Fork). suc (depthFrom fuel (map unplacedFork fs) (f .byTeam))) (mapOption unplacedFork o)
-        ≡ fromOption 0 (λ (f : Fork). suc (depthFrom fuel fs (f .byTeam))) o
+        → fromOption 0 (λ (f : Fork). suc (depthFrom fuel (map unplacedFork fs) (f .parent))) (mapOption unplacedFork o)
+        ≡ fromOption 0 (λ (f : Fork). suc (depthFrom fuel fs (f .parent))) o
     go none ih = refl
-    go (some f) ih = ap suc (ih (f .byTeam))
+    go (some f) ih = ap suc (ih (f .parent))
 
 any-unplaced : (cs : List Chunk) (t m : ℕ) → any (isOf t m) (map unplaced cs) ≡ any (isOf t m) cs
 unfolding isOf unplaced

@@ -8,43 +8,12 @@ use lib.ListN.{length}
 use lib.Dec.{eqb, ltb, leb}
 use Rattle.bundle.specs.Answer.{Answer, gives, refuses, whenGiven, numberOf}
 use Rattle.bundle.specs.Lists.{upTo, any, all, first, backToBack, concatMap, fromOption}
-use Rattle.bundle.specs.Chunks.{Placed, Chunk, fresh, afterCommand, afterCommands, chunksOf, commandsOf, partOf, isOf, chunkOf}
+use Rattle.bundle.specs.Chunks.{Chunk, chunksOf, partOf, isOf, chunkOf}
+unfoldable pub use Rattle.bundle.specs.Walk.{forksIn, forksOf, barriersOf}
+pub use Rattle.bundle.specs.declared.index.Fork.{Fork}
 use Rattle.bundle.specs.Scan.{scanOf}
-use Rattle.bundle.specs.declared.check.Checking.{Checking}
-use Rattle.bundle.specs.declared.check.Checking.the-variants as Checks
-use Rattle.bundle.specs.declared.chunk.ChunkState.{ChunkState}
-use Rattle.bundle.specs.declared.command.Command.{Command}
-use Rattle.bundle.specs.declared.command.Command.the-variants as Com
-
--- a REGION: its offset, the team that it forks and that team's size, and the member that forks it, in the state before it
-pub record Fork : Type 0 where
-  pub place : ℕ
-  pub team : ℕ
-  pub size : ℕ
-  pub byTeam : ℕ
-  pub byMember : ℕ
-  pub state : ChunkState
-
-unfoldable pub forkHere : ℕ → ℕ → ChunkState → ℕ → Command → List Fork → List Fork
-forkHere t m k at (Com.Member u i) rest = rest
-forkHere t m k at Com.End rest = rest
-forkHere t m k at (Com.Region u z) rest =
-    record { place = at; team = u; size = z; byTeam = t; byMember = m; state = k } ∷ rest
-forkHere t m k at Com.Barrier rest = rest
-forkHere t m k at (Com.Acquire l) rest = rest
-forkHere t m k at (Com.Release l) rest = rest
-forkHere t m k at (Com.Access a) rest = rest
-
-unfoldable pub forksFrom : ℕ → ℕ → ChunkState → List Placed → List Fork
-forksFrom t m k [] = []
-forksFrom t m k (p ∷ ps) = forkHere t m k (p .at) (p .command) (forksFrom t m (afterCommand k (p .command)) ps)
-
-unfoldable pub forksIn : Chunk → List Fork
-forksIn c = forksFrom (c .team) (c .member) fresh (c .body)
-
--- the bundle's REGIONs in the order of the bytes
-unfoldable pub forksOf : List Chunk → List Fork
-forksOf cs = concatMap forksIn cs
+use Rattle.bundle.specs.declared.answer.Checking.{Checking}
+use Rattle.bundle.specs.declared.answer.Checking.the-variants as Checks
 
 -- the REGION that forks a team
 unfoldable pub forkOf : List Fork → ℕ → Option Fork
@@ -57,13 +26,10 @@ sizeOf fs t = cond (eqb t 0) 1 (fromOption 0 (λ (f : Fork). f .size) (forkOf fs
 -- the number of REGIONs climbed from a team to the root; the team number falls at each
 unfoldable pub depthFrom : ℕ → List Fork → ℕ → ℕ
 depthFrom zero fs t = 0
-depthFrom (suc fuel) fs t = fromOption 0 (λ (f : Fork). suc (depthFrom fuel fs (f .byTeam))) (forkOf fs t)
+depthFrom (suc fuel) fs t = fromOption 0 (λ (f : Fork). suc (depthFrom fuel fs (f .parent))) (forkOf fs t)
 
 unfoldable pub depthOf : List Fork → ℕ → ℕ
 depthOf fs t = depthFrom (suc t) fs t
-
-unfoldable pub barriersOf : Chunk → ℕ
-barriersOf c = afterCommands fresh (commandsOf c) .barriers
 
 -- the places, in the order of the bytes, of the elements that fail a test; the test sees the elements before too
 unfoldable pub failing : {A : Type 0} → (A → ℕ) → (List A → A → Bool) → List A → List A → List ℕ
@@ -113,7 +79,7 @@ checkOf s = cond (ltb 65536 (length s)) (refuses 1 0) (whenGiven (scanOf s) (λ 
 -- what the answer of the code says
 abbrev pub checkingOf : Checking → Answer (Unit {0})
 checkingOf Checks.Accepted = gives tt
-checkingOf (Checks.Refused cause place) = refuses (numberOf cause) place
+checkingOf (Checks.Refused place cause) = refuses (numberOf cause) place
 
 -- "Find a member's chunk": as check, then 14 none such, at 0
 unfoldable pub findOf : List ℕ → ℕ → ℕ → Answer (List ℕ)

@@ -8,7 +8,8 @@ use lib.Dec.{eqb, leb}
 use Rattle.bundle.specs.Answer.{Answer, gives, refuses}
 use Rattle.bundle.specs.Lists.{first, concatMap}
 use Rattle.bundle.specs.Locks.{acquired, released}
-use Rattle.bundle.specs.Commands.{Taken, decodeAt}
+use Rattle.bundle.specs.Commands.{Taken, decodeAt, bytesOf}
+use Rattle.bundle.specs.Cases.{onDelimiter}
 use Rattle.bundle.specs.declared.chunk.ChunkState.{ChunkState}
 use Rattle.bundle.specs.declared.command.Command.{Command}
 use Rattle.bundle.specs.declared.command.Command.the-variants as Com
@@ -41,10 +42,6 @@ afterCommand k (Com.Access a) = k
 unfoldable pub afterCommands : ChunkState → List Command → ChunkState
 afterCommands k [] = k
 afterCommands k (c ∷ cs) = afterCommands (afterCommand k c) cs
-
--- "MEMBER, REGION and BARRIER each open a segment, numbered from 0 in the chunk": the number of the segment that is open in this state
-unfoldable pub segmentNumber : ChunkState → ℕ
-segmentNumber k = k .barriers + k .regions
 
 -- a command and its offset in the bundle
 pub record Placed : Type 0 where
@@ -89,23 +86,22 @@ pub record Gathered : Type 0 where
   pub past : ℕ
   pub chunks : List Chunk
 
-unfoldable pub gatherOne : Placed → Command → Gathered → Gathered
-gatherOne p (Com.Member t m) g =
+unfoldable pub gatherOne : Placed → Gathered → Gathered
+gatherOne p g =
+    onDelimiter
+    (record { body = p ∷ g .body; past = g .past; chunks = g .chunks })
+    (λ t m.
     record {
       body = [];
       past = 0;
       chunks = record { place = p .at; team = t; member = m; body = g .body; past = g .past } ∷ g .chunks;
-    }
-gatherOne p Com.End g = record { body = p ∷ []; past = p .at + 1; chunks = g .chunks }
-gatherOne p (Com.Region t z) g = record { body = p ∷ g .body; past = g .past; chunks = g .chunks }
-gatherOne p Com.Barrier g = record { body = p ∷ g .body; past = g .past; chunks = g .chunks }
-gatherOne p (Com.Acquire l) g = record { body = p ∷ g .body; past = g .past; chunks = g .chunks }
-gatherOne p (Com.Release l) g = record { body = p ∷ g .body; past = g .past; chunks = g .chunks }
-gatherOne p (Com.Access a) g = record { body = p ∷ g .body; past = g .past; chunks = g .chunks }
+    })
+    (record { body = p ∷ []; past = p .at + length (bytesOf (p .command)); chunks = g .chunks })
+    (p .command)
 
 unfoldable pub gather : List Placed → Gathered
 gather [] = record { body = []; past = 0; chunks = [] }
-gather (p ∷ ps) = gatherOne p (p .command) (gather ps)
+gather (p ∷ ps) = gatherOne p (gather ps)
 
 unfoldable pub chunksOf : List ℕ → List Chunk
 chunksOf s = gather (frontOf s .placed) .chunks

@@ -1,10 +1,12 @@
 -- Commands as bytes: "One byte, then operands of fixed width, low byte first", their ranges, reading and putting.
-use Prim.Native.Nat.{ℕ, zero, suc, _+_, _-_, _*_, _/_, _%_, _<_}
+use Prim.Native.Nat.{ℕ, zero, suc, _+_, _-_, _*_, _/_, _%_, _^_, _<_}
 use mathlib.Core.Bool.{Bool, true, false, cond, _&&_, _||_}
 use mathlib.Core.List.{List, [], _∷_, _++_}
+use mathlib.Core.Option.{Option, none, some}
 use lib.ListN.{length, getD, take, drop}
 use lib.Dec.{eqb, ltb, leb}
 use Rattle.bundle.specs.Answer.{Answer, gives, refuses, whenGiven, numberOf}
+use Rattle.bundle.specs.Lists.{fromOption}
 use Rattle.bundle.specs.declared.command.AccessKind.{AccessKind}
 use Rattle.bundle.specs.declared.command.AccessKind.the-variants as Kind
 use Rattle.bundle.specs.declared.command.Range.{Range}
@@ -39,61 +41,86 @@ byteOf Kind.Write = 0x31
 byteOf Kind.AtomicRead = 0x32
 byteOf Kind.AtomicWrite = 0x33
 
--- how many bytes the command with this first byte has, operands included; 0 for an unknown command byte
-unfoldable pub widthOf : ℕ → ℕ
-widthOf b =
-    cond (eqb b 0x01) 4
-    (cond (eqb b 0x02) 1
-    (cond (eqb b 0x10) 4
-    (cond (eqb b 0x11) 1
-    (cond (eqb b 0x20) 2
-    (cond (eqb b 0x21) 2
-    (cond (leb 0x30 b && ltb b 0x34) 12 0))))))
+-- what a command byte says: the widths of the operands in bytes, and the command that operands make
+pub record Form : Type 0 where
+  pub widths : List ℕ
+  pub command : List ℕ → Command
+
+-- .. where x k is operand number k from 0
+abbrev pub form : List ℕ → ((ℕ → ℕ) → Command) → Option Form
+form widths command = some (record { widths = widths; command = λ operands. command (λ k. getD operands k 0) })
 
 -- site (2), base (4), stride (2), count (2), size (1)
-unfoldable pub accessAt : List ℕ → ℕ → ℕ → Access
-accessAt s at b =
+abbrev pub accessWidths : List ℕ
+accessWidths = 2 ∷ 4 ∷ 2 ∷ 2 ∷ 1 ∷ []
+
+abbrev pub accessOf : AccessKind → (ℕ → ℕ) → Command
+accessOf kind x =
+    Com.Access (record { kind = kind; site = x 0; range = record { base = x 1; stride = x 2; count = x 3; size = x 4 } })
+
+abbrev pub accessForm : AccessKind → Option Form
+accessForm kind = form accessWidths (accessOf kind)
+
+-- each command's byte, the widths of its operands, and the command; none for an unknown command byte
+unfoldable pub formOf : ℕ → Option Form
+formOf b =
+    cond (eqb b 0x01) (form (2 ∷ 1 ∷ []) (λ x. Com.Member (x 0) (x 1)))
+    (cond (eqb b 0x02) (form [] (λ x. Com.End))
+    (cond (eqb b 0x10) (form (2 ∷ 1 ∷ []) (λ x. Com.Region (x 0) (x 1)))
+    (cond (eqb b 0x11) (form [] (λ x. Com.Barrier))
+    (cond (eqb b 0x20) (form (1 ∷ []) (λ x. Com.Acquire (x 0)))
+    (cond (eqb b 0x21) (form (1 ∷ []) (λ x. Com.Release (x 0)))
+    (cond (leb 0x30 b && ltb b 0x34) (accessForm (kindOf b)) none))))))
+
+-- the other way round: a command's byte and its operands
+pub record Code : Type 0 where
+  pub byte : ℕ
+  pub operands : List ℕ
+
+unfoldable pub codeOf : Command → Code
+codeOf (Com.Member t m) = record { byte = 0x01; operands = t ∷ m ∷ [] }
+codeOf Com.End = record { byte = 0x02; operands = [] }
+codeOf (Com.Region t z) = record { byte = 0x10; operands = t ∷ z ∷ [] }
+codeOf Com.Barrier = record { byte = 0x11; operands = [] }
+codeOf (Com.Acquire l) = record { byte = 0x20; operands = l ∷ [] }
+codeOf (Com.Release l) = record { byte = 0x21; operands = l ∷ [] }
+codeOf (Com.Access a) =
     record {
-      kind = kindOf b;
-      site = numberAt 2 s (at + 1);
-      range =
-          record {
-            base = numberAt 4 s (at + 3);
-            stride = numberAt 2 s (at + 7);
-            count = numberAt 2 s (at + 9);
-            size = numberAt 1 s (at + 11);
-          };
+      byte = byteOf (a .kind);
+      operands = a .site ∷ a .range .base ∷ a .range .stride ∷ a .range .count ∷ a .range .size ∷ [];
     }
 
--- the command with the first byte b at a position, with operands of any value
+-- how many bytes the command with this first byte has, operands included; 0 for an unknown command byte
+unfoldable pub sum : List ℕ → ℕ
+sum [] = 0
+sum (w ∷ ws) = w + sum ws
+
+unfoldable pub widthOf : ℕ → ℕ
+widthOf b = fromOption 0 (λ f. suc (sum (f .widths))) (formOf b)
+
+unfoldable pub widthsOf : ℕ → List ℕ
+widthsOf b = fromOption [] (λ f. f .widths) (formOf b)
+
+-- operands of these widths, one behind the other: those that stand at a position and offset, and the bytes of given ones
+unfoldable pub operandsFrom : List ℕ → ℕ → ℕ → List ℕ → List ℕ
+operandsFrom s at offset [] = []
+operandsFrom s at offset (w ∷ ws) = numberAt w s (at + offset) ∷ operandsFrom s at (offset + w) ws
+
+unfoldable pub operandBytes : List ℕ → List ℕ → List ℕ
+operandBytes [] xs = []
+operandBytes (w ∷ ws) [] = []
+operandBytes (w ∷ ws) (x ∷ xs) = lowFirst w x ++ operandBytes ws xs
+
+-- the command with the first byte b at a position, with operands of any value (END where b is unknown)
 unfoldable pub commandAt : List ℕ → ℕ → ℕ → Command
-commandAt s at b =
-    cond (eqb b 0x01) (Com.Member (numberAt 2 s (at + 1)) (numberAt 1 s (at + 3)))
-    (cond (eqb b 0x02) Com.End
-    (cond (eqb b 0x10) (Com.Region (numberAt 2 s (at + 1)) (numberAt 1 s (at + 3)))
-    (cond (eqb b 0x11) Com.Barrier
-    (cond (eqb b 0x20) (Com.Acquire (numberAt 1 s (at + 1)))
-    (cond (eqb b 0x21) (Com.Release (numberAt 1 s (at + 1)))
-    (Com.Access (accessAt s at b)))))))
+commandAt s at b = fromOption Com.End (λ f. f .command (operandsFrom s at 1 (f .widths))) (formOf b)
 
 -- the command's bytes
 unfoldable pub bytesOf : Command → List ℕ
-bytesOf (Com.Member t m) = 0x01 ∷ lowFirst 2 t ++ lowFirst 1 m
-bytesOf Com.End = 0x02 ∷ []
-bytesOf (Com.Region t z) = 0x10 ∷ lowFirst 2 t ++ lowFirst 1 z
-bytesOf Com.Barrier = 0x11 ∷ []
-bytesOf (Com.Acquire l) = 0x20 ∷ lowFirst 1 l
-bytesOf (Com.Release l) = 0x21 ∷ lowFirst 1 l
-bytesOf (Com.Access a) =
-    byteOf (a .kind)
-    ∷ lowFirst 2 (a .site)
-    ++ lowFirst 4 (a .range .base)
-    ++ lowFirst 2 (a .range .stride)
-    ++ lowFirst 2 (a .range .count)
-    ++ lowFirst 1 (a .range .size)
+bytesOf c = codeOf c .byte ∷ operandBytes (widthsOf (codeOf c .byte)) (codeOf c .operands)
 
--- the ranges of document 01, with the operands' widths. A range of bytes: count at least 1; stride 0 exactly when count
--- is 1; size 1, 2, 4 or 8; last byte at most 4,294,967,295
+-- the ranges of document 01. A range of bytes: count at least 1; stride 0 exactly when count is 1; size 1, 2, 4 or 8; last
+-- byte at most 4,294,967,295
 unfoldable pub sizeOk : ℕ → Bool
 sizeOk z = eqb z 1 || eqb z 2 || eqb z 4 || eqb z 8
 
@@ -109,18 +136,27 @@ rangeOk r =
     && strideOk (r .stride) (r .count)
     && sizeOk (r .size)
     && leb (lastByte r) 4294967295
-    && ltb (r .stride) 65536
-    && ltb (r .count) 65536
 
 -- member 0 to 63; team size 1 to 64; REGION's team not 0; lock 0 to 63
+unfoldable pub operandsOk : Command → Bool
+operandsOk (Com.Member t m) = ltb m 64
+operandsOk Com.End = true
+operandsOk (Com.Region t z) = leb 1 t && leb 1 z && leb z 64
+operandsOk Com.Barrier = true
+operandsOk (Com.Acquire l) = ltb l 64
+operandsOk (Com.Release l) = ltb l 64
+operandsOk (Com.Access a) = rangeOk (a .range)
+
+-- whether operands fit these widths
+unfoldable pub fitWidths : List ℕ → List ℕ → Bool
+fitWidths [] [] = true
+fitWidths [] (x ∷ xs) = false
+fitWidths (w ∷ ws) [] = false
+fitWidths (w ∷ ws) (x ∷ xs) = ltb x (256 ^ w) && fitWidths ws xs
+
+-- every operand in its range, and within its width
 unfoldable pub inRange : Command → Bool
-inRange (Com.Member t m) = ltb t 65536 && ltb m 64
-inRange Com.End = true
-inRange (Com.Region t z) = leb 1 t && ltb t 65536 && leb 1 z && leb z 64
-inRange Com.Barrier = true
-inRange (Com.Acquire l) = ltb l 64
-inRange (Com.Release l) = ltb l 64
-inRange (Com.Access a) = ltb (a .site) 65536 && rangeOk (a .range)
+inRange c = fitWidths (widthsOf (codeOf c .byte)) (codeOf c .operands) && operandsOk c
 
 -- a command, and the position after it
 pub record Taken : Type 0 where
@@ -164,9 +200,9 @@ putAt command buffer at =
 
 -- what the answers of the code say, in document 01's numbers and values
 abbrev pub readingOf : Reading → Answer Taken
-readingOf (Read.Taken command next) = gives (record { command = command; next = next })
-readingOf (Read.Refused cause place) = refuses (numberOf cause) place
+readingOf (Read.Taken next command) = gives (record { command = command; next = next })
+readingOf (Read.Refused place cause) = refuses (numberOf cause) place
 
 abbrev pub puttingOf : Putting → Answer ℕ
 puttingOf (Put.Written next) = gives next
-puttingOf (Put.Refused cause place) = refuses (numberOf cause) place
+puttingOf (Put.Refused place cause) = refuses (numberOf cause) place

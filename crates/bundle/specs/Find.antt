@@ -1,19 +1,17 @@
--- Find a member's chunk: where it begins and ends, and how the code finds that by the rows of the chunks.
-use Prim.Native.Nat.{ℕ, zero, suc, _+_, _≤_}
+-- Find a member's chunk: where it begins and ends; and what the index of a bundle gives.
+use Prim.Native.Nat.{ℕ}
 use mathlib.Core.Path.{_≡_}
-use mathlib.Core.Bool.{Bool, true, false, cond}
-use mathlib.Core.List.{List, [], _∷_, map}
-use lib.ListN.{length, take, drop}
+use mathlib.Core.List.{List, []}
 use Rattle.bundle.specs.Answer.{Answer, gives, refuses, whenGiven, numberOf}
-use Rattle.bundle.specs.Lists.{fromOption}
+use Rattle.bundle.specs.Lists.{first, fromOption}
 use Rattle.bundle.specs.Chunks.{Chunk, chunksOf, chunkOf}
 use Rattle.bundle.specs.Check.{checkOf}
-use Rattle.bundle.specs.Rows.{rowsOf, chunkRow, isRow}
-use Rattle.bundle.specs.declared.rows.Row.{Row}
-use Rattle.bundle.specs.declared.check.Checking.{Checking}
-use Rattle.bundle.specs.declared.check.Checking.the-variants as Checks
-use Rattle.bundle.specs.declared.check.Checked.{Checked}
-use Rattle.bundle.specs.declared.check.Checked.the-variants as Checkeds
+use Rattle.bundle.specs.Index.{isRow, Indexed}
+use Rattle.bundle.specs.declared.index.ChunkRow.{ChunkRow}
+use Rattle.bundle.specs.declared.answer.Checking.{Checking}
+use Rattle.bundle.specs.declared.answer.Checking.the-variants as Checks
+use Rattle.bundle.specs.declared.check.Indexing.{Indexing}
+use Rattle.bundle.specs.declared.check.Indexing.the-variants as Indexings
 use Rattle.bundle.specs.declared.check.Found.{Found}
 use Rattle.bundle.specs.declared.check.Found.the-variants as Founds
 
@@ -29,31 +27,21 @@ endsOf s t m =
 
 abbrev pub foundOf : Found → Answer Ends
 foundOf (Founds.At start end) = gives (record { start = start; end = end })
-foundOf (Founds.Refused cause place) = refuses (numberOf cause) place
+foundOf (Founds.Refused place cause) = refuses (numberOf cause) place
 
--- a chunk ends where the next begins, the last at the bundle's end
-unfoldable pub nextPlace : List Row → ℕ → ℕ
-nextPlace [] end = end
-nextPlace (r ∷ rs) end = r .place
+-- by the rows of the chunks
+unfoldable pub endsByRows : List ChunkRow → ℕ → ℕ → Answer Ends
+endsByRows rs t m =
+    fromOption (refuses 14 0) (λ (r : ChunkRow). gives (record { start = r .place; end = r .past })) (first (isRow t m) rs)
 
-unfoldable pub endsByRows : List Row → ℕ → ℕ → ℕ → Answer Ends
-endsByRows [] end t m = refuses 14 0
-endsByRows (r ∷ rs) end t m =
-    cond (isRow t m r) (gives (record { start = r .place; end = nextPlace rs end })) (endsByRows rs end t m)
+-- a bundle that is refused, or accepted with its rows in the tables
+abbrev pub indexedAs : ℕ → ℕ → Checking → Indexing
+indexedAs n m Checks.Accepted = Indexings.Accepted n m
+indexedAs n m (Checks.Refused place cause) = Indexings.Refused place cause
 
--- the check with the rows of the chunks
-abbrev pub countedIn : ℕ → Checking → Checked
-countedIn n Checks.Accepted = Checkeds.Accepted n
-countedIn n (Checks.Refused cause place) = Checkeds.Refused cause place
-
-pub record AcceptedRows (s : List ℕ) (n : ℕ) (table : List ℕ) : Type 0 where
-  pub accepted : checkOf s ≡ gives tt
-  pub within : n ≤ length table
-  pub rows : rowsOf (take n table) ≡ map chunkRow (chunksOf s)
-
-abbrev pub CheckedRows : List ℕ → Checked → List ℕ → Type 0
-CheckedRows s (Checkeds.Accepted n) table = AcceptedRows s n table
-CheckedRows s (Checkeds.Refused cause place) table = checkOf s ≡ refuses (numberOf cause) place
+abbrev pub IndexedAs : List ℕ → Indexing → List ℕ → List ℕ → Type 0
+IndexedAs s (Indexings.Accepted n m) chunks forks = Indexed s n m chunks forks
+IndexedAs s (Indexings.Refused place cause) chunks forks = checkOf s ≡ refuses (numberOf cause) place
 
 -- a part handed back with its refusal beside it: 0 at 0 for none
 pub record HandedBack : Type 0 where

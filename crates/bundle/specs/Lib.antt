@@ -4,9 +4,12 @@ pub mod Lists
 pub mod Commands
 pub mod Inner
 pub mod Locks
+pub mod Cases
 pub mod Chunks
+pub mod Walk
 pub mod Scan
 pub mod Check
-pub mod Rows
+pub mod Index
+pub mod Shape
 pub mod Survey
 pub mod Find

@@ -6,19 +6,15 @@ use lib.Dec.{eqb, ltb, leb}
 use Rattle.bundle.specs.Answer.{Answer, gives, refuses, whenGiven}
 use Rattle.bundle.specs.Locks.{holds}
 use Rattle.bundle.specs.Commands.{inRange}
+use Rattle.bundle.specs.Cases.{onDelimiter, onRegion}
 use Rattle.bundle.specs.Chunks.{Placed, Front, fresh, afterCommand, frontOf}
+unfoldable pub use Rattle.bundle.specs.Walk.{opensSegment, addsAccess}
 use Rattle.bundle.specs.declared.chunk.Scan.{Scan}
 use Rattle.bundle.specs.declared.command.Command.{Command}
 use Rattle.bundle.specs.declared.command.Command.the-variants as Com
 
 unfoldable pub isMember : Command → Bool
-isMember (Com.Member t m) = true
-isMember Com.End = false
-isMember (Com.Region t z) = false
-isMember Com.Barrier = false
-isMember (Com.Acquire l) = false
-isMember (Com.Release l) = false
-isMember (Com.Access a) = false
+isMember = onDelimiter false (λ t m. true) false
 
 -- 4: not MEMBER outside a chunk, MEMBER inside one
 unfoldable pub misplaced : Scan → Command → Bool
@@ -26,13 +22,7 @@ misplaced k c = cond (isMember c) (k .inside) (not (k .inside))
 
 -- 5: the operands' ranges, and the own-team rule: "A REGION's team number is greater than that of the chunk it stands in"
 unfoldable pub aboveOwnTeam : ℕ → Command → Bool
-aboveOwnTeam own (Com.Member t m) = true
-aboveOwnTeam own Com.End = true
-aboveOwnTeam own (Com.Region t z) = ltb own t
-aboveOwnTeam own Com.Barrier = true
-aboveOwnTeam own (Com.Acquire l) = true
-aboveOwnTeam own (Com.Release l) = true
-aboveOwnTeam own (Com.Access a) = true
+aboveOwnTeam own = onRegion true (λ t z. ltb own t)
 
 -- 6: a held lock acquired, an unheld one released, or one held at END
 unfoldable pub misusesLock : ℕ → Command → Bool
@@ -43,25 +33,6 @@ misusesLock locks Com.Barrier = false
 misusesLock locks (Com.Acquire l) = holds l locks
 misusesLock locks (Com.Release l) = not (holds l locks)
 misusesLock locks (Com.Access a) = false
-
--- how many segments and accesses a command adds: "MEMBER, REGION and BARRIER each open a segment"
-unfoldable pub opensSegment : Command → ℕ
-opensSegment (Com.Member t m) = 1
-opensSegment Com.End = 0
-opensSegment (Com.Region t z) = 1
-opensSegment Com.Barrier = 1
-opensSegment (Com.Acquire l) = 0
-opensSegment (Com.Release l) = 0
-opensSegment (Com.Access a) = 0
-
-unfoldable pub addsAccess : Command → ℕ
-addsAccess (Com.Member t m) = 0
-addsAccess Com.End = 0
-addsAccess (Com.Region t z) = 0
-addsAccess Com.Barrier = 0
-addsAccess (Com.Acquire l) = 0
-addsAccess (Com.Release l) = 0
-addsAccess (Com.Access a) = 1
 
 -- 7: the 513th segment or 1,025th access
 unfoldable pub tooMany : Scan → Command → Bool
@@ -78,26 +49,16 @@ faultOf k c =
 unfoldable pub start : Scan
 start = record { inside = false; team = 0; state = fresh; segments = 0; accesses = 0 }
 
-unfoldable pub onward : Scan → Command → Scan
-onward k c =
+-- the scan after a command
+unfoldable pub scanned : Scan → Command → Scan
+scanned k c =
     record {
-      inside = k .inside;
-      team = k .team;
-      state = afterCommand (k .state) c;
+      inside = onDelimiter (k .inside) (λ t m. true) false c;
+      team = onDelimiter (k .team) (λ t m. t) 0 c;
+      state = onDelimiter (afterCommand (k .state) c) (λ t m. fresh) fresh c;
       segments = k .segments + opensSegment c;
       accesses = k .accesses + addsAccess c;
     }
-
--- the scan after a command
-unfoldable pub scanned : Scan → Command → Scan
-scanned k (Com.Member t m) =
-    record { inside = true; team = t; state = fresh; segments = k .segments + 1; accesses = k .accesses }
-scanned k Com.End = record { inside = false; team = 0; state = fresh; segments = k .segments; accesses = k .accesses }
-scanned k (Com.Region t z) = onward k (Com.Region t z)
-scanned k Com.Barrier = onward k Com.Barrier
-scanned k (Com.Acquire l) = onward k (Com.Acquire l)
-scanned k (Com.Release l) = onward k (Com.Release l)
-scanned k (Com.Access a) = onward k (Com.Access a)
 
 -- 4: the bundle ending inside a chunk, at its length
 unfoldable pub finish : Scan → ℕ → Answer Scan

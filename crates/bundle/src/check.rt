@@ -1,64 +1,58 @@
-// Check a bundle, and find a member's chunk.
+// Check a bundle, its index, and a member's chunk.
+use crate::answer::Checking;
+use crate::index::chunk_at;
+use crate::index::chunk_of;
 use crate::refusal::Cause;
-use crate::rows::index_of;
-use crate::rows::unpack;
-use crate::structure::shape;
+use crate::shape::shape;
 use crate::survey::Survey;
 use crate::survey::survey_all;
 ghost use mathlib.Core.Path.{_≡_};
-ghost use lib.ListN.{length, drop};
 ghost use Rattle.bundle.specs.Check.{checkOf, checkingOf, findOf};
-ghost use Rattle.bundle.specs.Rows.{rowsOf};
-ghost use Rattle.bundle.specs.Find.{foundOf, endsByRows, nextPlace, CheckedRows, countedIn, endsOf, handedBack};
+ghost use Rattle.bundle.specs.Index.{table, chunkRowAt};
+ghost use Rattle.bundle.specs.Find.{foundOf, indexedAs, IndexedAs, endsByRows, endsOf, handedBack};
 
-// What checking a bundle gives.
-pub enum Checking {
-    Accepted,
-    Refused { cause: Cause, place: usize },
-}
-
-// The same with the number of chunks, whose rows are in a table.
-enum Checked {
-    Accepted(usize),
-    Refused { cause: Cause, place: usize },
+// What indexing a bundle gives: the number of its chunks and of its REGIONs, whose rows are in the tables.
+pub enum Indexing {
+    Accepted { chunks: u32, forks: u32 },
+    Refused { place: usize, cause: Cause },
 }
 
 // What finding a chunk gives.
 pub enum Found {
     // The offset of its MEMBER, and the offset after its END.
     At { start: usize, end: usize },
-    Refused { cause: Cause, place: usize },
+    Refused { place: usize, cause: Cause },
 }
 
-fn count_in(count: usize, checking: Checking) -> Checked
-    ensures { λ r. ⌜ r ≡ countedIn count checking ⌝ }
+fn count_in(chunks: u32, forks: u32, checking: Checking) -> Indexing
+    ensures { λ r. ⌜ r ≡ indexedAs chunks forks checking ⌝ }
 {
     match checking {
-        Checking::Accepted => Checked::Accepted(count),
-        Checking::Refused { cause, place } => Checked::Refused { cause, place },
+        Checking::Accepted => Indexing::Accepted { chunks, forks },
+        Checking::Refused { place, cause } => Indexing::Refused { place, cause },
     }
 }
 
-fn check_into(bytes: &[u8], chunks: &mut [u64]) -> Checked
-    requires { ⌜ length (now chunks) ≡ 512 ⌝ }
-    ensures { λ r. ⌜ CheckedRows (now (bytes .entry)) r (now (chunks .exit)) ⌝ }
+// Checks a bundle, and fills its index: two words for a chunk, three for a REGION. Refused, the words hold what was met so far.
+pub fn index_bundle(bytes: &[u8], chunks: &mut [u64; 1024], forks: &mut [u64; 1536]) -> Indexing
+    ensures { λ r. ⌜ IndexedAs (now (bytes .entry)) r (now (chunks .exit)) (now (forks .exit)) ⌝ }
 {
     if 65536 < bytes.len() {
-        return Checked::Refused {
-            cause: Cause::BundleTooLong,
+        return Indexing::Refused {
             place: 0,
+            cause: Cause::BundleTooLong,
         };
     }
-    let mut forks = [0u64; 512];
-    match survey_all(bytes, chunks, &mut forks) {
+    match survey_all(bytes, chunks, forks) {
         Survey::Complete {
             chunks: chunk_count,
             forks: fork_count,
         } => count_in(
             chunk_count,
-            shape(&chunks[..chunk_count], &forks[..fork_count]),
+            fork_count,
+            shape(chunks, chunk_count, forks, fork_count),
         ),
-        Survey::Refused { cause, place } => Checked::Refused { cause, place },
+        Survey::Refused { place, cause } => Indexing::Refused { place, cause },
     }
 }
 
@@ -66,48 +60,48 @@ fn check_into(bytes: &[u8], chunks: &mut [u64]) -> Checked
 pub fn check(bytes: &[u8]) -> Checking
     ensures { λ r. ⌜ checkingOf r ≡ checkOf (now (bytes .entry)) ⌝ }
 {
-    let mut chunks = [0u64; 512];
-    match check_into(bytes, &mut chunks) {
-        Checked::Accepted(_) => Checking::Accepted,
-        Checked::Refused { cause, place } => Checking::Refused { cause, place },
+    let mut chunks = [0u64; 1024];
+    let mut forks = [0u64; 1536];
+    match index_bundle(bytes, &mut chunks, &mut forks) {
+        Indexing::Accepted {
+            chunks: _,
+            forks: _,
+        } => Checking::Accepted,
+        Indexing::Refused { place, cause } => Checking::Refused { place, cause },
     }
 }
 
-// The offset of a row, or the bundle's length behind the last.
-fn place_at(rows: &[u64], i: usize, length: usize) -> usize
-    ensures { λ r. ⌜ r ≡ nextPlace (drop i (rowsOf (now (rows .entry)))) length ⌝ }
+// The ends of the chunk of a team's member, by the rows of an accepted bundle.
+fn ends_in(chunks: &[u64], count: u32, team: u16, member: u8) -> Found
+    ensures { λ r. ⌜ foundOf r ≡ endsByRows (table (chunkRowAt (now (chunks .entry))) count) team member ⌝ }
 {
-    if i < rows.len() {
-        let row = unpack(rows[i]);
-        return row.place as usize;
-    }
-    length
-}
-
-// A chunk ends where the next begins.
-fn ends_of(rows: &[u64], length: usize, team: u16, member: u8) -> Found
-    ensures { λ r. ⌜ foundOf r ≡ endsByRows (rowsOf (now (rows .entry))) length team member ⌝ }
-{
-    let i = index_of(rows, team, member);
-    if rows.len() <= i {
+    let i = chunk_of(chunks, count, team, member);
+    if count <= i {
         return Found::Refused {
-            cause: Cause::NoneSuch,
             place: 0,
+            cause: Cause::NoneSuch,
         };
     }
-    let start = place_at(rows, i, length);
-    let end = place_at(rows, i + 1, length);
-    Found::At { start, end }
+    let row = chunk_at(chunks, i);
+    Found::At {
+        start: row.place,
+        end: row.past,
+    }
 }
 
 // Where a member's chunk begins and ends.
 pub fn find_ends(bytes: &[u8], team: u16, member: u8) -> Found
     ensures { λ r. ⌜ foundOf r ≡ endsOf (now (bytes .entry)) team member ⌝ }
 {
-    let mut chunks = [0u64; 512];
-    match check_into(bytes, &mut chunks) {
-        Checked::Accepted(count) => ends_of(&chunks[..count], bytes.len(), team, member),
-        Checked::Refused { cause, place } => Found::Refused { cause, place },
+    let mut chunks = [0u64; 1024];
+    let mut forks = [0u64; 1536];
+    let indexing = index_bundle(bytes, &mut chunks, &mut forks);
+    match indexing {
+        Indexing::Accepted {
+            chunks: count,
+            forks: _,
+        } => ends_in(&chunks, count, team, member),
+        Indexing::Refused { place, cause } => Found::Refused { place, cause },
     }
 }
 
@@ -127,7 +121,7 @@ pub fn find_chunk<'a>(
             *place = 0;
             &bytes[start..end]
         }
-        Found::Refused { cause, place: at } => {
+        Found::Refused { place: at, cause } => {
             *number = crate::refusal::number(cause);
             *place = at;
             &bytes[0..0]

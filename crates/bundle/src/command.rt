@@ -1,13 +1,12 @@
 // The commands of a run log: "One byte, then operands of fixed width, low byte first", read from bytes and put into them.
 use crate::refusal::Cause;
 ghost use mathlib.Core.Path.{_≡_};
-ghost use mathlib.Core.Bool.{_&&_};
 ghost use Prim.Native.Nat.{_+_, _-_, _%_, _≤_};
-ghost use lib.Dec.{leb, ltb};
-ghost use mathlib.Core.List.{[], _∷_, _++_};
+ghost use lib.Dec.{leb};
+ghost use mathlib.Core.List.{[], _∷_};
 ghost use lib.ListN.{length};
-ghost use Rattle.bundle.specs.Commands.{numberAt, kindOf, sizeOk, strideOk, lastByte, rangeOk, inRange, ranged, readAt, readingOf, lowFirst, byteOf, bytesOf, written, putAt, puttingOf};
-ghost use Rattle.bundle.specs.Inner.{StandsAt, AccessAt, RangeAt, Holds};
+ghost use Rattle.bundle.specs.Commands.{numberAt, kindOf, sizeOk, strideOk, lastByte, rangeOk, inRange, decodeAt, readAt, readingOf, byteOf, operandBytes, bytesOf, written, putAt, puttingOf};
+ghost use Rattle.bundle.specs.Inner.{StandsAt, AccessAt, Holds};
 ghost use Rattle.bundle.specs.Answer.{refuses};
 
 // What an access does: the commands 0x30 to 0x33 in this order.
@@ -44,16 +43,16 @@ pub enum Command {
 
 // What reading a command at a position gives.
 pub enum Reading {
-    // The command, and the position after it.
-    Taken { command: Command, next: usize },
-    Refused { cause: Cause, place: usize },
+    // The position after the command, and the command.
+    Taken { next: usize, command: Command },
+    Refused { place: usize, cause: Cause },
 }
 
 // What putting a command at a position gives.
 pub enum Putting {
     // The position after the command.
     Written(usize),
-    Refused { cause: Cause, place: usize },
+    Refused { place: usize, cause: Cause },
 }
 
 fn size_ok(size: u8) -> bool
@@ -70,7 +69,7 @@ fn stride_ok(stride: u16, count: u16) -> bool
 
 fn last_ok(range: Range) -> bool
     requires { ⌜ (1 ≤ range .count) × (1 ≤ range .size) ⌝ }
-    ensures { λ r. ⌜ r ≡ (leb (lastByte range) 4294967295 && ltb (range .stride) 65536 && ltb (range .count) 65536) ⌝ }
+    ensures { λ r. ⌜ r ≡ leb (lastByte range) 4294967295 ⌝ }
 {
     let base = range.base as u64;
     let stride = range.stride as u64;
@@ -133,72 +132,71 @@ fn four_bytes(bytes: &[u8], at: usize) -> u32
     (low as u32) + 65536 * (high as u32)
 }
 
-// The command, and the position after it, if its operands are in range.
-fn accept(command: Command, next: usize, place: usize) -> Reading
-    ensures { λ r. ⌜ readingOf r ≡ ranged place (record { command = command; next = next }) ⌝ }
-{
-    if in_range(command) {
-        return Reading::Taken { command, next };
-    }
-    Reading::Refused {
-        cause: Cause::OutOfRange,
-        place,
-    }
-}
-
 fn cut_off(place: usize) -> Reading
     ensures { λ r. ⌜ readingOf r ≡ refuses 3 place ⌝ }
 {
     Reading::Refused {
-        cause: Cause::OperandsCutOff,
         place,
+        cause: Cause::OperandsCutOff,
     }
 }
 
-fn read_member(bytes: &[u8], position: usize) -> Reading
+fn decode_member(bytes: &[u8], position: usize) -> Reading
     requires { ⌜ StandsAt (now bytes) position 0x01 ⌝ }
-    ensures { λ r. ⌜ readingOf r ≡ readAt (now (bytes .entry)) position ⌝ }
+    ensures { λ r. ⌜ readingOf r ≡ decodeAt (now (bytes .entry)) position ⌝ }
 {
     if bytes.len() - position < 4 {
         return cut_off(position);
     }
     let team = two_bytes(bytes, position + 1);
     let member = bytes[position + 3];
-    accept(Command::Member { team, member }, position + 4, position)
+    Reading::Taken {
+        next: position + 4,
+        command: Command::Member { team, member },
+    }
 }
 
-fn read_region(bytes: &[u8], position: usize) -> Reading
+fn decode_region(bytes: &[u8], position: usize) -> Reading
     requires { ⌜ StandsAt (now bytes) position 0x10 ⌝ }
-    ensures { λ r. ⌜ readingOf r ≡ readAt (now (bytes .entry)) position ⌝ }
+    ensures { λ r. ⌜ readingOf r ≡ decodeAt (now (bytes .entry)) position ⌝ }
 {
     if bytes.len() - position < 4 {
         return cut_off(position);
     }
     let team = two_bytes(bytes, position + 1);
     let size = bytes[position + 3];
-    accept(Command::Region { team, size }, position + 4, position)
+    Reading::Taken {
+        next: position + 4,
+        command: Command::Region { team, size },
+    }
 }
 
-fn read_acquire(bytes: &[u8], position: usize) -> Reading
+fn decode_acquire(bytes: &[u8], position: usize) -> Reading
     requires { ⌜ StandsAt (now bytes) position 0x20 ⌝ }
-    ensures { λ r. ⌜ readingOf r ≡ readAt (now (bytes .entry)) position ⌝ }
+    ensures { λ r. ⌜ readingOf r ≡ decodeAt (now (bytes .entry)) position ⌝ }
 {
     if bytes.len() - position < 2 {
         return cut_off(position);
     }
     let lock = bytes[position + 1];
-    accept(Command::Acquire(lock), position + 2, position)
+    Reading::Taken {
+        next: position + 2,
+        command: Command::Acquire(lock),
+    }
 }
 
-fn read_release(bytes: &[u8], position: usize) -> Reading
+fn decode_release(bytes: &[u8], position: usize) -> Reading
     requires { ⌜ StandsAt (now bytes) position 0x21 ⌝ }
-    ensures { λ r. ⌜ readingOf r ≡ readAt (now (bytes .entry)) position ⌝ }
+    ensures { λ r. ⌜ readingOf r ≡ decodeAt (now (bytes .entry)) position ⌝ }
 {
     if bytes.len() - position < 2 {
         return cut_off(position);
     }
     let lock = bytes[position + 1];
-    accept(Command::Release(lock), position + 2, position)
+    Reading::Taken {
+        next: position + 2,
+        command: Command::Release(lock),
+    }
 }
 
 fn kind_of(byte: u8) -> AccessKind
@@ -216,60 +214,78 @@ fn kind_of(byte: u8) -> AccessKind
     AccessKind::AtomicWrite
 }
 
-// The range whose operands begin at a position.
-fn range_at(bytes: &[u8], at: usize) -> Range
-    requires { ⌜ at + 9 ≤ length (now bytes) ⌝ }
-    ensures { λ r. ⌜ RangeAt (now (bytes .entry)) at r ⌝ }
-{
-    let base = four_bytes(bytes, at);
-    let stride = two_bytes(bytes, at + 4);
-    let count = two_bytes(bytes, at + 6);
-    let size = bytes[at + 8];
-    Range {
-        base,
-        stride,
-        count,
-        size,
-    }
-}
-
-fn read_access(bytes: &[u8], position: usize) -> Reading
+fn decode_access(bytes: &[u8], position: usize) -> Reading
     requires { ⌜ AccessAt (now bytes) position ⌝ }
-    ensures { λ r. ⌜ readingOf r ≡ readAt (now (bytes .entry)) position ⌝ }
+    ensures { λ r. ⌜ readingOf r ≡ decodeAt (now (bytes .entry)) position ⌝ }
 {
     if bytes.len() - position < 12 {
         return cut_off(position);
     }
     let kind = kind_of(bytes[position]);
     let site = two_bytes(bytes, position + 1);
-    let range = range_at(bytes, position + 3);
+    let base = four_bytes(bytes, position + 3);
+    let stride = two_bytes(bytes, position + 7);
+    let count = two_bytes(bytes, position + 9);
+    let size = bytes[position + 11];
+    let range = Range {
+        base,
+        stride,
+        count,
+        size,
+    };
     let access = Access { kind, site, range };
-    accept(Command::Access(access), position + 12, position)
+    Reading::Taken {
+        next: position + 12,
+        command: Command::Access(access),
+    }
 }
 
-// The command at a position, and the position after it.
-pub fn read_command(bytes: &[u8], position: usize) -> Reading
-    ensures { λ r. ⌜ readingOf r ≡ readAt (now (bytes .entry)) position ⌝ }
+// The command at a position, its operands of any value, and the position after it: 18, 2 and 3 are tested.
+pub fn decode_command(bytes: &[u8], position: usize) -> Reading
+    ensures { λ r. ⌜ readingOf r ≡ decodeAt (now (bytes .entry)) position ⌝ }
 {
     if bytes.len() <= position {
         return Reading::Refused {
-            cause: Cause::PastEnd,
             place: position,
+            cause: Cause::PastEnd,
         };
     }
     match bytes[position] {
-        0x01 => read_member(bytes, position),
-        0x02 => accept(Command::End, position + 1, position),
-        0x10 => read_region(bytes, position),
-        0x11 => accept(Command::Barrier, position + 1, position),
-        0x20 => read_acquire(bytes, position),
-        0x21 => read_release(bytes, position),
-        0x30..=0x33 => read_access(bytes, position),
+        0x01 => decode_member(bytes, position),
+        0x02 => Reading::Taken {
+            next: position + 1,
+            command: Command::End,
+        },
+        0x10 => decode_region(bytes, position),
+        0x11 => Reading::Taken {
+            next: position + 1,
+            command: Command::Barrier,
+        },
+        0x20 => decode_acquire(bytes, position),
+        0x21 => decode_release(bytes, position),
+        0x30..=0x33 => decode_access(bytes, position),
         _ => Reading::Refused {
-            cause: Cause::UnknownCommand,
             place: position,
+            cause: Cause::UnknownCommand,
         },
     }
+}
+
+// The command at a position, its operands in range, and the position after it.
+pub fn read_command(bytes: &[u8], position: usize) -> Reading
+    ensures { λ r. ⌜ readingOf r ≡ readAt (now (bytes .entry)) position ⌝ }
+{
+    let reading = decode_command(bytes, position);
+    let Reading::Taken { next: _, command } = reading else {
+        return reading;
+    };
+    if !in_range(command) {
+        return Reading::Refused {
+            place: position,
+            cause: Cause::OutOfRange,
+        };
+    }
+    reading
 }
 
 // A command's bytes: the first ones of `bytes`, as many as `length` says.
@@ -294,7 +310,7 @@ fn encode_plain(byte: u8) -> Encoded
 }
 
 fn encode_lock(byte: u8, lock: u8) -> Encoded
-    ensures { λ r. ⌜ Holds r (byte ∷ lowFirst 1 lock) ⌝ }
+    ensures { λ r. ⌜ Holds r (byte ∷ operandBytes (1 ∷ []) (lock ∷ [])) ⌝ }
 {
     let lock = low(lock as u32);
     Encoded {
@@ -304,7 +320,7 @@ fn encode_lock(byte: u8, lock: u8) -> Encoded
 }
 
 fn encode_team(byte: u8, team: u16, last: u8) -> Encoded
-    ensures { λ r. ⌜ Holds r (byte ∷ lowFirst 2 team ++ lowFirst 1 last) ⌝ }
+    ensures { λ r. ⌜ Holds r (byte ∷ operandBytes (2 ∷ 1 ∷ []) (team ∷ last ∷ [])) ⌝ }
 {
     let team = team as u32;
     let team_0 = low(team);
@@ -400,8 +416,8 @@ pub fn put_command(command: Command, buffer: &mut [u8], position: usize) -> Putt
 {
     if !in_range(command) {
         return Putting::Refused {
-            cause: Cause::OutOfRange,
             place: position,
+            cause: Cause::OutOfRange,
         };
     }
     let encoded = encode(command);
@@ -409,8 +425,8 @@ pub fn put_command(command: Command, buffer: &mut [u8], position: usize) -> Putt
     let length = encoded.length;
     if !fits(length, buffer.len(), position) {
         return Putting::Refused {
-            cause: Cause::DoesNotFit,
             place: position,
+            cause: Cause::DoesNotFit,
         };
     }
     copy_in(&bytes[..length], buffer, position);

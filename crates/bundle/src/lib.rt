@@ -1,9 +1,10 @@
 // Bundles of run logs: commands, chunks, and the check of a whole bundle.
+pub mod answer;
 pub mod check;
 pub mod chunk;
 pub mod command;
+pub mod index;
 pub mod refusal;
-mod rows;
 mod scan;
-mod structure;
+mod shape;
 mod survey;

@@ -1,42 +1,34 @@
-// The scan, front to back: the tests 2 to 7 of each command in that order, and the rows of the chunks and REGIONs on the way.
+// The scan, front to back: the tests 2 to 7 of each command in that order.
 use crate::chunk::ChunkState;
 use crate::chunk::Scan;
 use crate::chunk::holds_lock;
 use crate::command::Access;
 use crate::command::Command;
 use crate::command::Reading;
-use crate::command::read_command;
+use crate::command::decode_command;
+use crate::command::in_range;
 use crate::refusal::Cause;
-use crate::refusal::number;
 ghost use mathlib.Core.Path.{_≡_};
-ghost use mathlib.Core.Bool.{cond, not, true, false};
+ghost use mathlib.Core.Bool.{true, false};
 ghost use Prim.Native.Nat.{_+_, _<_, _≤_};
 ghost use lib.Dec.{ltb};
-ghost use lib.ListN.{length};
 ghost use Rattle.bundle.specs.Answer.{refuses, numberOf};
 ghost use Rattle.bundle.specs.Chunks.{fresh};
-ghost use Rattle.bundle.specs.Commands.{inRange, readAt, readingOf};
-ghost use Rattle.bundle.specs.Survey.{Bounded, stepOf, testedAt, stepAt, counted, causeIn};
+ghost use Rattle.bundle.specs.Commands.{readingOf};
+ghost use Rattle.bundle.specs.Survey.{Bounded, stepOf, unmoved, decided, testedAt, stepAt, counted};
 
 // What the scan says to a command.
 pub enum Step {
-    // The scan after the command, the command, and the position after it.
+    // The position after the command, the scan after it, and the command.
     Onward {
+        next: usize,
         scan: Scan,
         command: Command,
-        next: usize,
     },
     Refused {
-        cause: Cause,
         place: usize,
+        cause: Cause,
     },
-}
-
-// 4: not MEMBER outside a chunk, MEMBER inside one.
-fn out_of_place(inside: bool, member: bool) -> bool
-    ensures { λ r. ⌜ r ≡ cond member inside (not inside) ⌝ }
-{
-    if member { inside } else { !inside }
 }
 
 // The scan with another state, and so many segments and accesses more.
@@ -86,138 +78,181 @@ fn full(scan: Scan) -> bool
     512 < scan.segments + 1
 }
 
-fn test_member(scan: Scan, team: u16, member: u8, next: usize, place: usize) -> Step
-    requires { ⌜ Bounded scan × (inRange (Command.Member team member) ≡ true) ⌝ }
-    ensures { λ r. ⌜ stepOf r ≡ testedAt scan place (record { command = Command.Member team member; next = next }) ⌝ }
+fn refuse(cause: Cause, place: usize) -> Step
+    ensures { λ r. ⌜ stepOf r ≡ refuses (numberOf cause) place ⌝ }
 {
-    if scan.inside {
+    Step::Refused { cause, place }
+}
+
+// 4 to 7 in that order, where the tests say so; else onward.
+fn decide(
+    misplaced: bool,
+    beyond: bool,
+    misused: bool,
+    many: bool,
+    onward: Step,
+    place: usize,
+) -> Step
+    ensures { λ r. ⌜ stepOf r ≡ decided place misplaced beyond misused many (stepOf onward) ⌝ }
+{
+    if misplaced {
         return refuse(Cause::Misplaced, place);
     }
-    if full(scan) {
+    if beyond {
+        return refuse(Cause::OutOfRange, place);
+    }
+    if misused {
+        return refuse(Cause::LockMisused, place);
+    }
+    if many {
         return refuse(Cause::TooManyEntries, place);
     }
-    Step::Onward {
-        scan: open_chunk(scan, team),
-        command: Command::Member { team, member },
+    onward
+}
+
+fn test_member(scan: Scan, team: u16, member: u8, next: usize, place: usize) -> Step
+    requires { ⌜ Bounded scan ⌝ }
+    ensures { λ r. ⌜ stepOf r ≡ testedAt scan place (record { command = Command.Member team member; next = next }) ⌝ }
+{
+    let command = Command::Member { team, member };
+    let onward = Step::Onward {
         next,
-    }
+        scan: open_chunk(scan, team),
+        command,
+    };
+    decide(
+        scan.inside,
+        !in_range(command),
+        false,
+        full(scan),
+        onward,
+        place,
+    )
 }
 
 fn test_end(scan: Scan, next: usize, place: usize) -> Step
-    requires { ⌜ Bounded scan × (inRange Command.End ≡ true) ⌝ }
+    requires { ⌜ Bounded scan ⌝ }
     ensures { λ r. ⌜ stepOf r ≡ testedAt scan place (record { command = Command.End; next = next }) ⌝ }
 {
-    if !scan.inside {
-        return refuse(Cause::Misplaced, place);
-    }
+    let command = Command::End;
     let state = scan.state;
-    if !(state.locks == 0) {
-        return refuse(Cause::LockMisused, place);
-    }
-    Step::Onward {
-        scan: close_chunk(scan),
-        command: Command::End,
+    let onward = Step::Onward {
         next,
-    }
+        scan: close_chunk(scan),
+        command,
+    };
+    decide(
+        !scan.inside,
+        false,
+        !(state.locks == 0),
+        false,
+        onward,
+        place,
+    )
 }
 
-// 5 is the own-team rule here.
+// 5 has the own-team rule here.
 fn test_region(scan: Scan, team: u16, size: u8, next: usize, place: usize) -> Step
-    requires { ⌜ Bounded scan × (inRange (Command.Region team size) ≡ true) ⌝ }
+    requires { ⌜ Bounded scan ⌝ }
     ensures { λ r. ⌜ stepOf r ≡ testedAt scan place (record { command = Command.Region team size; next = next }) ⌝ }
 {
-    if !scan.inside {
-        return refuse(Cause::Misplaced, place);
-    }
-    if team <= scan.team {
-        return refuse(Cause::OutOfRange, place);
-    }
-    if full(scan) {
-        return refuse(Cause::TooManyEntries, place);
-    }
+    let command = Command::Region { team, size };
     let state = scan.state;
-    Step::Onward {
-        scan: count(scan, state.after_join(), 1, 0),
-        command: Command::Region { team, size },
+    let onward = Step::Onward {
         next,
-    }
+        scan: count(scan, state.after_join(), 1, 0),
+        command,
+    };
+    decide(
+        !scan.inside,
+        !(in_range(command) & (scan.team < team)),
+        false,
+        full(scan),
+        onward,
+        place,
+    )
 }
 
 fn test_barrier(scan: Scan, next: usize, place: usize) -> Step
-    requires { ⌜ Bounded scan × (inRange Command.Barrier ≡ true) ⌝ }
+    requires { ⌜ Bounded scan ⌝ }
     ensures { λ r. ⌜ stepOf r ≡ testedAt scan place (record { command = Command.Barrier; next = next }) ⌝ }
 {
-    if !scan.inside {
-        return refuse(Cause::Misplaced, place);
-    }
-    if full(scan) {
-        return refuse(Cause::TooManyEntries, place);
-    }
+    let command = Command::Barrier;
     let state = scan.state;
-    Step::Onward {
-        scan: count(scan, state.after_barrier(), 1, 0),
-        command: Command::Barrier,
+    let onward = Step::Onward {
         next,
-    }
+        scan: count(scan, state.after_barrier(), 1, 0),
+        command,
+    };
+    decide(!scan.inside, false, false, full(scan), onward, place)
 }
 
 fn test_acquire(scan: Scan, lock: u8, next: usize, place: usize) -> Step
-    requires { ⌜ Bounded scan × (inRange (Command.Acquire lock) ≡ true) ⌝ }
+    requires { ⌜ Bounded scan ⌝ }
     ensures { λ r. ⌜ stepOf r ≡ testedAt scan place (record { command = Command.Acquire lock; next = next }) ⌝ }
 {
-    if !scan.inside {
-        return refuse(Cause::Misplaced, place);
-    }
+    let command = Command::Acquire(lock);
     let state = scan.state;
-    if holds_lock(state.locks, lock) {
-        return refuse(Cause::LockMisused, place);
-    }
-    Step::Onward {
-        scan: count(scan, state.after_acquire(lock), 0, 0),
-        command: Command::Acquire(lock),
+    let onward = Step::Onward {
         next,
-    }
+        scan: count(scan, state.after_acquire(lock), 0, 0),
+        command,
+    };
+    decide(
+        !scan.inside,
+        !in_range(command),
+        holds_lock(state.locks, lock),
+        false,
+        onward,
+        place,
+    )
 }
 
 fn test_release(scan: Scan, lock: u8, next: usize, place: usize) -> Step
-    requires { ⌜ Bounded scan × (inRange (Command.Release lock) ≡ true) ⌝ }
+    requires { ⌜ Bounded scan ⌝ }
     ensures { λ r. ⌜ stepOf r ≡ testedAt scan place (record { command = Command.Release lock; next = next }) ⌝ }
 {
-    if !scan.inside {
-        return refuse(Cause::Misplaced, place);
-    }
+    let command = Command::Release(lock);
     let state = scan.state;
-    if !holds_lock(state.locks, lock) {
-        return refuse(Cause::LockMisused, place);
-    }
-    Step::Onward {
-        scan: count(scan, state.after_release(lock), 0, 0),
-        command: Command::Release(lock),
+    let onward = Step::Onward {
         next,
-    }
+        scan: count(scan, state.after_release(lock), 0, 0),
+        command,
+    };
+    decide(
+        !scan.inside,
+        !in_range(command),
+        !holds_lock(state.locks, lock),
+        false,
+        onward,
+        place,
+    )
 }
 
 fn test_access(scan: Scan, access: Access, next: usize, place: usize) -> Step
-    requires { ⌜ Bounded scan × (inRange (Command.Access access) ≡ true) ⌝ }
+    requires { ⌜ Bounded scan ⌝ }
     ensures { λ r. ⌜ stepOf r ≡ testedAt scan place (record { command = Command.Access access; next = next }) ⌝ }
 {
-    if !scan.inside {
-        return refuse(Cause::Misplaced, place);
-    }
-    if 1024 < scan.accesses + 1 {
-        return refuse(Cause::TooManyEntries, place);
-    }
+    let command = Command::Access(access);
     let state = scan.state;
-    Step::Onward {
-        scan: count(scan, state, 0, 1),
-        command: Command::Access(access),
+    let onward = Step::Onward {
         next,
-    }
+        scan: count(scan, state, 0, 1),
+        command,
+    };
+    decide(
+        !scan.inside,
+        !in_range(command),
+        false,
+        1024 < scan.accesses + 1,
+        onward,
+        place,
+    )
 }
 
-// A command whose operands are in range: 4 to 7 in that order.
+// A command that was decoded: 4 to 7 in that order.
 fn test(scan: Scan, command: Command, next: usize, place: usize) -> Step
-    requires { ⌜ Bounded scan × (inRange command ≡ true) ⌝ }
+    requires { ⌜ Bounded scan ⌝ }
     ensures { λ r. ⌜ stepOf r ≡ testedAt scan place (record { command = command; next = next }) ⌝ }
 {
     match command {
@@ -231,47 +266,28 @@ fn test(scan: Scan, command: Command, next: usize, place: usize) -> Step
     }
 }
 
-fn refuse(cause: Cause, place: usize) -> Step
-    ensures { λ r. ⌜ stepOf r ≡ refuses (numberOf cause) place ⌝ }
-{
-    Step::Refused { cause, place }
-}
-
-// A reading that was refused is passed on, but 4 is tested before 5.
-fn pass_on(bytes: &[u8], scan: Scan, cause: Cause, place: usize) -> Step
-    requires { ⌜ (place < length (now bytes)) × (refuses (numberOf cause) place ≡ readAt (now bytes) place) ⌝ }
-    ensures { λ r. ⌜ stepOf r ≡ stepAt (now (bytes .entry)) place scan ⌝ }
-{
-    if !(number(cause) == 5) {
-        return refuse(cause, place);
-    }
-    if out_of_place(scan.inside, bytes[place] == 0x01) {
-        return refuse(Cause::Misplaced, place);
-    }
-    refuse(cause, place)
-}
-
-// The cause of a refused reading. (A command that was taken has none; `step_at` does not ask.)
-fn refused_cause(reading: Reading) -> Cause
-    ensures { λ r. ⌜ r ≡ causeIn reading ⌝ }
+// What was read as an answer of the scan, which has not moved: so a refusal is passed on.
+fn as_step(reading: Reading, scan: Scan) -> Step
+    ensures { λ r. ⌜ stepOf r ≡ unmoved scan (readingOf reading) ⌝ }
 {
     match reading {
-        Reading::Refused { cause, place: _ } => cause,
-        Reading::Taken {
-            command: _,
-            next: _,
-        } => Cause::OutOfRange,
+        Reading::Taken { next, command } => Step::Onward {
+            next,
+            scan,
+            command,
+        },
+        Reading::Refused { place, cause } => Step::Refused { cause, place },
     }
 }
 
 // The command at a position, tested.
 pub fn step_at(bytes: &[u8], at: usize, scan: Scan) -> Step
-    requires { ⌜ (at < length (now bytes)) × Bounded scan ⌝ }
+    requires { ⌜ Bounded scan ⌝ }
     ensures { λ r. ⌜ stepOf r ≡ stepAt (now (bytes .entry)) at scan ⌝ }
 {
-    let reading = read_command(bytes, at);
-    let Reading::Taken { command, next } = reading else {
-        return pass_on(bytes, scan, refused_cause(reading), at);
+    let reading = decode_command(bytes, at);
+    let Reading::Taken { next, command } = reading else {
+        return as_step(reading, scan);
     };
     test(scan, command, next, at)
 }

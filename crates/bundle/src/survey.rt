@@ -2,36 +2,46 @@
 use crate::chunk::ChunkState;
 use crate::chunk::Scan;
 use crate::command::Command;
+use crate::index::ChunkRow;
+use crate::index::Fork;
+use crate::index::add_chunk;
+use crate::index::add_fork;
 use crate::refusal::Cause;
-use crate::rows::Row;
-use crate::rows::add_row;
 use crate::scan::Step;
 use crate::scan::step_at;
 ghost use mathlib.Core.Path.{_≡_};
 ghost use Prim.Native.Nat.{_<_, _≤_};
 ghost use lib.ListN.{length};
-ghost use Rattle.bundle.specs.Survey.{beginning, Notable, Noted, Surveying, Turned, finished, Surveyed};
+ghost use Rattle.bundle.specs.Index.{ChunkFits, ForkFits};
+ghost use Rattle.bundle.specs.Survey.{beginning, Near, openedAt, closedRow, forkHere, Notable, Noted, Surveying, Turned, finished, Surveyed};
 
-// How far the pass is: the position and the scan there, the offset and member of the open chunk, and the rows so far.
+// The open chunk: the offset of its MEMBER, its member, and the segments and accesses of the bundle before it.
+pub struct Open {
+    pub place: u16,
+    pub member: u8,
+    pub segments: u16,
+    pub accesses: u16,
+}
+
+// How far the pass is: the position and the scan there, the open chunk, and the rows so far.
 pub struct Pass {
     pub at: usize,
     pub scan: Scan,
-    pub place: u16,
-    pub member: u8,
-    pub chunks: usize,
-    pub forks: usize,
+    pub chunk: Open,
+    pub chunks: u32,
+    pub forks: u32,
 }
 
 // What one command does to the pass.
 pub enum Turn {
     Onward(Pass),
-    Refused { cause: Cause, place: usize },
+    Refused { place: usize, cause: Cause },
 }
 
 // What the pass gives: the number of chunks and of REGIONs, whose rows are in the tables.
 pub enum Survey {
-    Complete { chunks: usize, forks: usize },
-    Refused { cause: Cause, place: usize },
+    Complete { chunks: u32, forks: u32 },
+    Refused { place: usize, cause: Cause },
 }
 
 fn begin() -> Pass
@@ -46,65 +56,75 @@ fn begin() -> Pass
             segments: 0,
             accesses: 0,
         },
-        place: 0,
-        member: 0,
+        chunk: Open {
+            place: 0,
+            member: 0,
+            segments: 0,
+            accesses: 0,
+        },
         chunks: 0,
         forks: 0,
     }
 }
 
-// The row of the chunk that ends.
-fn chunk_row(pass: Pass) -> Row
-    requires { ⌜ pass .scan .state .barriers < 65536 ⌝ }
-    ensures { λ r. ⌜ r ≡ record { place = pass .place; other = pass .scan .state .barriers; size = 0; member = pass .member; team = pass .scan .team } ⌝ }
+// The chunk that is opened at the position.
+fn opened(pass: Pass, member: u8) -> Open
+    requires { ⌜ Near pass ⌝ }
+    ensures { λ r. ⌜ r ≡ openedAt pass member ⌝ }
+{
+    let scan = pass.scan;
+    Open {
+        place: pass.at as u16,
+        member,
+        segments: scan.segments as u16,
+        accesses: scan.accesses as u16,
+    }
+}
+
+// The row of the chunk that is closed at the position.
+fn closed_row(pass: Pass) -> ChunkRow
+    requires { ⌜ Near pass ⌝ }
+    ensures { λ r. ⌜ (r ≡ closedRow pass) × ChunkFits r ⌝ }
 {
     let scan = pass.scan;
     let state = scan.state;
-    Row {
-        place: pass.place,
-        other: state.barriers as u16,
-        size: 0,
-        member: pass.member,
+    let open = pass.chunk;
+    ChunkRow {
+        place: open.place as usize,
+        past: pass.at + 1,
         team: scan.team,
+        member: open.member,
+        barriers: state.barriers,
+        segments: open.segments as u32,
+        accesses: open.accesses as u32,
     }
 }
 
 // The row of a REGION at the position.
-fn fork_row(pass: Pass, team: u16, size: u8) -> Row
-    requires { ⌜ pass .at < 65536 ⌝ }
-    ensures { λ r. ⌜ r ≡ record { place = pass .at; other = pass .scan .team; size = size; member = 0; team = team } ⌝ }
+fn fork_row(pass: Pass, team: u16, size: u8) -> Fork
+    requires { ⌜ Near pass ⌝ }
+    ensures { λ r. ⌜ (r ≡ forkHere pass team size) × ForkFits r ⌝ }
 {
     let scan = pass.scan;
-    Row {
-        place: pass.at as u16,
-        other: scan.team,
-        size,
-        member: 0,
+    let open = pass.chunk;
+    let state = scan.state;
+    Fork {
+        place: pass.at,
         team,
+        size,
+        parent: scan.team,
+        member: open.member,
+        state,
     }
 }
 
-fn open_at(pass: Pass, scan: Scan, next: usize, place: u16, member: u8) -> Pass
-    ensures { λ r. ⌜ r ≡ record { at = next; scan = scan; place = place; member = member; chunks = pass .chunks; forks = pass .forks } ⌝ }
+fn move_on(pass: Pass, scan: Scan, next: usize, chunk: Open, chunks: u32, forks: u32) -> Pass
+    ensures { λ r. ⌜ r ≡ record { at = next; scan = scan; chunk = chunk; chunks = chunks; forks = forks } ⌝ }
 {
     Pass {
         at: next,
         scan,
-        place,
-        member,
-        chunks: pass.chunks,
-        forks: pass.forks,
-    }
-}
-
-fn move_on(pass: Pass, scan: Scan, next: usize, chunks: usize, forks: usize) -> Pass
-    ensures { λ r. ⌜ r ≡ record { at = next; scan = scan; place = pass .place; member = pass .member; chunks = chunks; forks = forks } ⌝ }
-{
-    Pass {
-        at: next,
-        scan,
-        place: pass.place,
-        member: pass.member,
+        chunk,
         chunks,
         forks,
     }
@@ -122,23 +142,32 @@ fn note(
     requires { ⌜ Notable pass (now chunks) (now forks) ⌝ }
     ensures { λ r. ⌜ Noted pass command scan next r (now (chunks .entry)) (now (forks .entry)) (now (chunks .exit)) (now (forks .exit)) ⌝ }
 {
-    let at = pass.at;
+    let open = pass.chunk;
     let chunk_count = pass.chunks;
     let fork_count = pass.forks;
     match command {
-        Command::Member { team: _, member } => open_at(pass, scan, next, at as u16, member),
+        Command::Member { team: _, member } => {
+            move_on(
+                pass,
+                scan,
+                next,
+                opened(pass, member),
+                chunk_count,
+                fork_count,
+            )
+        }
         Command::End => {
-            let chunk_count = add_row(chunks, chunk_count, chunk_row(pass));
-            move_on(pass, scan, next, chunk_count, fork_count)
+            add_chunk(chunks, chunk_count, closed_row(pass));
+            move_on(pass, scan, next, open, chunk_count + 1, fork_count)
         }
         Command::Region { team, size } => {
-            let fork_count = add_row(forks, fork_count, fork_row(pass, team, size));
-            move_on(pass, scan, next, chunk_count, fork_count)
+            add_fork(forks, fork_count, fork_row(pass, team, size));
+            move_on(pass, scan, next, open, chunk_count, fork_count + 1)
         }
-        Command::Barrier => move_on(pass, scan, next, chunk_count, fork_count),
-        Command::Acquire(_) => move_on(pass, scan, next, chunk_count, fork_count),
-        Command::Release(_) => move_on(pass, scan, next, chunk_count, fork_count),
-        Command::Access(_) => move_on(pass, scan, next, chunk_count, fork_count),
+        Command::Barrier => move_on(pass, scan, next, open, chunk_count, fork_count),
+        Command::Acquire(_) => move_on(pass, scan, next, open, chunk_count, fork_count),
+        Command::Release(_) => move_on(pass, scan, next, open, chunk_count, fork_count),
+        Command::Access(_) => move_on(pass, scan, next, open, chunk_count, fork_count),
     }
 }
 
@@ -149,11 +178,11 @@ fn turn_at(bytes: &[u8], pass: Pass, chunks: &mut [u64], forks: &mut [u64]) -> T
 {
     match step_at(bytes, pass.at, pass.scan) {
         Step::Onward {
+            next,
             scan,
             command,
-            next,
         } => Turn::Onward(note(pass, command, scan, next, chunks, forks)),
-        Step::Refused { cause, place } => Turn::Refused { cause, place },
+        Step::Refused { place, cause } => Turn::Refused { place, cause },
     }
 }
 
@@ -164,8 +193,8 @@ fn finish(pass: Pass, end: usize) -> Survey
     let scan = pass.scan;
     if scan.inside {
         return Survey::Refused {
-            cause: Cause::Misplaced,
             place: end,
+            cause: Cause::Misplaced,
         };
     }
     Survey::Complete {
@@ -176,7 +205,7 @@ fn finish(pass: Pass, end: usize) -> Survey
 
 // The whole bundle, front to back.
 pub fn survey_all(bytes: &[u8], chunks: &mut [u64], forks: &mut [u64]) -> Survey
-    requires { ⌜ (length (now bytes) ≤ 65536) × (length (now chunks) ≡ 512) × (length (now forks) ≡ 512) ⌝ }
+    requires { ⌜ (length (now bytes) ≤ 65536) × (length (now chunks) ≡ 1024) × (length (now forks) ≡ 1536) ⌝ }
     ensures { λ r. ⌜ Surveyed (now (bytes .entry)) r (now (chunks .exit)) (now (forks .exit)) ⌝ }
 {
     let mut pass = begin();
@@ -185,8 +214,8 @@ pub fn survey_all(bytes: &[u8], chunks: &mut [u64], forks: &mut [u64]) -> Survey
             Turn::Onward(next) => {
                 pass = next;
             }
-            Turn::Refused { cause, place } => {
-                return Survey::Refused { cause, place };
+            Turn::Refused { place, cause } => {
+                return Survey::Refused { place, cause };
             }
         }
     }

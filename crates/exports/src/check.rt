@@ -1,6 +1,6 @@
 // Check a bundle.
 use crate::refused::refused_number;
-use bundle::check::Checking;
+use bundle::answer::Checking;
 use bundle::check::check;
 ghost use mathlib.Core.Path.{_≡_};
 ghost use Rattle.bundle.specs.Check.{checkOf, checkingOf};

@@ -13,7 +13,7 @@ fn shared_number(shared: Shared) -> u64
     match shared {
         Shared::Byte(byte) => byte as u64 + 1,
         Shared::Nothing => 0,
-        Shared::Refused { cause, place } => refused_number(cause, place),
+        Shared::Refused { place, cause } => refused_number(cause, place),
     }
 }
 

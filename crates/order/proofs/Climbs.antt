@@ -1,33 +1,33 @@
 -- Climbing: each fork's label is one triple longer than that of its team's chunk, and no label of an accepted bundle passes 5 triples.
-use Prim.Native.Nat.{ℕ, zero, suc, _+_, _-_, _*_, _≤_, _<_}
-use mathlib.Core.Path.{_≡_, refl, sym, _∙_, ap, ap₂, subst}
+use Prim.Native.Nat.{ℕ, zero, suc, _+_, _-_, _*_, _/_, _%_, _≤_, _<_}
+use mathlib.Core.Path.{_≡_, refl, sym, _∙_, ap, ap₂}
 use mathlib.Core.List.{List, [], _∷_, _++_, List·Memᴰ}
 use mathlib.Core.Option.{Option, none, some}
 use native.Mathlib.Omega.{arith}
-use native.Mathlib.Nat.{mul-le-mul}
+use native.Mathlib.Nat.{mul-le-mul, mod-lt}
 use native.Mathlib.Numerals.{add-one}
-use lib.ListN.{length, replicate, set, getElem?, length-append}
+use lib.ListN.{length, replicate, set, getElem?, getD, length-append}
 use lib.Seq.{take-append-seam}
 use lib.Dec.{eqb}
 use borrow.Author.Tests.{eqb-true, ne-eqb, ltb-false}
 use Rattle.bundle.specs.Answer.{Answer, gives, refuses}
 use Rattle.bundle.specs.Lists.{fromOption}
 use Rattle.bundle.specs.Chunks.{Chunk, chunksOf, chunkOf}
-use Rattle.bundle.specs.Check.{Fork, forkOf, sizeOf, depthFrom, depthOf, checkOf, Accepted}
+use Rattle.bundle.specs.Walk.{Segment, segmentsIn, forksOf}
+use Rattle.bundle.specs.Check.{forkOf, sizeOf, depthFrom, depthOf, checkOf, Accepted}
+use Rattle.bundle.specs.Index.{forkRowOf, forkRowAt, table, indexOf, Indexed}
 use Rattle.bundle.specs.declared.chunk.ChunkState.{ChunkState}
+use Rattle.bundle.specs.declared.index.Fork.{Fork}
 use Rattle.bundle.proofs.ListLaws.{first-some}
-use Rattle.order.specs.Labels.{lastTriple, forkLabel, segmentStates, segmentLabel, labelOf, counted, blank, holding, Labelled}
-use Rattle.order.specs.Climbing.{bundleForks, segmentOf, forkingOf, FewForked, ForkFound, stateOf, seekingOf, FewFound, SegmentFound, tripleOf, extended, chunkLabelOf, labelAt}
+use Rattle.bundle.proofs.Tables.{first-at, first-past}
+use Rattle.bundle.proofs.Onward.{legible, team-falls}
+use Rattle.order.specs.Labels.{lastTriple, forkLabel, segmentLabel, labelOf, counted, blank, holding, Labelled}
+use Rattle.order.specs.Climbing.{stateIn, stateOf, stateReached, SegmentFound, Climbable, tripleOf, extended, chunkLabelOf, labelIn}
 use Rattle.order.specs.declared.label.Triple.{Triple}
 use Rattle.order.specs.declared.label.Label.{Label}
-use Rattle.order.specs.declared.climb.Segment.{Segment}
+use Rattle.order.specs.declared.climb.Walking.{Walking}
 use Rattle.order.specs.declared.climb.ChunkLabel.{ChunkLabel}
-use Rattle.order.specs.declared.climb.Forking.{Forking}
-use Rattle.order.specs.declared.climb.Forking.the-variants as For
-use Rattle.order.specs.declared.climb.Seeking.{Seeking}
-use Rattle.order.specs.declared.climb.Seeking.the-variants as Seek
 use Rattle.order.specs.declared.climb.LabelAnswer.the-variants as Ans
-use Rattle.bundle.proofs.Onward.{legible, team-falls}
 
 pub span-fits : (size regions : ℕ) → size < 256 → regions ≤ 65536 → size * regions ≤ 16711680
 span-fits size regions h l = let most : size ≤ 255 = omega arith in mul-le-mul most l
@@ -50,8 +50,8 @@ unfolding forkOf
 fork-known fs t {f} e = let w = first-some (λ (g : Fork). eqb (g .team) t) fs e in (w .0, eqb-true (f .team) t (w .1))
 
 -- forks whose team numbers fall towards the root
-module _ (fs : List Fork) (falls : (f : Fork) → List·Memᴰ f fs → f .byTeam < f .team) where
-  pub fork-team : {t : ℕ} {f : Fork} → forkOf fs t ≡ some f → f .byTeam < t
+module _ (fs : List Fork) (falls : (f : Fork) → List·Memᴰ f fs → f .parent < f .team) where
+  pub fork-team : {t : ℕ} {f : Fork} → forkOf fs t ≡ some f → f .parent < t
   fork-team {t} {f} e =
       let w = fork-known fs t e in
       let below = falls f (w .0) in
@@ -71,18 +71,18 @@ module _ (fs : List Fork) (falls : (f : Fork) → List·Memᴰ f fs → f .byTea
   same-label (suc n) (suc m) t h l = go (forkOf fs t) refl (λ u b. same-label n m u (omega arith) (omega arith))
     where
       step : ℕ → Option Fork → List Triple
-      step fuel = fromOption [] (λ (f : Fork). forkLabel fuel fs (f .byTeam) ++ (lastTriple fs (f .byTeam) (f .byMember) (f .state) ∷ []))
+      step fuel = fromOption [] (λ (f : Fork). forkLabel fuel fs (f .parent) ++ (lastTriple fs (f .parent) (f .member) (f .state) ∷ []))
 
       go : (o : Option Fork) → forkOf fs t ≡ o → ((u : ℕ) → u < t → forkLabel n fs u ≡ forkLabel m fs u) → step n o ≡ step m o
       go none e ih = refl
-      go (some f) e ih = rw (ih (f .byTeam) (fork-team e))
+      go (some f) e ih = rw (ih (f .parent) (fork-team e))
 
   -- the label of the segment that forks a team
-  pub climbs : (t : ℕ) {f : Fork} → forkOf fs t ≡ some f → forkLabel (suc t) fs t ≡ segmentLabel fs (f .byTeam) (f .byMember) (f .state)
+  pub climbs : (t : ℕ) {f : Fork} → forkOf fs t ≡ some f → forkLabel (suc t) fs t ≡ segmentLabel fs (f .parent) (f .member) (f .state)
   unfolding forkLabel segmentLabel
   climbs t {f} e =
       let below = fork-team e in
-      rw (e, same-label t (suc (f .byTeam)) (f .byTeam) below (omega arith))
+      rw (e, same-label t (suc (f .parent)) (f .parent) below (omega arith))
 
 label-depth : (n : ℕ) (fs : List Fork) (t : ℕ) → length (forkLabel n fs t) ≡ depthFrom n fs t
 unfolding forkLabel depthFrom
@@ -92,152 +92,131 @@ label-depth (suc n) fs t = go (forkOf fs t) (label-depth n fs)
     go :
         (o : Option Fork)
         → ((u : ℕ) → length (forkLabel n fs u) ≡ depthFrom n fs u)
-        → length (fromOption [] (λ (f : Fork). forkLabel n fs (f .byTeam) ++ (lastTriple fs (f .byTeam) (f .byMember) (f .state) ∷ [])) o)
-        ≡ fromOption 0 (λ (f : Fork). suc (depthFrom n fs (f .byTeam))) o
+        → length (fromOption [] (λ (f : Fork). forkLabel n fs (f .parent) ++ (lastTriple fs (f .parent) (f .member) (f .state) ∷ [])) o)
+        ≡ fromOption 0 (λ (f : Fork). suc (depthFrom n fs (f .parent))) o
     go none ih = refl
     go (some f) ih =
-        length-append (forkLabel n fs (f .byTeam)) (lastTriple fs (f .byTeam) (f .byMember) (f .state) ∷ [])
-        ∙ add-one (length (forkLabel n fs (f .byTeam)))
-        ∙ ap suc (ih (f .byTeam))
+        length-append (forkLabel n fs (f .parent)) (lastTriple fs (f .parent) (f .member) (f .state) ∷ [])
+        ∙ add-one (length (forkLabel n fs (f .parent)))
+        ∙ ap suc (ih (f .parent))
 
-module _ (s : List ℕ) (a : Accepted s) where
-  -- the chunk of a team that a segment forks with this size
-  abbrev chunkLabel : Segment → ℕ → ChunkLabel
-  chunkLabel by size = record { label = labelAt s by; size = size }
+-- the REGIONs of an accepted bundle
+climbable : (s : List ℕ) → Accepted s → Climbable (forksOf (chunksOf s))
+climbable s a =
+    record {
+      falls = team-falls s a;
+      shallow = λ f m. ltb-false 4 (depthOf (forksOf (chunksOf s)) (f .team)) (legible s a .shaped .shallow f m);
+    }
 
-  -- "Teams nest at most 4 deep below the root"
-  pub few-triples : (t : ℕ) → length (forkLabel (suc t) (bundleForks s) t) ≤ 4
-  few-triples t = go (forkOf (bundleForks s) t) refl
+module _ (fs : List Fork) (k : Climbable fs) where
+  few-triples : (t : ℕ) → length (forkLabel (suc t) fs t) ≤ 4
+  few-triples t = go (forkOf fs t) refl
     where
-      go : (o : Option Fork) → forkOf (bundleForks s) t ≡ o → length (forkLabel (suc t) (bundleForks s) t) ≤ 4
+      go : (o : Option Fork) → forkOf fs t ≡ o → length (forkLabel (suc t) fs t) ≤ 4
       go none e = unfold forkLabel in rw e (omega arith)
       go (some f) e =
-          let w = fork-known (bundleForks s) t e in
-          let deep = ltb-false 4 (depthOf (bundleForks s) (f .team)) (legible s a .shaped .shallow f (w .0)) in
+          let w = fork-known fs t e in
+          let deep = k .shallow f (w .0) in
           rw label-depth (unfold depthOf in (rw (w .1) at deep))
 
   -- the chunk of the root, of a team that is never forked, and of one that is
-  pub root-chunk : (team : ℕ) (l : Label) → team ≡ 0 → l ≡ holding [] → record { label = l; size = 1 } ≡ chunkLabelOf s team
+  pub root-chunk : (team : ℕ) (l : Label) → team ≡ 0 → l ≡ holding [] → record { label = l; size = 1 } ≡ chunkLabelOf fs team
   unfolding chunkLabelOf forkLabel sizeOf
-  root-chunk team l h e = rw (h, e, root-unforked (bundleForks s) (team-falls s a))
+  root-chunk team l h e = rw (h, e, root-unforked fs (k .falls))
 
   pub unforked-chunk :
-      (team : ℕ) (l : Label) (r : Forking)
+      (team : ℕ) (l : Label)
       → (team ≡ 0 → ⊥)
       → l ≡ holding []
-      → ForkFound s team r
-      → r ≡ For.Nothing
-      → record { label = l; size = 0 } ≡ chunkLabelOf s team
+      → forkOf fs team ≡ none
+      → record { label = l; size = 0 } ≡ chunkLabelOf fs team
   unfolding chunkLabelOf forkLabel sizeOf
-  unforked-chunk team l r h e f q = rw (e, ne-eqb team 0 h, never (forkOf (bundleForks s) team) (sym (f .answer) ∙ q))
-    where
-      never : (o : Option Fork) → forkingOf o ≡ For.Nothing → o ≡ none
-      never none e = refl
-      never (some g) e = let z : _≡_ {A = ℕ} 0 1 = cc in absurd (omega arith)
+  unforked-chunk team l h e q = rw (e, ne-eqb team 0 h, q)
 
-  forked-chunk :
-      (team : ℕ) (f : Fork)
+  pub forked-chunk :
+      (team : ℕ) (f : Fork) (l : Label)
       → (team ≡ 0 → ⊥)
-      → forkOf (bundleForks s) team ≡ some f
-      → chunkLabel (segmentOf (f .byTeam) (f .byMember) (f .state)) (f .size) ≡ chunkLabelOf s team
-  unfolding chunkLabelOf labelAt sizeOf segmentLabel lastTriple tripleOf
-  forked-chunk team f h e = rw (ne-eqb team 0 h, e, climbs (bundleForks s) (team-falls s a) team e)
-
-  record Above (team : ℕ) (by : Segment) (size : ℕ) : Type 0 where
-    pub fork : Fork
-    pub found : forkOf (bundleForks s) team ≡ some fork
-    pub segment : by ≡ segmentOf (fork .byTeam) (fork .byMember) (fork .state)
-    pub sized : size ≡ fork .size
-
-  above : (team : ℕ) (r : Forking) (by : Segment) (size : ℕ) → ForkFound s team r → r ≡ For.Forked by size → Above team by size
-  above team r by size f q = go (forkOf (bundleForks s) team) refl (sym (f .answer) ∙ q)
-    where
-      go : (o : Option Fork) → forkOf (bundleForks s) team ≡ o → forkingOf o ≡ For.Forked by size → Above team by size
-      go none e h = let z : _≡_ {A = ℕ} 0 1 = cc in absurd (omega arith)
-      go (some g) e h = record { fork = g; found = e; segment = cc; sized = cc }
-
-  pub record Climb (team : ℕ) (by : Segment) (size : ℕ) : Type 0 where
-    pub lower : by .team < team
-    pub few : by .regions ≤ 65536
-    pub chunk : (l : Label) → l ≡ labelAt s by → record { label = l; size = size } ≡ chunkLabelOf s team
-
-  pub climb-from : (team : ℕ) (r : Forking) {by : Segment} {size : ℕ} → (team ≡ 0 → ⊥) → ForkFound s team r → r ≡ For.Forked by size → Climb team by size
-  climb-from team r {by} {size} h f q =
-      let g = above team r by size f q in
-      let below = fork-team (bundleForks s) (team-falls s a) (g .found) in
-      record {
-        lower = rw (g .segment) below;
-        few = subst FewForked q (f .few);
-        chunk = λ l e. rw e (ap₂ chunkLabel (g .segment) (g .sized) ∙ forked-chunk team (g .fork) h (g .found));
-      }
+      → forkOf fs team ≡ some f
+      → l ≡ holding (segmentLabel fs (f .parent) (f .member) (f .state))
+      → record { label = l; size = f .size } ≡ chunkLabelOf fs team
+  unfolding chunkLabelOf sizeOf
+  forked-chunk team f l h q e = rw (e, ne-eqb team 0 h, q, climbs fs (k .falls) team q)
 
   -- the label of a segment, from that of its chunk
-  pub label-from : (k : Segment) (c : ChunkLabel) → c ≡ chunkLabelOf s (k .team) → extended (c .label) (tripleOf k (c .size)) ≡ labelAt s k
-  unfolding chunkLabelOf labelAt
-  label-from k c e =
-      rw e
-      (extends
-      (forkLabel (suc (k .team)) (bundleForks s) (k .team))
-      (tripleOf k (sizeOf (bundleForks s) (k .team)))
-      (few-triples (k .team)))
+  pub label-from :
+      (t m : ℕ) (state : ChunkState) (c : ChunkLabel)
+      → c ≡ chunkLabelOf fs t
+      → extended (c .label) (tripleOf m state (c .size)) ≡ holding (segmentLabel fs t m state)
+  unfolding chunkLabelOf segmentLabel lastTriple tripleOf
+  label-from t m state c e = rw e (extends (forkLabel (suc t) fs t) (lastTriple fs t m state) (few-triples t))
 
-  pub room-left : (t : ℕ) (c : ChunkLabel) → c ≡ chunkLabelOf s t → c .label .count < 5
+  pub room-left : (t : ℕ) (c : ChunkLabel) → c ≡ chunkLabelOf fs t → c .label .count < 5
   unfolding chunkLabelOf holding
   room-left t c e = let few = few-triples t in rw e (omega (arith, few))
 
--- the label of a segment of an accepted bundle, or 14
-abbrev pub answerOf : List ℕ → ℕ → ℕ → Option ChunkState → Answer (List Triple)
-answerOf s t m = fromOption (refuses 14 0) (λ k. gives (segmentLabel (bundleForks s) t m k))
+-- a REGION by the index of its row
+module _ (row : ℕ → Fork) (n t i : ℕ) (e : i ≡ indexOf (λ (f : Fork). eqb (f .team) t) (table row n)) where
+  pub fork-none : n ≤ i → forkOf (table row n) t ≡ none
+  unfolding forkOf
+  fork-none h = first-past (λ (f : Fork). eqb (f .team) t) row n i e h
 
-pub labels : (s : List ℕ) (t m number : ℕ) → Accepted s → labelOf s t m number ≡ answerOf s t m (stateOf s t m number)
-unfolding labelOf stateOf
-labels s t m number a = rw a (go (chunkOf (chunksOf s) t m))
-  where
-    inChunk : Chunk → Option ChunkState
-    inChunk c = getElem? (segmentStates c) number
+  pub fork-some : i < n → {f : Fork} → f ≡ row i → forkOf (table row n) t ≡ some f
+  unfolding forkOf
+  fork-some h q = first-at (λ (f : Fork). eqb (f .team) t) row n i e h ∙ ap some (sym q)
 
-    go : (o : Option Chunk) → fromOption (refuses 14 0) (λ (c : Chunk). answerOf s t m (inChunk c)) o ≡ answerOf s t m (fromOption none inChunk o)
-    go none = refl
-    go (some c) = refl
+pub row-few : (words : List ℕ) (i : ℕ) {f : Fork} → f ≡ forkRowAt words i → f .state .regions ≤ 65536
+unfolding forkRowAt forkRowOf
+row-few words i e =
+    let few : getD words (3 * i + 1) 0 / 65536 % 65536 < 65536 = mod-lt (getD words (3 * i + 1) 0 / 65536) (omega arith) in
+    let most : getD words (3 * i + 1) 0 / 65536 % 65536 ≤ 65536 = omega arith in
+    rw e most
 
 holding-counted : (ts : List Triple) → counted (holding ts) ≡ ts
 unfolding counted holding
 holding-counted ts = take-append-seam ts (replicate (5 - length ts) blank)
 
-label-holds : (s : List ℕ) (t m : ℕ) (k : ChunkState) → labelAt s (segmentOf t m k) ≡ holding (segmentLabel (bundleForks s) t m k)
-unfolding labelAt segmentLabel lastTriple tripleOf
-label-holds s t m k = refl
-
 -- what the code answers
-module _ (s : List ℕ) (a : Accepted s) (t m number : ℕ) (r : Seeking) (f : SegmentFound s t m number r) where
-  pub none-such : r ≡ Seek.Nothing → refuses 14 0 ≡ labelOf s t m number
-  none-such q = sym (labels s t m number a ∙ ap (answerOf s t m) (never (stateOf s t m number) (sym (f .answer) ∙ q)))
-    where
-      never : (o : Option ChunkState) → seekingOf t m o ≡ Seek.Nothing → o ≡ none
-      never none e = refl
-      never (some k) e = let z : _≡_ {A = ℕ} 0 1 = cc in absurd (omega arith)
+pub labelled :
+    (fs : List Fork) (t m : ℕ) (k : ChunkState) (l : Label)
+    → l ≡ holding (segmentLabel fs t m k)
+    → Labelled (record { answer = Ans.Found; label = l }) (labelIn fs t m (some k))
+labelled fs t m k l e = rw e (record { answer = ap gives (holding-counted (segmentLabel fs t m k)); label = refl })
 
-  pub found-few : {k : Segment} → r ≡ Seek.Found k → k .regions ≤ 65536
-  found-few q = subst FewFound q (f .few)
+labels : (s : List ℕ) (t m number : ℕ) → Accepted s → labelIn (forksOf (chunksOf s)) t m (stateOf s t m number) ≡ labelOf s t m number
+unfolding labelOf stateOf stateIn
+labels s t m number a = rw a (go (chunkOf (chunksOf s) t m))
+  where
+    fs : List Fork
+    fs = forksOf (chunksOf s)
 
-  pub found-labelled :
-      {k : Segment} (l : Label)
-      → r ≡ Seek.Found k
-      → l ≡ labelAt s k
-      → Labelled (record { answer = Ans.Found; label = l }) (labelOf s t m number)
-  found-labelled {k} l q e = go (stateOf s t m number) (labels s t m number a) (sym (f .answer) ∙ q)
-    where
-      go :
-          (o : Option ChunkState)
-          → labelOf s t m number ≡ answerOf s t m o
-          → seekingOf t m o ≡ Seek.Found k
-          → Labelled (record { answer = Ans.Found; label = l }) (labelOf s t m number)
-      go none h n = let z : _≡_ {A = ℕ} 0 1 = cc in absurd (omega arith)
-      go (some k′) h n =
-          let same : segmentOf t m k′ ≡ k = cc in
-          let ts = segmentLabel (bundleForks s) t m k′ in
-          let held : l ≡ holding ts = e ∙ ap (labelAt s) (sym same) ∙ label-holds s t m k′ in
-          rw (h, held) (record { answer = ap gives (holding-counted ts); label = refl })
+    inSegment : Segment → Option ChunkState
+    inSegment g = some (g .state)
+
+    inChunk : Option Segment → Answer (List Triple)
+    inChunk o = fromOption (refuses 14 0) (λ (g : Segment). gives (segmentLabel fs t m (g .state))) o
+
+    one : (o : Option Segment) → labelIn fs t m (fromOption none inSegment o) ≡ inChunk o
+    one none = refl
+    one (some g) = refl
+
+    go :
+        (o : Option Chunk)
+        → labelIn fs t m (fromOption none (λ (c : Chunk). fromOption none inSegment (getElem? (segmentsIn c) number)) o)
+        ≡ fromOption (refuses 14 0) (λ (c : Chunk). inChunk (getElem? (segmentsIn c) number)) o
+    go none = refl
+    go (some c) = one (getElem? (segmentsIn c) number)
+
+module _ {s : List ℕ} {n m : ℕ} {chunks forks : List ℕ} (x : Indexed s n m chunks forks) where
+  pub climbable-rows : Climbable (table (forkRowAt forks) m)
+  climbable-rows = rw (x .fork-rows) (climbable s (x .accepted))
+
+  pub found-label :
+      (team member number : ℕ) {w : Walking}
+      → SegmentFound s team member number w
+      → labelIn (table (forkRowAt forks) m) team member (stateReached w) ≡ labelOf s team member number
+  found-label team member number f =
+      ap₂ (λ (fs : List Fork) (o : Option ChunkState). labelIn fs team member o) (x .fork-rows) (f .state)
+      ∙ labels s team member number (x .accepted)
 
 pub check-refuses : (s : List ℕ) (t m number : ℕ) {n p : ℕ} → checkOf s ≡ refuses n p → refuses n p ≡ labelOf s t m number
 unfolding labelOf

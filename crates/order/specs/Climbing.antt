@@ -1,98 +1,113 @@
 -- What the inner functions of a segment's label ask and promise.
-use Prim.Native.Nat.{ℕ, suc, _+_, _*_, _≤_}
+use Prim.Native.Nat.{ℕ, suc, _+_, _*_, _≤_, _<_}
 use mathlib.Core.Path.{_≡_}
-use mathlib.Core.Bool.{Bool, cond, _&&_}
-use mathlib.Core.List.{List, [], _∷_, _++_}
+use mathlib.Core.Bool.{true, false}
+use mathlib.Core.List.{List, List·Memᴰ}
 use mathlib.Core.Option.{Option, none, some}
 use lib.ListN.{getElem?, set}
-use lib.Dec.{eqb}
+use Rattle.bundle.specs.Answer.{Answer, gives, refuses}
 use Rattle.bundle.specs.Lists.{fromOption}
-use Rattle.bundle.specs.Chunks.{Chunk, chunksOf, chunkOf}
-use Rattle.bundle.specs.Check.{Fork, forksOf, forkOf, sizeOf}
+use Rattle.bundle.specs.Cases.{onDelimiter}
+use Rattle.bundle.specs.Commands.{Taken, inRange, readAt}
+use Rattle.bundle.specs.Chunks.{Chunk, fresh, afterCommand, chunksOf, chunkOf}
+use Rattle.bundle.specs.Walk.{Segment, segmentsIn}
+use Rattle.bundle.specs.Scan.{misusesLock}
+use Rattle.bundle.specs.Check.{sizeOf, depthOf, Accepted}
+use Rattle.bundle.specs.Index.{table, chunkRowAt, chunkRows}
 use Rattle.bundle.specs.declared.chunk.ChunkState.{ChunkState}
 use Rattle.bundle.specs.declared.command.Command.{Command}
-use Rattle.bundle.specs.declared.command.Command.the-variants as Com
-use Rattle.order.specs.Labels.{segmentStates, forkLabel, holding}
+use Rattle.bundle.specs.declared.index.Fork.{Fork}
+use Rattle.order.specs.Labels.{forkLabel, segmentLabel, holding}
 use Rattle.order.specs.declared.label.Triple.{Triple}
 use Rattle.order.specs.declared.label.Label.{Label}
-use Rattle.order.specs.declared.climb.Segment.{Segment}
+use Rattle.order.specs.declared.climb.Walk.{Walk}
+use Rattle.order.specs.declared.climb.Walking.{Walking}
+use Rattle.order.specs.declared.climb.Walking.the-variants as Walks
 use Rattle.order.specs.declared.climb.ChunkLabel.{ChunkLabel}
-use Rattle.order.specs.declared.climb.Forking.{Forking}
-use Rattle.order.specs.declared.climb.Forking.the-variants as For
-use Rattle.order.specs.declared.climb.Seeking.{Seeking}
-use Rattle.order.specs.declared.climb.Seeking.the-variants as Seek
 
--- a bundle's REGIONs
-abbrev pub bundleForks : List ℕ → List Fork
-bundleForks s = forksOf (chunksOf s)
+-- a walk over a chunk's commands, if it goes on
+abbrev pub walkingOf : Walking → Option Walk
+walkingOf (Walks.Onward w) = some w
+walkingOf Walks.Ended = none
 
--- the segment of a chunk that is open in a state
-abbrev pub segmentOf : ℕ → ℕ → ChunkState → Segment
-segmentOf t m k = record { team = t; member = m; barriers = k .barriers; regions = k .regions }
+-- the walk after a command: MEMBER begins the chunk's state, and END ends the chunk
+unfoldable pub walkedOn : ChunkState → Command → ℕ → Option Walk
+walkedOn k c next =
+    onDelimiter (some (record { at = next; state = afterCommand k c })) (λ t m. some (record { at = next; state = fresh })) none c
 
--- the segment that is open after a command
-unfoldable pub opened : Segment → Command → Segment
-opened k (Com.Member t m) = record { team = t; member = m; barriers = 0; regions = 0 }
-opened k Com.End = k
-opened k (Com.Region t z) = record { team = k .team; member = k .member; barriers = k .barriers; regions = k .regions + 1 }
-opened k Com.Barrier = record { team = k .team; member = k .member; barriers = k .barriers + 1; regions = k .regions }
-opened k (Com.Acquire l) = k
-opened k (Com.Release l) = k
-opened k (Com.Access a) = k
+abbrev pub walkedRead : ChunkState → Answer Taken → Option Walk
+walkedRead k (gives t) = walkedOn k (t .command) (t .next)
+walkedRead k (refuses n p) = none
 
--- whether a command forks a team
-unfoldable pub forkedHere : ℕ → Segment → Command → Forking
-forkedHere team k (Com.Member t m) = For.Nothing
-forkedHere team k Com.End = For.Nothing
-forkedHere team k (Com.Region t z) = cond (eqb t team) (For.Forked k z) For.Nothing
-forkedHere team k Com.Barrier = For.Nothing
-forkedHere team k (Com.Acquire l) = For.Nothing
-forkedHere team k (Com.Release l) = For.Nothing
-forkedHere team k (Com.Access a) = For.Nothing
+unfoldable pub walkNext : List ℕ → Walk → Option Walk
+walkNext s w = walkedRead (w .state) (readAt s (w .at))
 
--- the REGION that forks a team, as the code has it
-abbrev pub forkingOf : Option Fork → Forking
-forkingOf none = For.Nothing
-forkingOf (some f) = For.Forked (segmentOf (f .byTeam) (f .byMember) (f .state)) (f .size)
+-- each barrier and each region opens a segment
+abbrev pub segmentNumber : ChunkState → ℕ
+segmentNumber k = k .barriers + k .regions
 
-abbrev pub FewForked : Forking → Type 0
-FewForked (For.Forked by size) = by .regions ≤ 65536
-FewForked For.Nothing = Unit
+-- a command that passes in a chunk's state, and a walk at such a command
+pub record Passable (k : ChunkState) (c : Command) : Type 0 where
+  pub few : segmentNumber k ≤ 65536
+  pub ranged : inRange c ≡ true
+  pub locks : misusesLock (k .locks) c ≡ false
 
-pub record ForkFound (s : List ℕ) (team : ℕ) (r : Forking) : Type 0 where
-  pub answer : r ≡ forkingOf (forkOf (bundleForks s) team)
-  pub few : FewForked r
+pub record Steady (s : List ℕ) (w : Walk) : Type 0 where
+  pub few : segmentNumber (w .state) ≤ 65536
+  pub locks : (t : Taken) → readAt s (w .at) ≡ gives t → misusesLock (w .state .locks) (t .command) ≡ false
 
--- whether a segment is the one of this team, member and number
-unfoldable pub isSought : ℕ → ℕ → ℕ → Segment → Bool
-isSought t m number k = eqb (k .team) t && eqb (k .member) m && eqb (k .barriers + k .regions) number
+-- the state in which the segment of a number is opened, in a chunk and in a bundle
+unfoldable pub stateIn : Chunk → ℕ → Option ChunkState
+stateIn c number = fromOption none (λ (g : Segment). some (g .state)) (getElem? (segmentsIn c) number)
 
--- the state in which a segment is opened, if there is such a segment
 unfoldable pub stateOf : List ℕ → ℕ → ℕ → ℕ → Option ChunkState
-stateOf s t m number = fromOption none (λ (c : Chunk). getElem? (segmentStates c) number) (chunkOf (chunksOf s) t m)
+stateOf s t m number = fromOption none (λ (c : Chunk). stateIn c number) (chunkOf (chunksOf s) t m)
 
-abbrev pub seekingOf : ℕ → ℕ → Option ChunkState → Seeking
-seekingOf t m none = Seek.Nothing
-seekingOf t m (some k) = Seek.Found (segmentOf t m k)
+-- the state that a walk has reached, in which few regions are joined
+abbrev pub stateReached : Walking → Option ChunkState
+stateReached (Walks.Onward w) = some (w .state)
+stateReached Walks.Ended = none
 
-abbrev pub FewFound : Seeking → Type 0
-FewFound (Seek.Found k) = k .regions ≤ 65536
-FewFound Seek.Nothing = Unit
+abbrev pub FewJoined : Walking → Type 0
+FewJoined (Walks.Onward w) = w .state .regions ≤ 65536
+FewJoined Walks.Ended = Unit
 
-pub record SegmentFound (s : List ℕ) (t m number : ℕ) (r : Seeking) : Type 0 where
-  pub answer : r ≡ seekingOf t m (stateOf s t m number)
-  pub few : FewFound r
+-- a chunk of an accepted bundle stands at an offset
+pub record ChunkAt (s : List ℕ) (place : ℕ) : Type 0 where
+  pub accepted : Accepted s
+  pub chunk : Chunk
+  pub present : List·Memᴰ chunk (chunksOf s)
+  pub placed : chunk .place ≡ place
+
+pub record Reached (s : List ℕ) (place number : ℕ) (r : Walking) : Type 0 where
+  pub state : (c : Chunk) → List·Memᴰ c (chunksOf s) → c .place ≡ place → stateReached r ≡ stateIn c number
+  pub few : FewJoined r
+
+-- the words hold the rows of an accepted bundle's chunks
+pub record ChunksIn (s chunks : List ℕ) (n : ℕ) : Type 0 where
+  pub accepted : Accepted s
+  pub rows : table (chunkRowAt chunks) n ≡ chunkRows (chunksOf s)
+
+pub record SegmentFound (s : List ℕ) (t m number : ℕ) (r : Walking) : Type 0 where
+  pub state : stateReached r ≡ stateOf s t m number
+  pub few : FewJoined r
+
+-- REGIONs that lead to the root: team numbers fall, "Teams nest at most 4 deep below the root"
+pub record Climbable (fs : List Fork) : Type 0 where
+  pub falls : (f : Fork) → List·Memᴰ f fs → f .parent < f .team
+  pub shallow : (f : Fork) → List·Memᴰ f fs → depthOf fs (f .team) ≤ 4
 
 -- the last triple of a segment's label, and a label with one triple more
-unfoldable pub tripleOf : Segment → ℕ → Triple
-tripleOf k size = record { offset = k .member + size * k .regions; span = size; interval = k .barriers }
+unfoldable pub tripleOf : ℕ → ChunkState → ℕ → Triple
+tripleOf m k size = record { offset = m + size * k .regions; span = size; interval = k .barriers }
 
 unfoldable pub extended : Label → Triple → Label
 extended l t = record { count = l .count + 1; triples = set (l .triples) (l .count) t }
 
--- what the labels of a chunk's segments have in common, and the label of a segment
-unfoldable pub chunkLabelOf : List ℕ → ℕ → ChunkLabel
-chunkLabelOf s team = record { label = holding (forkLabel (suc team) (bundleForks s) team); size = sizeOf (bundleForks s) team }
+-- what the labels of a chunk's segments have in common
+unfoldable pub chunkLabelOf : List Fork → ℕ → ChunkLabel
+chunkLabelOf fs team = record { label = holding (forkLabel (suc team) fs team); size = sizeOf fs team }
 
-unfoldable pub labelAt : List ℕ → Segment → Label
-labelAt s k = holding (forkLabel (suc (k .team)) (bundleForks s) (k .team) ++ (tripleOf k (sizeOf (bundleForks s) (k .team)) ∷ []))
+-- the label of the segment that is opened in a state, or 14
+abbrev pub labelIn : List Fork → ℕ → ℕ → Option ChunkState → Answer (List Triple)
+labelIn fs t m = fromOption (refuses 14 0) (λ (k : ChunkState). gives (segmentLabel fs t m k))

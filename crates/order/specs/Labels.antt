@@ -1,17 +1,17 @@
 -- Offset-span labels: the label of a segment, found by climbing, and the comparison of two labels.
 use Prim.Native.Nat.{ℕ, zero, suc, _+_, _-_, _*_, _%_}
 use mathlib.Core.Path.{_≡_}
-use mathlib.Core.Bool.{Bool, true, false, cond, not, _&&_, _||_}
-use mathlib.Core.List.{List, [], _∷_, _++_, map}
-use mathlib.Core.Option.{Option, none, some}
+use mathlib.Core.Bool.{Bool, false, cond, not, _&&_}
+use mathlib.Core.List.{List, [], _∷_, _++_}
 use lib.ListN.{length, take, replicate, getElem?}
 use lib.Dec.{eqb, ltb, leb}
 use Rattle.bundle.specs.Answer.{Answer, gives, refuses, whenGiven, numberOf}
 use Rattle.bundle.specs.Lists.{all, fromOption}
-use Rattle.bundle.specs.Chunks.{Chunk, fresh, afterCommand, segmentNumber, chunksOf, commandsOf, chunkOf}
-use Rattle.bundle.specs.Check.{Fork, forksOf, forkOf, sizeOf, checkOf}
+use Rattle.bundle.specs.Chunks.{Chunk, chunksOf, chunkOf}
+use Rattle.bundle.specs.Walk.{Segment, segmentsIn, forksOf}
+use Rattle.bundle.specs.Check.{forkOf, sizeOf, checkOf}
 use Rattle.bundle.specs.declared.chunk.ChunkState.{ChunkState}
-use Rattle.bundle.specs.declared.command.Command.{Command}
+use Rattle.bundle.specs.declared.index.Fork.{Fork}
 use Rattle.order.specs.declared.label.Triple.{Triple}
 use Rattle.order.specs.declared.label.Label.{Label}
 use Rattle.order.specs.declared.label.Order.{Order}
@@ -21,17 +21,6 @@ use Rattle.order.specs.declared.climb.LabelAnswer.the-variants as Ans
 use Rattle.order.specs.declared.climb.Labelling.{Labelling}
 use Rattle.order.specs.declared.label.Comparison.{Comparison}
 use Rattle.order.specs.declared.label.Comparison.the-variants as Com
-
--- the states in which the segments of a chunk are opened, in their order: a command that raises the segment number opens one
-unfoldable pub openedFrom : ChunkState → List Command → List ChunkState
-openedFrom k [] = []
-openedFrom k (c ∷ cs) =
-    cond (eqb (segmentNumber (afterCommand k c)) (segmentNumber k))
-    (openedFrom (afterCommand k c) cs)
-    (afterCommand k c ∷ openedFrom (afterCommand k c) cs)
-
-unfoldable pub segmentStates : Chunk → List ChunkState
-segmentStates c = fresh ∷ openedFrom fresh (commandsOf c)
 
 -- "The last triple of a segment has offset = member + span times regions joined before it in its chunk, span = team size, interval =
 -- barriers passed"
@@ -44,7 +33,7 @@ unfoldable pub forkLabel : ℕ → List Fork → ℕ → List Triple
 forkLabel zero fs t = []
 forkLabel (suc fuel) fs t =
     fromOption []
-    (λ (f : Fork). forkLabel fuel fs (f .byTeam) ++ (lastTriple fs (f .byTeam) (f .byMember) (f .state) ∷ []))
+    (λ (f : Fork). forkLabel fuel fs (f .parent) ++ (lastTriple fs (f .parent) (f .member) (f .state) ∷ []))
     (forkOf fs t)
 
 unfoldable pub segmentLabel : List Fork → ℕ → ℕ → ChunkState → List Triple
@@ -56,10 +45,10 @@ labelOf s t m number =
     whenGiven (checkOf s)
     (λ u.
     fromOption (refuses 14 0)
-    (λ c.
+    (λ (c : Chunk).
     fromOption (refuses 14 0)
-    (λ k. gives (segmentLabel (forksOf (chunksOf s)) t m k))
-    (getElem? (segmentStates c) number))
+    (λ (g : Segment). gives (segmentLabel (forksOf (chunksOf s)) t m (g .state)))
+    (getElem? (segmentsIn c) number))
     (chunkOf (chunksOf s) t m))
 
 -- the counted triples of a label as it is lent: "Triples past a label's count are not looked at"
@@ -114,11 +103,11 @@ compareOf a b =
 -- what the code's answer says
 abbrev pub comparisonOf : Comparison → Answer Order
 comparisonOf (Com.Compared o) = gives o
-comparisonOf (Com.Refused cause place) = refuses (numberOf cause) place
+comparisonOf (Com.Refused place cause) = refuses (numberOf cause) place
 
 abbrev pub labelAnswerOf : Label → LabelAnswer → Answer (List Triple)
 labelAnswerOf l Ans.Found = gives (counted l)
-labelAnswerOf l (Ans.Refused cause place) = refuses (numberOf cause) place
+labelAnswerOf l (Ans.Refused place cause) = refuses (numberOf cause) place
 
 abbrev pub labellingOf : Labelling → Answer (List Triple)
 labellingOf r = labelAnswerOf (r .label) (r .answer)

@@ -50,4 +50,4 @@ sharedOf a b = cond (rangeOk a) (cond (rangeOk b) (gives (sharedByte a b)) (refu
 abbrev pub sharingOf : Shared → Answer (Option ℕ)
 sharingOf (Sh.Byte n) = gives (some n)
 sharingOf Sh.Nothing = gives none
-sharingOf (Sh.Refused cause place) = refuses (numberOf cause) place
+sharingOf (Sh.Refused place cause) = refuses (numberOf cause) place

@@ -1,24 +1,48 @@
 // The label of a segment, found by climbing from its team to the root.
 use crate::label::Label;
 use crate::label::Triple;
-use bundle::check::Checking;
-use bundle::check::check;
+use bundle::check::Indexing;
+use bundle::check::index_bundle;
+use bundle::chunk::ChunkState;
 use bundle::command::Command;
 use bundle::command::Reading;
 use bundle::command::read_command;
+use bundle::index::chunk_at;
+use bundle::index::chunk_of;
+use bundle::index::fork_at;
+use bundle::index::fork_of;
 use bundle::refusal::Cause;
 ghost use mathlib.Core.Path.{_≡_};
 ghost use mathlib.Core.List.{[]};
-ghost use Prim.Native.Nat.{_+_, _≤_, _<_};
+ghost use mathlib.Core.Option.{some};
+ghost use Prim.Native.Nat.{_≤_, _<_};
 ghost use Rattle.bundle.specs.Answer.{refuses, numberOf};
-ghost use Rattle.bundle.specs.Check.{Accepted};
-ghost use Rattle.order.specs.Labels.{holding, labelOf, Labelled};
-ghost use Rattle.order.specs.Climbing.{opened, forkedHere, ForkFound, isSought, SegmentFound, tripleOf, extended, chunkLabelOf, labelAt};
+ghost use Rattle.bundle.specs.Index.{table, forkRowAt};
+ghost use Rattle.order.specs.Labels.{holding, segmentLabel, labelOf, Labelled};
+ghost use Rattle.order.specs.Climbing.{
+  walkingOf,
+  walkedOn,
+  walkNext,
+  segmentNumber,
+  Passable,
+  Steady,
+  ChunkAt,
+  Reached,
+  FewJoined,
+  stateReached,
+  ChunksIn,
+  SegmentFound,
+  Climbable,
+  tripleOf,
+  extended,
+  chunkLabelOf,
+  labelIn,
+};
 
 // What is answered for a segment's label: that it is found, and stands beside this, or a refusal.
 pub enum LabelAnswer {
     Found,
-    Refused { cause: Cause, place: usize },
+    Refused { place: usize, cause: Cause },
 }
 
 // An answer and the label beside it, whose triples past its count are 0; refused, the label has no triples.
@@ -27,25 +51,16 @@ pub struct Labelling {
     pub label: Label,
 }
 
-// A segment: the team and member of its chunk, and the barriers passed and regions joined before it in the chunk.
-struct Segment {
-    team: u16,
-    member: u8,
-    barriers: u32,
-    regions: u32,
+// How far a walk over a chunk's commands is: the position, and the chunk's state there.
+struct Walk {
+    at: usize,
+    state: ChunkState,
 }
 
-// Which segment forks a team.
-enum Forking {
-    // The segment that the REGION ends, and the team's size.
-    Forked { by: Segment, size: u8 },
-    Nothing,
-}
-
-// A segment that is looked for.
-enum Seeking {
-    Found(Segment),
-    Nothing,
+// A walk that goes on from here, or whose chunk has ended.
+enum Walking {
+    Onward(Walk),
+    Ended,
 }
 
 // What the labels of a chunk's segments have in common: the label of the segment that forked the team, empty for the root,
@@ -55,130 +70,101 @@ struct ChunkLabel {
     size: u8,
 }
 
-// The segment that is open after a command: MEMBER opens the first of a chunk, REGION and BARRIER each the next.
-fn after(segment: Segment, command: Command) -> Segment
-    requires { ⌜ segment .barriers + segment .regions < 65536 ⌝ }
-    ensures { λ r. ⌜ r ≡ opened segment command ⌝ }
+fn go_on(next: usize, state: ChunkState) -> Walking
+    ensures { λ r. ⌜ walkingOf r ≡ some (record { at = next; state = state }) ⌝ }
+{
+    Walking::Onward(Walk { at: next, state })
+}
+
+// The walk after a command: MEMBER begins the chunk's state, and END ends the chunk.
+fn after(state: ChunkState, command: Command, next: usize) -> Walking
+    requires { ⌜ Passable state command ⌝ }
+    ensures { λ r. ⌜ walkingOf r ≡ walkedOn state command next ⌝ }
 {
     match command {
-        Command::Member { team, member } => Segment {
-            team,
-            member,
-            barriers: 0,
-            regions: 0,
-        },
-        Command::End => segment,
-        Command::Region { team: _, size: _ } => Segment {
-            team: segment.team,
-            member: segment.member,
-            barriers: segment.barriers,
-            regions: segment.regions + 1,
-        },
-        Command::Barrier => Segment {
-            team: segment.team,
-            member: segment.member,
-            barriers: segment.barriers + 1,
-            regions: segment.regions,
-        },
-        Command::Acquire(_) => segment,
-        Command::Release(_) => segment,
-        Command::Access(_) => segment,
+        Command::Member { team: _, member: _ } => go_on(next, ChunkState::fresh()),
+        Command::End => Walking::Ended,
+        Command::Region { team: _, size: _ } => go_on(next, state.after_join()),
+        Command::Barrier => go_on(next, state.after_barrier()),
+        Command::Acquire(lock) => go_on(next, state.after_acquire(lock)),
+        Command::Release(lock) => go_on(next, state.after_release(lock)),
+        Command::Access(_) => go_on(next, state),
     }
 }
 
-// Whether a command in a segment forks a team.
-fn fork_here(segment: Segment, command: Command, team: u16) -> Forking
-    ensures { λ r. ⌜ r ≡ forkedHere team segment command ⌝ }
+// The walk after the command at its position.
+fn walk_on(bytes: &[u8], walk: Walk) -> Walking
+    requires { ⌜ Steady (now bytes) walk ⌝ }
+    ensures { λ r. ⌜ walkingOf r ≡ walkNext (now (bytes .entry)) walk ⌝ }
 {
-    match command {
-        Command::Member { team: _, member: _ } => Forking::Nothing,
-        Command::End => Forking::Nothing,
-        Command::Region { team: forked, size } => {
-            if forked == team {
-                return Forking::Forked { by: segment, size };
-            }
-            Forking::Nothing
-        }
-        Command::Barrier => Forking::Nothing,
-        Command::Acquire(_) => Forking::Nothing,
-        Command::Release(_) => Forking::Nothing,
-        Command::Access(_) => Forking::Nothing,
-    }
-}
-
-// The REGION that forks a team, by one pass over an accepted bundle, in which no command is refused.
-fn find_fork(bytes: &[u8], team: u16) -> Forking
-    requires { ⌜ Accepted (now bytes) ⌝ }
-    ensures { λ r. ⌜ ForkFound (now (bytes .entry)) team r ⌝ }
-{
-    let mut at = 0;
-    let mut segment = Segment {
-        team: 0,
-        member: 0,
-        barriers: 0,
-        regions: 0,
+    let reading = read_command(bytes, walk.at);
+    let Reading::Taken { next, command } = reading else {
+        return Walking::Ended;
     };
-    while at < bytes.len() {
-        let reading = read_command(bytes, at);
-        let Reading::Taken { command, next } = reading else {
-            return Forking::Nothing;
-        };
-        let here = fork_here(segment, command, team);
-        let Forking::Nothing = here else {
-            return here;
-        };
-        segment = after(segment, command);
-        at = next;
-    }
-    Forking::Nothing
+    after(walk.state, command, next)
 }
 
-// Whether a segment is the one of this team, member and number.
-fn is_sought(segment: Segment, team: u16, member: u8, number: u32) -> bool
-    requires { ⌜ segment .barriers + segment .regions ≤ 65536 ⌝ }
-    ensures { λ r. ⌜ r ≡ isSought team member number segment ⌝ }
+// The number of the segment that a walk is in: each barrier and each region opens one.
+fn segment_of(walk: Walk) -> u32
+    requires { ⌜ segmentNumber (walk .state) ≤ 65536 ⌝ }
+    ensures { λ r. ⌜ r ≡ segmentNumber (walk .state) ⌝ }
 {
-    (segment.team == team)
-        & (segment.member == member)
-        & (segment.barriers + segment.regions == number)
+    let state = walk.state;
+    state.barriers + state.regions
 }
 
-// The segment of this team, member and number, by one pass over an accepted bundle, in which no command is refused.
-fn find_segment(bytes: &[u8], team: u16, member: u8, number: u32) -> Seeking
-    requires { ⌜ Accepted (now bytes) ⌝ }
+// Walks from a chunk's MEMBER, at `place`, to where the segment of a number is opened.
+fn walk_to(bytes: &[u8], place: usize, number: u32) -> Walking
+    requires { ⌜ ChunkAt (now bytes) place ⌝ }
+    ensures { λ r. ⌜ Reached (now (bytes .entry)) place number r ⌝ }
+{
+    let mut walk = Walk {
+        at: place,
+        state: ChunkState::fresh(),
+    };
+    while segment_of(walk) < number {
+        match walk_on(bytes, walk) {
+            Walking::Onward(next) => {
+                walk = next;
+            }
+            Walking::Ended => {
+                return Walking::Ended;
+            }
+        }
+    }
+    Walking::Onward(walk)
+}
+
+// The walk to where a member's segment is opened, by the rows of the chunks.
+fn find_segment(
+    bytes: &[u8],
+    chunks: &[u64],
+    count: u32,
+    team: u16,
+    member: u8,
+    number: u32,
+) -> Walking
+    requires { ⌜ ChunksIn (now bytes) (now chunks) count ⌝ }
     ensures { λ r. ⌜ SegmentFound (now (bytes .entry)) team member number r ⌝ }
 {
-    let mut at = 0;
-    let mut segment = Segment {
-        team: 0,
-        member: 0,
-        barriers: 0,
-        regions: 0,
-    };
-    while at < bytes.len() {
-        let reading = read_command(bytes, at);
-        let Reading::Taken { command, next } = reading else {
-            return Seeking::Nothing;
-        };
-        segment = after(segment, command);
-        if is_sought(segment, team, member, number) {
-            return Seeking::Found(segment);
-        }
-        at = next;
+    let i = chunk_of(chunks, count, team, member);
+    if count <= i {
+        return Walking::Ended;
     }
-    Seeking::Nothing
+    let row = chunk_at(chunks, i);
+    walk_to(bytes, row.place, number)
 }
 
 // The last triple of a segment's label.
-fn last_triple(segment: Segment, size: u8) -> Triple
-    requires { ⌜ segment .regions ≤ 65536 ⌝ }
-    ensures { λ r. ⌜ r ≡ tripleOf segment size ⌝ }
+fn last_triple(member: u8, state: ChunkState, size: u8) -> Triple
+    requires { ⌜ state .regions ≤ 65536 ⌝ }
+    ensures { λ r. ⌜ r ≡ tripleOf member state size ⌝ }
 {
     let span = size as u32;
     Triple {
-        offset: segment.member as u32 + span * segment.regions,
+        offset: member as u32 + span * state.regions,
         span,
-        interval: segment.barriers,
+        interval: state.barriers,
     }
 }
 
@@ -212,9 +198,9 @@ fn extend(label: Label, triple: Triple) -> Label
 }
 
 // A chunk wants the label of the segment that forked its team: the team number falls.
-fn label_of_chunk(bytes: &[u8], team: u16) -> ChunkLabel
-    requires { ⌜ Accepted (now bytes) ⌝ }
-    ensures { λ r. ⌜ r ≡ chunkLabelOf (now (bytes .entry)) team ⌝ }
+fn label_of_chunk(forks: &[u64], count: u32, team: u16) -> ChunkLabel
+    requires { ⌜ Climbable (table (forkRowAt (now forks)) count) ⌝ }
+    ensures { λ r. ⌜ r ≡ chunkLabelOf (table (forkRowAt (now (forks .entry))) count) team ⌝ }
 {
     if team == 0 {
         return ChunkLabel {
@@ -222,50 +208,50 @@ fn label_of_chunk(bytes: &[u8], team: u16) -> ChunkLabel
             size: 1,
         };
     }
-    let fork = find_fork(bytes, team);
-    let Forking::Forked { by, size } = fork else {
+    let i = fork_of(forks, count, team);
+    if count <= i {
         return ChunkLabel {
             label: empty_label(),
             size: 0,
         };
-    };
+    }
+    let fork = fork_at(forks, i);
     ChunkLabel {
-        label: label_at(bytes, by),
-        size,
+        label: label_at(forks, count, fork.parent, fork.member, fork.state),
+        size: fork.size,
     }
 }
 
 // A segment wants the label of its own chunk, and puts its last triple behind it.
-fn label_at(bytes: &[u8], segment: Segment) -> Label
-    requires { ⌜ Accepted (now bytes) × (segment .regions ≤ 65536) ⌝ }
-    ensures { λ r. ⌜ r ≡ labelAt (now (bytes .entry)) segment ⌝ }
+fn label_at(forks: &[u64], count: u32, team: u16, member: u8, state: ChunkState) -> Label
+    requires { ⌜ Climbable (table (forkRowAt (now forks)) count) × (state .regions ≤ 65536) ⌝ }
+    ensures { λ r. ⌜ r ≡ holding (segmentLabel (table (forkRowAt (now (forks .entry))) count) team member state) ⌝ }
 {
-    let chunk = label_of_chunk(bytes, segment.team);
+    let chunk = label_of_chunk(forks, count, team);
     let label = chunk.label;
-    extend(label, last_triple(segment, chunk.size))
+    extend(label, last_triple(member, state, chunk.size))
 }
 
-fn refused(cause: Cause, place: usize) -> Labelling
+fn refused(place: usize, cause: Cause) -> Labelling
     ensures { λ r. ⌜ Labelled r (refuses (numberOf cause) place) ⌝ }
 {
     Labelling {
-        answer: LabelAnswer::Refused { cause, place },
+        answer: LabelAnswer::Refused { place, cause },
         label: empty_label(),
     }
 }
 
-// The label of a segment of an accepted bundle; 14 where there is none such.
-fn find_label(bytes: &[u8], team: u16, member: u8, number: u32) -> Labelling
-    requires { ⌜ Accepted (now bytes) ⌝ }
-    ensures { λ r. ⌜ Labelled r (labelOf (now (bytes .entry)) team member number) ⌝ }
+// The label of the segment that a walk has reached; 14 where there is none such.
+fn label_reached(forks: &[u64], count: u32, team: u16, member: u8, walking: Walking) -> Labelling
+    requires { ⌜ Climbable (table (forkRowAt (now forks)) count) × FewJoined walking ⌝ }
+    ensures { λ r. ⌜ Labelled r (labelIn (table (forkRowAt (now (forks .entry))) count) team member (stateReached walking)) ⌝ }
 {
-    let seeking = find_segment(bytes, team, member, number);
-    let Seeking::Found(segment) = seeking else {
-        return refused(Cause::NoneSuch, 0);
+    let Walking::Onward(walk) = walking else {
+        return refused(0, Cause::NoneSuch);
     };
     Labelling {
         answer: LabelAnswer::Found,
-        label: label_at(bytes, segment),
+        label: label_at(forks, count, team, member, walk.state),
     }
 }
 
@@ -273,9 +259,17 @@ fn find_label(bytes: &[u8], team: u16, member: u8, number: u32) -> Labelling
 pub fn label_of_segment(bytes: &[u8], team: u16, member: u8, segment: u32) -> Labelling
     ensures { λ r. ⌜ Labelled r (labelOf (now (bytes .entry)) team member segment) ⌝ }
 {
-    let checking = check(bytes);
-    match checking {
-        Checking::Accepted => find_label(bytes, team, member, segment),
-        Checking::Refused { cause, place } => refused(cause, place),
+    let mut chunks = [0u64; 1024];
+    let mut forks = [0u64; 1536];
+    let indexing = index_bundle(bytes, &mut chunks, &mut forks);
+    match indexing {
+        Indexing::Accepted {
+            chunks: chunk_count,
+            forks: fork_count,
+        } => {
+            let walking = find_segment(bytes, &chunks, chunk_count, team, member, segment);
+            label_reached(&forks, fork_count, team, member, walking)
+        }
+        Indexing::Refused { place, cause } => refused(place, cause),
     }
 }

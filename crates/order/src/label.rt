@@ -30,7 +30,7 @@ pub enum Order {
 // What comparing two labels gives.
 pub enum Comparison {
     Compared(Order),
-    Refused { cause: Cause, place: usize },
+    Refused { place: usize, cause: Cause },
 }
 
 // Whether a span is 1 to 64.
@@ -91,8 +91,8 @@ fn compare_triples(number: usize, first: Triple, second: Triple) -> Comparison
     let span = first.span;
     if span != second.span {
         return Comparison::Refused {
-            cause: Cause::UnequalSpans,
             place: number,
+            cause: Cause::UnequalSpans,
         };
     }
     if first.interval < second.interval {
@@ -144,14 +144,14 @@ pub fn compare(first: Label, second: Label) -> Comparison
 {
     if !label_ok(first) {
         return Comparison::Refused {
-            cause: Cause::BadLabel,
             place: 1,
+            cause: Cause::BadLabel,
         };
     }
     if !label_ok(second) {
         return Comparison::Refused {
-            cause: Cause::BadLabel,
             place: 2,
+            cause: Cause::BadLabel,
         };
     }
     compare_counted(first, second)

@@ -24,7 +24,7 @@ ghost use Rattle.order.specs.Pairs.{
 pub enum Shared {
     Byte(u32),
     Nothing,
-    Refused { cause: Cause, place: usize },
+    Refused { place: usize, cause: Cause },
 }
 
 // The lowest byte that two ranges of any field values share.
@@ -201,14 +201,14 @@ pub fn lowest_shared_byte(first: Range, second: Range) -> Shared
 {
     if !range_ok(first) {
         return Shared::Refused {
-            cause: Cause::OutOfRange,
             place: 1,
+            cause: Cause::OutOfRange,
         };
     }
     if !range_ok(second) {
         return Shared::Refused {
-            cause: Cause::OutOfRange,
             place: 2,
+            cause: Cause::OutOfRange,
         };
     }
     shared_of_valid(first, second)

@@ -3,7 +3,7 @@ use crate::numbers::byte_at;
 use crate::numbers::four_bytes;
 use crate::numbers::two_bytes;
 use crate::text;
-use bundle::check::Checking;
+use bundle::answer::Checking;
 use order::climb::LabelAnswer;
 use order::climb::Labelling;
 use order::label::Label;
@@ -12,7 +12,7 @@ use order::label::Triple;
 fn put_checking(checking: Checking) {
     match checking {
         Checking::Accepted => text::put_text(b"accepted"),
-        Checking::Refused { cause, place } => text::put_refusal(cause, place),
+        Checking::Refused { place, cause } => text::put_refusal(cause, place),
     }
 }
 
@@ -71,7 +71,7 @@ fn put_labelling(labelling: Labelling) {
     let label = labelling.label;
     match answer {
         LabelAnswer::Found => put_label(label),
-        LabelAnswer::Refused { cause, place } => text::put_refusal(cause, place),
+        LabelAnswer::Refused { place, cause } => text::put_refusal(cause, place),
     }
 }
 

@@ -68,8 +68,8 @@ fn put_taken(command: Command, next: usize) {
 
 fn put_reading(reading: Reading) {
     match reading {
-        Reading::Taken { command, next } => put_taken(command, next),
-        Reading::Refused { cause, place } => text::put_refusal(cause, place),
+        Reading::Taken { next, command } => put_taken(command, next),
+        Reading::Refused { place, cause } => text::put_refusal(cause, place),
     }
 }
 
@@ -129,7 +129,7 @@ fn put_putting(putting: Putting) {
             text::put_text(b"put");
             text::put_field(next as u64);
         }
-        Putting::Refused { cause, place } => text::put_refusal(cause, place),
+        Putting::Refused { place, cause } => text::put_refusal(cause, place),
     }
 }
 

@@ -50,7 +50,7 @@ fn put_order(order: Order) {
 fn put_comparison(comparison: Comparison) {
     match comparison {
         Comparison::Compared(order) => put_order(order),
-        Comparison::Refused { cause, place } => text::put_refusal(cause, place),
+        Comparison::Refused { place, cause } => text::put_refusal(cause, place),
     }
 }
 
@@ -84,7 +84,7 @@ fn put_shared(shared: Shared) {
             text::put_field(byte as u64);
         }
         Shared::Nothing => text::put_text(b"none"),
-        Shared::Refused { cause, place } => text::put_refusal(cause, place),
+        Shared::Refused { place, cause } => text::put_refusal(cause, place),
     }
 }
 

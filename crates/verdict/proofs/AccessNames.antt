@@ -1,16 +1,19 @@
 -- The names of a bundle's accesses.
 use Prim.Native.Nat.{ℕ, _+_, _≤_}
-use mathlib.Core.Path.{_≡_, refl, _∙_, ap}
+use mathlib.Core.Path.{_≡_, refl, _∙_, ap, subst}
 use mathlib.Core.Logic.{⊎-elim}
-use mathlib.Core.List.{List, [], _∷_, map, List·Memᴰ, List·Memᴰ·not-nil, List·Memᴰ·cases-cons, Memᴰ·of-map}
+use mathlib.Core.List.{List, [], _∷_, _++_, map, List·Memᴰ, List·Memᴰ·not-nil, List·Memᴰ·cases-cons, Memᴰ·of-map}
 use native.Mathlib.Omega.{arith}
-use Rattle.bundle.specs.Chunks.{Chunk, fresh, afterCommand, commandsOf}
+use native.Mathlib.Nat.{add-zero}
+use Rattle.bundle.specs.Lists.{concatMap}
+use Rattle.bundle.specs.Chunks.{Placed, Chunk, fresh, afterCommand}
+use Rattle.bundle.specs.Walk.{opensSegment, addsAccess, Entry, entriesFrom, entriesOf}
 use Rattle.bundle.specs.declared.chunk.ChunkState.{ChunkState}
 use Rattle.bundle.specs.declared.command.Command.{Command}
-use Rattle.bundle.specs.declared.command.Command.the-variants as Com
 use Rattle.bundle.proofs.ListLaws.{Distinct, distinct-nil, distinct-cons, distinct-concatMap}
+use Rattle.bundle.proofs.Delimiters.{Accessing, accesses-some, accesses-none, accessings, on-no-access}
 use Rattle.bundle.proofs.Places.{memberKey}
-use Rattle.verdict.specs.Races.{NamedAccess, accessesFrom, accessesIn, accessesOf, nameKey}
+use Rattle.verdict.specs.Races.{NamedAccess, accessAt, accessesIn, accessesOf, nameKey}
 
 -- the accesses of a chunk are numbered on
 pub data Run (t m : ℕ) : ℕ → List NamedAccess → Type 0 where
@@ -21,16 +24,28 @@ pub data Run (t m : ℕ) : ℕ → List NamedAccess → Type 0 where
       → Run t m (n + 1) xs
       → Run t m n (x ∷ xs)
 
-pub access-run : (t m n : ℕ) (k : ChunkState) (cs : List Command) → Run t m n (accessesFrom t m n k cs)
-unfolding accessesFrom nameKey
-access-run t m n k [] = run-none
-access-run t m n k (Com.Member u i ∷ cs) = access-run t m n k cs
-access-run t m n k (Com.End ∷ cs) = access-run t m n k cs
-access-run t m n k (Com.Region u z ∷ cs) = access-run t m n (afterCommand k (Com.Region u z)) cs
-access-run t m n k (Com.Barrier ∷ cs) = access-run t m n (afterCommand k Com.Barrier) cs
-access-run t m n k (Com.Acquire l ∷ cs) = access-run t m n (afterCommand k (Com.Acquire l)) cs
-access-run t m n k (Com.Release l ∷ cs) = access-run t m n (afterCommand k (Com.Release l)) cs
-access-run t m n k (Com.Access a ∷ cs) = run-more refl (access-run t m (n + 1) k cs)
+access-run : (t m g n : ℕ) (k : ChunkState) (ps : List Placed) → Run t m n (concatMap (accessAt t m) (entriesFrom k g n ps))
+unfolding entriesFrom
+access-run t m g n k [] = run-none
+access-run t m g n k (p ∷ ps) =
+    let k′ = afterCommand k (p .command) in
+    let g′ = g + opensSegment (p .command) in
+    go (p .command) (accessings (p .command)) k′ g′ (access-run t m g′ (n + addsAccess (p .command)) k′ ps)
+  where
+    at : Command → Entry
+    at c = record { at = p .at; command = c; state = k; segment = g; accesses = n }
+
+    go :
+        (c : Command)
+        → Accessing c
+        → (k′ : ChunkState) (g′ : ℕ)
+        → Run t m (n + addsAccess c) (concatMap (accessAt t m) (entriesFrom k′ g′ (n + addsAccess c) ps))
+        → Run t m n (accessAt t m (at c) ++ concatMap (accessAt t m) (entriesFrom k′ g′ (n + addsAccess c) ps))
+    go c (accesses-some a) k′ g′ r = unfold accessAt addsAccess nameKey in (run-more refl r)
+    go c (accesses-none h) k′ g′ r =
+        let none : accessAt t m (at c) ≡ [] = unfold accessAt in (on-no-access [] _ c h) in
+        let still : n + addsAccess c ≡ n = unfold addsAccess in (ap (λ (i : ℕ). n + i) (on-no-access 0 (λ a. 1) c h) ∙ add-zero n) in
+        rw none (subst (λ (i : ℕ). Run t m i (concatMap (accessAt t m) (entriesFrom k′ g′ (n + addsAccess c) ps))) still r)
 
 -- an access by its name
 abbrev pub accessKey : NamedAccess → List ℕ
@@ -64,7 +79,7 @@ unfolding accessesOf accessesIn memberKey
 accesses-distinct cs d = distinct-concatMap memberKey accessesIn accessKey (λ c. run-distinct (runs c)) tells cs d
   where
     runs : (c : Chunk) → Run (c .team) (c .member) 0 (accessesIn c)
-    runs c = access-run (c .team) (c .member) 0 fresh (commandsOf c)
+    runs c = unfold entriesOf in (access-run (c .team) (c .member) 0 0 fresh (c .body))
 
     tells :
         (c d : Chunk) (u v : NamedAccess)

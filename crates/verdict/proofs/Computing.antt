@@ -1,11 +1,11 @@
 -- To unfold this is to unfold all definitions of the three crates, so that examples compute.
-use Rattle.verdict.specs.Graph.{sameNode, nodeAt, segmentsFrom, segmentsIn, segmentsOf, sameBorder, isBarrier, joins, samePair, linked, edgesOf, through, closed, closureOf, reaches}
+use Rattle.verdict.specs.Graph.{sameNode, sameBorder, isBarrier, joins, samePair, linked, edgesOf, through, closed, closureOf, reaches}
 use Rattle.verdict.specs.Judge.{verdictOf, judgementOf, raceAbove, overWork, judgedOf, judgeOf, nextAbove, nextOf}
-use Rattle.verdict.specs.Races.{accessesFrom, accessesIn, accessesOf, lexLess, nameKey, nameBelow, keyOf, raceKey, raceBelow, writes, atomic, clashes, raceAt, raceOf, insertRace, inOrder, racesAmong, racesOf}
+use Rattle.verdict.specs.Races.{accessAt, accessesIn, accessesOf, lexLess, nameKey, nameBelow, keyOf, raceKey, raceBelow, writes, atomic, clashes, raceAt, raceOf, insertRace, inOrder, racesAmong, racesOf}
 use Rattle.verdict.specs.Table.{triple, lent, answered, root, member0, member1, member1-later, E, counts, range, lastRead, lastTaken, row, after, table}
 use Rattle.bundle.proofs.Computing.{bundle-computes}
 use Rattle.order.proofs.Computing.{order-computes}
 
 unfoldable pub verdict-computes : Unit {0}
-unfolding sameNode nodeAt segmentsFrom segmentsIn segmentsOf sameBorder isBarrier joins samePair linked edgesOf through closed closureOf reaches verdictOf judgementOf raceAbove overWork judgedOf judgeOf nextAbove nextOf accessesFrom accessesIn accessesOf lexLess nameKey nameBelow keyOf raceKey raceBelow writes atomic clashes raceAt raceOf insertRace inOrder racesAmong racesOf triple lent answered root member0 member1 member1-later E counts range lastRead lastTaken row after table bundle-computes order-computes
+unfolding sameNode sameBorder isBarrier joins samePair linked edgesOf through closed closureOf reaches verdictOf judgementOf raceAbove overWork judgedOf judgeOf nextAbove nextOf accessAt accessesIn accessesOf lexLess nameKey nameBelow keyOf raceKey raceBelow writes atomic clashes raceAt raceOf insertRace inOrder racesAmong racesOf triple lent answered root member0 member1 member1-later E counts range lastRead lastTaken row after table bundle-computes order-computes
 verdict-computes = tt

@@ -1,12 +1,14 @@
 -- Chunks in another order: the same segments, accesses, paths, races and judgement.
-use mathlib.Core.Path.{_≡_, sym, _∙_, ap}
+use mathlib.Core.Path.{_≡_, refl, sym, _∙_, ap}
 use mathlib.Core.List.{List, map, List·Memᴰ, List·Permᴰ, Permᴰ·symm}
 use lib.ListN.{length, length-map}
-use Rattle.bundle.specs.Chunks.{Chunk, fresh}
+use Rattle.bundle.specs.Lists.{concatMap}
+use Rattle.bundle.specs.Chunks.{Chunk}
+use Rattle.bundle.specs.Walk.{entriesOf, openingAt, segmentsFrom}
 use Rattle.bundle.proofs.ListLaws.{perm-mem, perm-length, perm-concatMap, Distinct, concatMap-map}
-use Rattle.bundle.proofs.Places.{unplaced, memberKey, commandsOf-unplaced}
-use Rattle.verdict.specs.Graph.{Node, Segment, GraphPath, here, step, ofChunk, segmentsFrom, segmentsIn, segmentsOf}
-use Rattle.verdict.specs.Races.{IsRace, accessesFrom, accessesIn, accessesOf, racesOf}
+use Rattle.bundle.proofs.Places.{unplaced, unplacedEntry, memberKey, entries-unplaced}
+use Rattle.verdict.specs.Graph.{Node, Segment, GraphPath, here, step, segmentsIn, segmentsOf}
+use Rattle.verdict.specs.Races.{IsRace, accessAt, accessesIn, accessesOf, racesOf}
 use Rattle.verdict.specs.Judge.{judgementOf}
 use Rattle.verdict.specs.declared.race.Race.{Race}
 use Rattle.verdict.proofs.Sorting.{ascending-unique}
@@ -14,12 +16,18 @@ use Rattle.verdict.proofs.RaceList.{races-elim, races-intro, races-asce
 
 -- segments and accesses do not see the offsets
 pub segmentsIn-unplaced : (c : Chunk) → segmentsIn (unplaced c) ≡ segmentsIn c
-unfolding segmentsIn unplaced
-segmentsIn-unplaced c = ap (segmentsFrom (c .team) (c .member) ofChunk fresh) (commandsOf-unplaced c)
+unfolding segmentsIn
+segmentsIn-unplaced c = rw (entries-unplaced c) (unfold unplaced in (ap (segmentsFrom (c .team) (c .member) 0 _) openings))
+  where
+    openings : concatMap openingAt (map unplacedEntry (entriesOf c)) ≡ concatMap openingAt (entriesOf c)
+    openings = concatMap-map openingAt unplacedEntry (λ e. unfold openingAt unplacedEntry in refl) (entriesOf c)
 
 pub accessesIn-unplaced : (c : Chunk) → accessesIn (unplaced c) ≡ accessesIn c
-unfolding accessesIn unplaced
-accessesIn-unplaced c = ap (accessesFrom (c .team) (c .member) 0 fresh) (commandsOf-unplaced c)
+unfolding accessesIn
+accessesIn-unplaced c =
+    rw (entries-unplaced c)
+    (unfold unplaced in
+    (concatMap-map (accessAt (c .team) (c .member)) unplacedEntry (λ e. unfold accessAt unplacedEntry in refl) (entriesOf c)))
 
 pub segments-unplaced : (cs : List Chunk) → segmentsOf (map unplaced cs) ≡ segmentsOf cs
 unfolding segmentsOf

@@ -1,59 +1,15 @@
--- The graph: its nodes are the segments; its edges are drawn without labels.
+-- The graph: its nodes are the segments (of `Walk` in bundle); its edges are drawn without labels.
 use Prim.Native.Nat.{ℕ, suc, _+_}
 use mathlib.Core.Path.{_≡_}
 use mathlib.Core.Bool.{Bool, true, false, not, _&&_, _||_}
 use mathlib.Core.List.{List, [], _∷_, _++_, map, List·Memᴰ}
 use lib.Dec.{eqb}
 use Rattle.bundle.specs.Lists.{any, passing, concatMap}
-use Rattle.bundle.specs.Chunks.{Chunk, fresh, afterCommand, segmentNumber, commandsOf}
-use Rattle.bundle.specs.declared.chunk.ChunkState.{ChunkState}
-use Rattle.bundle.specs.declared.command.Command.{Command}
-use Rattle.bundle.specs.declared.command.Command.the-variants as Com
-
--- a segment by its chunk's team and member and its number in the chunk
-pub record Node : Type 0 where
-  pub team : ℕ
-  pub member : ℕ
-  pub number : ℕ
+unfoldable pub use Rattle.bundle.specs.Walk.{segmentsIn, segmentsOf}
+pub use Rattle.bundle.specs.Walk.{Node, Border, ofChunk, ofBarrier, ofRegion, Segment}
 
 unfoldable pub sameNode : Node → Node → Bool
 sameNode a b = eqb (a .team) (b .team) && eqb (a .member) (b .member) && eqb (a .number) (b .number)
-
--- what opens or ends a segment: the chunk's own MEMBER or END; the barrier of a number, counted from 0 in the chunk; the REGION that
--- forks a team
-pub data Border : Type 0 where
-  ofChunk : Border
-  ofBarrier : ℕ → Border
-  ofRegion : ℕ → Border
-
-pub record Segment : Type 0 where
-  pub node : Node
-  pub opened : Border
-  pub ended : Border
-
-unfoldable pub nodeAt : ℕ → ℕ → ChunkState → Node
-nodeAt t m k = record { team = t; member = m; number = segmentNumber k }
-
--- the segments of a chunk from the state k on, the open one opened at the border o: BARRIER and REGION end a segment and open the next
-unfoldable pub segmentsFrom : ℕ → ℕ → Border → ChunkState → List Command → List Segment
-segmentsFrom t m o k [] = record { node = nodeAt t m k; opened = o; ended = ofChunk } ∷ []
-segmentsFrom t m o k (Com.Member u i ∷ cs) = segmentsFrom t m o k cs
-segmentsFrom t m o k (Com.End ∷ cs) = segmentsFrom t m o k cs
-segmentsFrom t m o k (Com.Region u z ∷ cs) =
-    record { node = nodeAt t m k; opened = o; ended = ofRegion u }
-    ∷ segmentsFrom t m (ofRegion u) (afterCommand k (Com.Region u z)) cs
-segmentsFrom t m o k (Com.Barrier ∷ cs) =
-    record { node = nodeAt t m k; opened = o; ended = ofBarrier (k .barriers) }
-    ∷ segmentsFrom t m (ofBarrier (k .barriers)) (afterCommand k Com.Barrier) cs
-segmentsFrom t m o k (Com.Acquire l ∷ cs) = segmentsFrom t m o (afterCommand k (Com.Acquire l)) cs
-segmentsFrom t m o k (Com.Release l ∷ cs) = segmentsFrom t m o (afterCommand k (Com.Release l)) cs
-segmentsFrom t m o k (Com.Access a ∷ cs) = segmentsFrom t m o k cs
-
-unfoldable pub segmentsIn : Chunk → List Segment
-segmentsIn c = segmentsFrom (c .team) (c .member) ofChunk fresh (commandsOf c)
-
-unfoldable pub segmentsOf : List Chunk → List Segment
-segmentsOf cs = concatMap segmentsIn cs
 
 -- the edges, one case for each sentence of document 01
 pub data Joined (a b : Segment) : Type 0 where

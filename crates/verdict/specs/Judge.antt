@@ -68,9 +68,9 @@ nextOf s witness first second work = overWork work (nextAbove s (keyOf witness f
 -- what the code's answers say
 abbrev pub judgingOf : Judging → Answer Judgement
 judgingOf (Jud.Judged j) = gives j
-judgingOf (Jud.Refused cause place) = refuses (numberOf cause) place
+judgingOf (Jud.Refused place cause) = refuses (numberOf cause) place
 
 abbrev pub nextRaceOf : Next → Answer (Option Race)
 nextRaceOf (Nex.Found r) = gives (some r)
 nextRaceOf Nex.Nothing = gives none
-nextRaceOf (Nex.Refused cause place) = refuses (numberOf cause) place
+nextRaceOf (Nex.Refused place cause) = refuses (numberOf cause) place

@@ -4,3 +4,11 @@ pub mod Races
 pub mod Judge
 pub mod Demand
 pub mod Table
+pub mod Matrix
+pub mod Working
+pub mod Edges
+pub mod Filling
+pub mod Tallying
+pub mod Standin
+pub mod Census
+pub mod Promise

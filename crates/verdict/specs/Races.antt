@@ -8,15 +8,14 @@ use mathlib.Core.Option.{Option, none, some}
 use lib.Dec.{eqb, ltb}
 use Rattle.bundle.specs.Lists.{concatMap, fromOption}
 use Rattle.bundle.specs.Locks.{holds, commonLock}
-use Rattle.bundle.specs.Chunks.{Chunk, fresh, afterCommand, commandsOf, chunksOf}
-use Rattle.bundle.specs.declared.chunk.ChunkState.{ChunkState}
+use Rattle.bundle.specs.Cases.{onAccess}
+use Rattle.bundle.specs.Chunks.{Chunk}
+use Rattle.bundle.specs.Walk.{Entry, entriesOf}
 use Rattle.bundle.specs.declared.command.AccessKind.{AccessKind}
 use Rattle.bundle.specs.declared.command.AccessKind.the-variants as Kind
 use Rattle.bundle.specs.declared.command.Access.{Access}
-use Rattle.bundle.specs.declared.command.Command.{Command}
-use Rattle.bundle.specs.declared.command.Command.the-variants as Com
 use Rattle.order.specs.Ranges.{Touches, sharedByte}
-use Rattle.verdict.specs.Graph.{Node, Segment, Pair, GraphPath, nodeAt, segmentsOf, closureOf, reaches}
+use Rattle.verdict.specs.Graph.{Node, Segment, Pair, GraphPath, segmentsOf, closureOf, reaches}
 use Rattle.verdict.specs.declared.race.Name.{Name}
 use Rattle.verdict.specs.declared.race.Race.{Race}
 
@@ -28,26 +27,21 @@ pub record NamedAccess : Type 0 where
   pub access : Access
   pub locks : ℕ
 
--- the accesses of a chunk from the state k on, the next one's number being n
-unfoldable pub accessesFrom : ℕ → ℕ → ℕ → ChunkState → List Command → List NamedAccess
-accessesFrom t m n k [] = []
-accessesFrom t m n k (Com.Member u i ∷ cs) = accessesFrom t m n k cs
-accessesFrom t m n k (Com.End ∷ cs) = accessesFrom t m n k cs
-accessesFrom t m n k (Com.Region u z ∷ cs) = accessesFrom t m n (afterCommand k (Com.Region u z)) cs
-accessesFrom t m n k (Com.Barrier ∷ cs) = accessesFrom t m n (afterCommand k Com.Barrier) cs
-accessesFrom t m n k (Com.Acquire l ∷ cs) = accessesFrom t m n (afterCommand k (Com.Acquire l)) cs
-accessesFrom t m n k (Com.Release l ∷ cs) = accessesFrom t m n (afterCommand k (Com.Release l)) cs
-accessesFrom t m n k (Com.Access a ∷ cs) =
+unfoldable pub accessAt : ℕ → ℕ → Entry → List NamedAccess
+accessAt t m e =
+    onAccess []
+    (λ a.
     record {
-      name = record { team = t; member = m; number = n };
-      node = nodeAt t m k;
+      name = record { team = t; member = m; number = e .accesses };
+      node = record { team = t; member = m; number = e .segment };
       access = a;
-      locks = k .locks;
+      locks = e .state .locks;
     }
-    ∷ accessesFrom t m (n + 1) k cs
+    ∷ [])
+    (e .command)
 
 unfoldable pub accessesIn : Chunk → List NamedAccess
-accessesIn c = accessesFrom (c .team) (c .member) 0 fresh (commandsOf c)
+accessesIn c = concatMap (accessAt (c .team) (c .member)) (entriesOf c)
 
 unfoldable pub accessesOf : List Chunk → List NamedAccess
 accessesOf cs = concatMap accessesIn cs

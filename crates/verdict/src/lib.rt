@@ -1,2 +1,9 @@
 // The races of a bundle: the judgement, and the next race.
+mod edges;
+mod fill;
+pub mod judge;
+mod matrix;
+mod pairs;
 pub mod race;
+mod rows;
+mod standin;

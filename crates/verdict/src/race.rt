@@ -35,12 +35,12 @@ pub struct Judgement {
 // What judging a bundle gives.
 pub enum Judging {
     Judged(Judgement),
-    Refused { cause: Cause, place: usize },
+    Refused { place: usize, cause: Cause },
 }
 
 // What the next race above a key is.
 pub enum Next {
     Found(Race),
     Nothing,
-    Refused { cause: Cause, place: usize },
+    Refused { place: usize, cause: Cause },
 }

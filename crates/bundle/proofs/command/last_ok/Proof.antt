@@ -2,7 +2,7 @@
 use native.Mathlib.Omega.{arith}
 use borrow.Author.Needs.{needs}
 use Rattle.bundle.specs.Commands.{lastByte}
-use Rattle.bundle.proofs.Ranges.{steps-fit, fit-both}
+use Rattle.bundle.proofs.Ranges.{steps-fit}
 use Rattle.bundle.proofs.command.last_ok.Statement.{statement}
 use Rattle.bundle.proofs.command.last_ok.Tie as tie
 
@@ -23,9 +23,7 @@ add-result-2 c =
 
 returns : tie.Need-returns
 unfolding lastByte
-returns c =
-    let r = c .before .before .before .before .args .range in
-    fit-both _ (r .stride) (r .count) (search needs) (search needs)
+returns c = search needs
 
 pub last-ok-spec : {M : Type 1} → statement M
 last-ok-spec =

@@ -13,7 +13,7 @@ returns : tie.Need-returns
 returns c = put-out-of-range _ _ _ (sym (c .before .in-range .ensures) ∙ not-true _ (c .if1 .taken))
 
 fits-requires : tie.Need-fits-requires
-fits-requires c κs = encoded-length _ (c .before .encode .ensures) .0
+fits-requires c κs = encoded-length _ (c .before .encode .ensures)
 
 returns-2 : tie.Need-returns-2
 returns-2 c =

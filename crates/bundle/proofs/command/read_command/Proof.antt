@@ -1,63 +1,34 @@
 -- `bundle::command::read_command` meets its contract. Assumes nothing.
-use mathlib.Core.Path.{_∙_, refl}
-use Rattle.bundle.specs.Commands.{widthOf, commandAt}
-use Rattle.bundle.proofs.Decoding.{end, barrier}
-use Rattle.bundle.proofs.Arms.{read-past, read-unknown, read-whole, not-known}
-use native.Mathlib.Omega.{arith}
+use mathlib.Core.Path.{sym, _∙_}
 use borrow.Author.Needs.{needs}
+use borrow.Author.Tests.{not-true, not-false}
+use Rattle.bundle.proofs.Arms.{read-refused, read-beyond, read-within}
 use Rattle.bundle.proofs.command.read_command.Statement.{statement}
 use Rattle.bundle.proofs.command.read_command.Tie as tie
 
 returns : tie.Need-returns
-returns c = read-past _ _ (c .if1 .taken)
+returns c = read-refused _ _ (c .before .before .decode-command .ensures) (c .enum-told .given .1)
+
+returns-2 : tie.Need-returns-2
+returns-2 c =
+    let taken = c .before .before .before in
+    read-beyond _ _ (taken .before .before .decode-command .ensures) (taken .reading .given .1)
+    (sym (c .before .in-range .ensures) ∙ not-true _ (c .if1 .taken))
 
 returns-3 : tie.Need-returns-3
-unfolding widthOf commandAt
 returns-3 c =
-    c .accept .ensures
-    ∙ read-whole _ _ (record { within = c .before .before .before .if1 .left; byte = c .before .match .keys2 }) _ end (search needs) refl
-
-returns-5 : tie.Need-returns-5
-unfolding widthOf commandAt
-returns-5 c =
-    c .accept2 .ensures
-    ∙ read-whole _ _ (record { within = c .before .before .before .if1 .left; byte = c .before .match .keys4 }) _ barrier (search needs) refl
-
-returns-9 : tie.Need-returns-9
-returns-9 c =
-    let r = c .before .match .rest in
-    let tested = c .if2 .taken in
-    read-unknown _ _ (record { within = c .before .before .before .if1 .left; byte = refl })
-    (not-known (r .0 .0 .0 .0 .0 .1) (r .0 .0 .0 .0 .1) (r .0 .0 .0 .1) (r .0 .0 .1) (r .0 .1) (r .1) (λ low high. omega arith))
-
-returns-10 : tie.Need-returns-10
-returns-10 c =
-    let r = c .before .before .match .rest in
-    let tested = c .if3 .left in
-    read-unknown _ _ (record { within = c .before .before .before .before .if1 .left; byte = refl })
-    (not-known (r .0 .0 .0 .0 .0 .1) (r .0 .0 .0 .0 .1) (r .0 .0 .0 .1) (r .0 .0 .1) (r .0 .1) (r .1) (λ low high. omega arith))
+    let taken = c .before .before .before in
+    read-within _ _ (taken .before .before .decode-command .ensures) (taken .reading .given .1)
+    (sym (c .before .in-range .ensures) ∙ not-false _ (c .if1 .left))
 
 pub read-command-spec : {M : Type 1} → statement M
 read-command-spec =
     tie.close
     (tie.spec
+    (λ c κs. search needs)
+    (λ c. search needs)
+    (λ c. search needs)
     returns
-    (λ c. search needs)
     (λ c κs. search needs)
-    (λ c. search needs)
-    (λ c κs. search needs)
-    (λ c κs. search needs)
-    (λ c. search needs)
-    (λ c κs. search needs)
-    (λ c κs. search needs)
-    (λ c κs. search needs)
-    (λ c κs. search needs)
-    (λ c. search needs)
-    returns-3
-    (λ c. search needs)
-    returns-5
-    (λ c. search needs)
-    (λ c. search needs)
-    (λ c. search needs)
-    returns-9
-    returns-10)
+    returns-2
+    returns-3)

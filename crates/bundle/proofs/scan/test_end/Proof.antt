@@ -1,24 +1,23 @@
 -- `bundle::scan::test_end` meets its contract. Assumes nothing.
-use mathlib.Core.Path.{refl, _∙_}
-use Rattle.bundle.specs.Scan.{isMember, misplaced, aboveOwnTeam, misusesLock, opensSegment, addsAccess, scanned}
-use Rattle.bundle.proofs.Stepping.{tested-4, tested-6, tested-on, many-none}
+use mathlib.Core.Path.{refl, sym, _∙_}
+use native.Mathlib.Nat.{add-zero}
 use borrow.Author.Needs.{needs}
+use Rattle.bundle.specs.Commands.{formOf, codeOf, widthsOf, operandsOk, fitWidths, inRange}
+use Rattle.bundle.specs.Scan.{isMember, misplaced, aboveOwnTeam, misusesLock, opensSegment, addsAccess, scanned}
+use Rattle.bundle.proofs.Stepping.{tested, many-none}
 use Rattle.bundle.proofs.scan.test_end.Statement.{statement}
 use Rattle.bundle.proofs.scan.test_end.Tie as tie
 
 returns : tie.Need-returns
-unfolding misplaced isMember
-returns c = c .refuse .ensures ∙ tested-4 _ _ _ (c .before .if1 .taken)
-
-returns-2 : tie.Need-returns-2
-unfolding misplaced isMember aboveOwnTeam misusesLock
-returns-2 c = c .refuse2 .ensures ∙ tested-6 _ _ _ (c .before .before .before .before .if1 .left) (c .before .before .before .before .before .before .pre .1) refl (c .before .if2 .taken)
-
-returns-3 : tie.Need-returns-3
-unfolding misplaced isMember aboveOwnTeam misusesLock opensSegment addsAccess scanned
-returns-3 c = tested-on _ _ _ (c .before .before .before .before .if1 .left) (c .before .before .before .before .before .before .pre .1) refl (c .before .if2 .left) _ (many-none _ _ (c .before .before .before .before .before .before .pre .0) refl refl) (c .close-chunk .ensures)
+unfolding formOf codeOf widthsOf operandsOk fitWidths inRange misplaced isMember aboveOwnTeam misusesLock opensSegment addsAccess scanned
+returns c =
+    c .decide .ensures
+    ∙ tested _ _ _
+    refl
+    refl
+    refl
+    (sym (many-none _ _ (c .before .before .before .before .before .pre) refl refl))
+    (λ _ _. simp add-zero (c .before .before .before .close-chunk .ensures))
 
 pub test-end-spec : {M : Type 1} → statement M
-test-end-spec =
-    tie.close
-    (tie.spec (λ c κs. search needs) returns (λ c κs. search needs) returns-2 (λ c κs. search needs) returns-3)
+test-end-spec = tie.close (tie.spec (λ c κs. search needs) (λ c κs. search needs) returns)

@@ -34,8 +34,8 @@ loop-less c = fewer-left _ _ _ (c .before .before .before .before .before .befor
 loop-again : tie.Need-loop-again Inv-loop μ-loop
 loop-again c = turned-on _ _ _ _ (c .before .before .before .before .before .before .before .turn-at .ensures) (c .before .next .given .1) .1
 
-enum-known-cause : tie.Need-enum-known-cause Inv-loop μ-loop
-enum-known-cause c = search needs
+enum-known-place : tie.Need-enum-known-place Inv-loop μ-loop
+enum-known-place c = search needs
 
 same-length : tie.Need-same-length Inv-loop μ-loop
 same-length c = search needs
@@ -44,7 +44,7 @@ same-length-2 : tie.Need-same-length-2 Inv-loop μ-loop
 same-length-2 c = search needs
 
 returns : tie.Need-returns Inv-loop μ-loop
-returns c = turned-off _ _ _ _ (c .before .before .before .before .before .before .before .turn-at .ensures) (c .before .cause .given .1)
+returns c = turned-off _ _ _ _ (c .before .before .before .before .before .before .before .turn-at .ensures) (c .before .place .given .1)
 
 finish-requires : tie.Need-finish-requires Inv-loop μ-loop
 finish-requires c κs = search needs
@@ -70,7 +70,7 @@ survey-all-spec =
     enum-known-next
     loop-less
     loop-again
-    enum-known-cause
+    enum-known-place
     same-length
     same-length-2
     returns

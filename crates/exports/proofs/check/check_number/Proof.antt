@@ -2,7 +2,7 @@
 use mathlib.Core.Path.{_∙_, sym, ap}
 use borrow.Author.Needs.{needs}
 use Rattle.bundle.specs.Check.{checkingOf}
-use Rattle.bundle.specs.declared.check.Checking.{Checking}
+use Rattle.bundle.specs.declared.answer.Checking.{Checking}
 use Rattle.exports.specs.Packing.{checkNumber}
 use Rattle.exports.proofs.check.check_number.Statement.{statement}
 use Rattle.exports.proofs.check.check_number.Tie as tie

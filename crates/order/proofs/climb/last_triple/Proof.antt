@@ -6,15 +6,15 @@ use Rattle.order.proofs.Climbs.{span-fits}
 use Rattle.order.proofs.climb.last_triple.Statement.{statement}
 use Rattle.order.proofs.climb.last_triple.Tie as tie
 
-mul-t5 : tie.Need-mul-t5
-mul-t5 c = record { fits = omega (arith, span-fits (c .before .before .args .size) (c .before .before .args .segment .regions) (search needs) (c .before .before .pre)) }
+mul-t6 : tie.Need-mul-t6
+mul-t6 c = record { fits = omega (arith, span-fits (c .before .args .size) (c .before .args .state .regions) (search needs) (c .before .pre)) }
 
-add-t6 : tie.Need-add-t6
-add-t6 c = record { fits = omega (arith, span-fits (c .before .before .args .size) (c .before .before .args .segment .regions) (search needs) (c .before .before .pre)) }
+add-t7 : tie.Need-add-t7
+add-t7 c = record { fits = omega (arith, span-fits (c .before .args .size) (c .before .args .state .regions) (search needs) (c .before .pre)) }
 
 returns : tie.Need-returns
 unfolding tripleOf
 returns c = search needs
 
 pub last-triple-spec : {M : Type 1} → statement M
-last-triple-spec = tie.close (tie.spec (λ c. search needs) mul-t5 add-t6 returns)
+last-triple-spec = tie.close (tie.spec mul-t6 add-t7 returns)

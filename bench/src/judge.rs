@@ -1,0 +1,393 @@
+//! Judging in plain Rust, written from document 01: the counts and the least race, the next race above a key, and a
+//! listing.
+//! As in the proved code, the matrix and the table of accesses stand in a lent work area, whose words are 0 afterwards.
+
+use crate::ranges::{self, Range};
+use crate::reader::{self, Access, Chunk, Fork, Log, Refusal};
+
+pub const LEAST_WORDS: usize = 16_384;
+
+/// An access is named by team, member and its number in the chunk from 0.
+#[derive(Clone, Copy, Debug, PartialEq, Eq, PartialOrd, Ord)]
+pub struct Name {
+    pub team: u16,
+    pub member: u8,
+    pub number: u16,
+}
+
+/// Two accesses that race, lower name first, with their sites and the lowest byte that both touch.
+#[derive(Clone, Copy, Debug, PartialEq, Eq)]
+pub struct Race {
+    pub witness: u32,
+    pub first: Name,
+    pub first_site: u16,
+    pub second: Name,
+    pub second_site: u16,
+}
+
+/// The counts of the bundle's chunks, segments, accesses and races, and the least race.
+#[derive(Clone, Copy, Debug, PartialEq, Eq)]
+pub struct Judgement {
+    pub chunks: u32,
+    pub segments: u32,
+    pub accesses: u32,
+    pub races: u32,
+    pub least: Option<Race>,
+}
+
+/// How the edges are closed to paths.
+#[derive(Clone, Copy)]
+pub enum Closure {
+    /// The proved code's algorithm.
+    Warshall,
+    /// From the last segment to the first, in time linear in the edges of the forks and barriers.
+    Teams,
+}
+
+/// The counts and the least race.
+pub fn judge(bytes: &[u8], work: &mut [u32], closure: Closure) -> Result<Judgement, Refusal> {
+    over(bytes, work, closure, |bundle, rows, table| {
+        let (mut races, mut least) = (0, u64::MAX);
+        each_race(bundle, rows, table, |key| {
+            races += 1;
+            least = least.min(key);
+        });
+        Judgement {
+            chunks: bundle.chunks.len() as u32,
+            segments: rows.len() as u32,
+            accesses: table.len() as u32,
+            races,
+            least: race_of(table, least),
+        }
+    })
+}
+
+/// The least race above a witness and two names, real or not.
+pub fn next_race(
+    bytes: &[u8],
+    (witness, first, second): (u32, Name, Name),
+    work: &mut [u32],
+    closure: Closure,
+) -> Result<Option<Race>, Refusal> {
+    over(bytes, work, closure, |bundle, rows, table| {
+        let floor = floor_of(table, witness, first, second);
+        let mut least = u64::MAX;
+        each_race(bundle, rows, table, |key| {
+            if key >= floor {
+                least = least.min(key);
+            }
+        });
+        race_of(table, least)
+    })
+}
+
+/// The text of racelist.
+pub fn racelist(bytes: &[u8], work: &mut [u32], closure: Closure) -> Vec<u8> {
+    let listed = over(bytes, work, closure, |bundle, rows, table| {
+        let keys = sorted_keys(bundle, rows, table);
+        let counts = (bundle.chunks.len(), rows.len(), table.len());
+        let mut text = format!("chunks {} segments {} accesses {}\n", counts.0, counts.1, counts.2).into_bytes();
+        // Name and site are written once for each access.
+        let names: Vec<String> = table.iter().map(name_text).collect();
+        text.reserve(keys.len() * 48);
+        for &key in &keys {
+            let (witness, first, second) = parts(key);
+            text.extend_from_slice(b"race ");
+            text.extend_from_slice(&hexadecimal(witness));
+            text.extend_from_slice(names[first].as_bytes());
+            text.extend_from_slice(names[second].as_bytes());
+            text.push(b'\n');
+        }
+        match keys.len() {
+            0 => text.extend_from_slice(b"race-free\n"),
+            races => text.extend_from_slice(format!("pairs {races}\n").as_bytes()),
+        }
+        text
+    });
+    listed.unwrap_or_else(|refusal| format!("refused {} at {}\n", refusal.number, refusal.place).into_bytes())
+}
+
+fn name_text(row: &TableRow) -> String {
+    let (name, site) = name_of(row);
+    format!(" {}.{}.{} {site}", name.team, name.member, name.number)
+}
+
+fn hexadecimal(number: u32) -> [u8; 8] {
+    std::array::from_fn(|digit| b"0123456789abcdef"[(number >> (28 - 4 * digit)) as usize % 16])
+}
+
+/// What the scan keeps of a bundle besides its chunks and REGIONs.
+#[derive(Default)]
+struct Contents {
+    /// The team of the REGION that opens a segment, or 0.
+    openings: Vec<u16>,
+    /// Rows without names, in the order of the bytes.
+    accesses: Vec<TableRow>,
+}
+
+impl Log for Contents {
+    #[inline]
+    fn segment(&mut self, team: u16) {
+        self.openings.push(team);
+    }
+
+    #[inline]
+    fn access(&mut self, access: Access, locks: u64) {
+        self.accesses.push(row_of(access, locks, self.openings.len() - 1));
+    }
+}
+
+struct Bundle {
+    chunks: Vec<Chunk>,
+    forks: Vec<Fork>,
+    openings: Vec<u16>,
+}
+
+/// Reads the bundle, fills the work area, asks, and clears all of the area.
+fn over<T>(
+    bytes: &[u8],
+    work: &mut [u32],
+    closure: Closure,
+    ask: impl FnOnce(&Bundle, &[MatrixRow], &[TableRow]) -> T,
+) -> Result<T, Refusal> {
+    if work.len() < LEAST_WORDS {
+        return reader::refuse(13, 0);
+    }
+    let mut contents = Contents::default();
+    let answer = reader::read(bytes, &mut contents).map(|(chunks, forks)| {
+        let Contents { openings, accesses } = contents;
+        let bundle = Bundle { chunks, forks, openings };
+        let (matrix, table) = work[..LEAST_WORDS].split_at_mut(LEAST_WORDS / 2);
+        let rows = &mut matrix.as_chunks_mut().0[..bundle.openings.len()];
+        let table = &mut table.as_chunks_mut().0[..accesses.len()];
+        match closure {
+            Closure::Warshall => {
+                fill_edges(&bundle, rows);
+                close_by_warshall(rows);
+            }
+            Closure::Teams => _ = bundle.close_team(rows, 0, [0; 16]),
+        }
+        fill_table(&bundle.chunks, &accesses, table);
+        ask(&bundle, rows, table)
+    });
+    work.fill(0);
+    answer
+}
+
+// The matrix: bit b of row a says that segment a reaches segment b.
+
+type MatrixRow = [u32; 16];
+
+fn bit(row: &MatrixRow, segment: usize) -> bool {
+    row[segment / 32 % 16] >> (segment % 32) & 1 == 1
+}
+
+fn set_bit(row: &mut MatrixRow, segment: usize) {
+    row[segment / 32 % 16] |= 1 << (segment % 32);
+}
+
+fn join(row: &mut MatrixRow, other: &MatrixRow) {
+    for (word, other) in row.iter_mut().zip(other) {
+        *word |= other;
+    }
+}
+
+fn with_bit(mut row: MatrixRow, segment: usize) -> MatrixRow {
+    set_bit(&mut row, segment);
+    row
+}
+
+fn range_of((from, to): (u16, u16)) -> std::ops::Range<usize> {
+    from as usize..to as usize
+}
+
+/// The edges of the graph, and from each segment to itself.
+fn fill_edges(bundle: &Bundle, rows: &mut [MatrixRow]) {
+    for (segment, row) in rows.iter_mut().enumerate() {
+        *row = with_bit([0; 16], segment);
+    }
+    for chunk in &bundle.chunks {
+        for segment in range_of(chunk.segments).skip(1) {
+            set_bit(&mut rows[segment - 1], segment);
+        }
+    }
+    for fork in &bundle.forks {
+        let opened = fork.segment as usize;
+        for chunk in reader::team(&bundle.chunks, fork.team) {
+            let segments = range_of(chunk.segments);
+            set_bit(&mut rows[opened - 1], segments.start);
+            set_bit(&mut rows[segments.end - 1], opened);
+        }
+    }
+    for team in reader::teams(&bundle.chunks).filter(|team| team.len() > 1) {
+        let mut opened = vec![[0; 16]; team[0].barriers as usize];
+        for chunk in team {
+            for (number, segment) in bundle.opened_by_barriers(chunk).enumerate() {
+                set_bit(&mut opened[number], segment);
+            }
+        }
+        for chunk in team {
+            for (number, segment) in bundle.opened_by_barriers(chunk).enumerate() {
+                join(&mut rows[segment - 1], &opened[number]);
+            }
+        }
+    }
+}
+
+fn close_by_warshall(rows: &mut [MatrixRow]) {
+    for k in 0..rows.len() {
+        let through = rows[k];
+        for row in rows.iter_mut() {
+            if bit(row, k) {
+                join(row, &through);
+            }
+        }
+    }
+}
+
+impl Bundle {
+    fn opened_by_barriers<'a>(&'a self, chunk: &Chunk) -> impl Iterator<Item = usize> + 'a {
+        range_of(chunk.segments).skip(1).filter(|&segment| self.openings[segment] == 0)
+    }
+
+    /// Fills the rows of a team and of all teams below it, given what its last segments reach; answers what its
+    /// segments 0 reach. Goes back from interval to interval; within one, a member's segments are parted by REGIONs.
+    fn close_team(&self, rows: &mut [MatrixRow], team: u16, mut after: MatrixRow) -> MatrixRow {
+        let team = reader::team(&self.chunks, team);
+        let mut ends = [0; 64];
+        for (end, chunk) in ends.iter_mut().zip(team) {
+            *end = chunk.segments.1 as usize;
+        }
+        for _ in 0..=team[0].barriers {
+            let mut reached = [0; 16];
+            for end in &mut ends[..team.len()] {
+                let mut segment = *end - 1;
+                rows[segment] = with_bit(after, segment);
+                while self.openings[segment] != 0 {
+                    let members = self.close_team(rows, self.openings[segment], rows[segment]);
+                    segment -= 1;
+                    rows[segment] = with_bit(members, segment);
+                }
+                join(&mut reached, &rows[segment]);
+                *end = segment;
+            }
+            after = reached;
+        }
+        after
+    }
+}
+
+// The table: the accesses in the order of their names.
+
+/// Base, last byte, two words of locks; then segment (16 bits), kind (2), size (from bit 24); stride and count; site
+/// and number; member and team.
+type TableRow = [u32; 8];
+
+const WRITES: u32 = 1 << 16;
+const ATOMIC: u32 = 1 << 17;
+
+fn row_of(access: Access, locks: u64, segment: usize) -> TableRow {
+    let range = access.range;
+    let kind = (access.code & 3) as u32; // 0x31 and 0x33 write, 0x32 and 0x33 are atomic
+    [
+        range.base,
+        range.last_byte() as u32,
+        locks as u32,
+        (locks >> 32) as u32,
+        segment as u32 | kind << 16 | (range.size as u32) << 24,
+        range.stride as u32 | (range.count as u32) << 16,
+        access.site as u32,
+        0,
+    ]
+}
+
+fn fill_table(chunks: &[Chunk], accesses: &[TableRow], table: &mut [TableRow]) {
+    let mut next = 0;
+    for chunk in chunks {
+        for (number, row) in accesses[range_of(chunk.accesses)].iter().enumerate() {
+            table[next] = *row;
+            table[next][6] |= (number as u32) << 16;
+            table[next][7] = chunk.member as u32 | (chunk.team as u32) << 16;
+            next += 1;
+        }
+    }
+}
+
+fn range_in(row: &TableRow) -> Range {
+    Range { base: row[0], stride: row[5] as u16, count: (row[5] >> 16) as u16, size: (row[4] >> 24) as u8 }
+}
+
+fn name_of(row: &TableRow) -> (Name, u16) {
+    let name = Name { team: (row[7] >> 16) as u16, member: row[7] as u8, number: (row[6] >> 16) as u16 };
+    (name, row[6] as u16)
+}
+
+// Races. A race's key is its witness and the ranks of its accesses by name: keys are ordered as races are.
+
+fn key_of(witness: u32, first: usize, second: usize) -> u64 {
+    ((witness as u64) << 20) + ((first as u64) << 10) + second as u64
+}
+
+fn parts(key: u64) -> (u32, usize, usize) {
+    ((key >> 20) as u32, (key >> 10) as usize % 1024, key as usize % 1024)
+}
+
+/// No race has the greatest key.
+fn race_of(table: &[TableRow], key: u64) -> Option<Race> {
+    if key == u64::MAX {
+        return None;
+    }
+    let (witness, first, second) = parts(key);
+    let ((first, first_site), (second, second_site)) = (name_of(&table[first]), name_of(&table[second]));
+    Some(Race { witness, first, first_site, second, second_site })
+}
+
+/// The races above the witness and names are those whose key is no less.
+fn floor_of(table: &[TableRow], witness: u32, first: Name, second: Name) -> u64 {
+    let rank = table.partition_point(|row| name_of(row).0 < first);
+    match table.get(rank) {
+        Some(row) if name_of(row).0 == first => {
+            key_of(witness, rank, table.partition_point(|row| name_of(row).0 <= second))
+        }
+        _ => key_of(witness, rank, 0),
+    }
+}
+
+fn sorted_keys(bundle: &Bundle, rows: &[MatrixRow], table: &[TableRow]) -> Vec<u64> {
+    let mut keys = Vec::new();
+    each_race(bundle, rows, table, |key| keys.push(key));
+    keys.sort_unstable();
+    keys
+}
+
+/// Calls `found` with the key of each race. All pairs, but for those of one chunk, whose segments are ordered.
+fn each_race(bundle: &Bundle, rows: &[MatrixRow], table: &[TableRow], mut found: impl FnMut(u64)) {
+    let mut next = 0;
+    for chunk in &bundle.chunks {
+        let (start, end) = (next, next + range_of(chunk.accesses).len());
+        for first in start..end {
+            let one = table[first];
+            let segment = one[4] as usize % 512;
+            let row = rows[segment];
+            for (second, other) in table.iter().enumerate().skip(end) {
+                if other[0] > one[1] || other[1] < one[0] {
+                    continue;
+                }
+                if (one[2] & other[2]) | (one[3] & other[3]) != 0 {
+                    continue;
+                }
+                if (one[4] | other[4]) & WRITES == 0 || one[4] & other[4] & ATOMIC != 0 {
+                    continue;
+                }
+                let to = other[4] as usize % 512;
+                if bit(&row, to) || bit(&rows[to], segment) {
+                    continue;
+                }
+                if let Some(witness) = ranges::by_euclid(range_in(&one), range_in(other)) {
+                    found(key_of(witness as u32, first, second));
+                }
+            }
+        }
+        next = end;
+    }
+}

@@ -1,0 +1,59 @@
+-- `bundle::command::decode_command` meets its contract. Assumes nothing.
+use mathlib.Core.Path.{refl}
+use Rattle.bundle.specs.Commands.{formOf, sum, widthOf, commandAt}
+use Rattle.bundle.proofs.Forms.{no-form}
+use Rattle.bundle.proofs.Arms.{decode-past, decode-unknown, decode-whole}
+use native.Mathlib.Omega.{arith}
+use borrow.Author.Needs.{needs}
+use Rattle.bundle.proofs.command.decode_command.Statement.{statement}
+use Rattle.bundle.proofs.command.decode_command.Tie as tie
+
+returns : tie.Need-returns
+returns c = decode-past _ _ (c .if1 .taken)
+
+returns-3 : tie.Need-returns-3
+unfolding formOf sum widthOf commandAt
+returns-3 c =
+    decode-whole _ _ (record { within = c .before .before .if1 .left; byte = c .match .keys2 }) _ (omega arith) (search needs) refl
+
+returns-5 : tie.Need-returns-5
+unfolding formOf sum widthOf commandAt
+returns-5 c =
+    decode-whole _ _ (record { within = c .before .before .if1 .left; byte = c .match .keys4 }) _ (omega arith) (search needs) refl
+
+returns-9 : tie.Need-returns-9
+returns-9 c =
+    let r = c .before .match .rest in
+    let tested = c .if2 .taken in
+    decode-unknown _ _ (record { within = c .before .before .before .if1 .left; byte = refl })
+    (no-form (r .0 .0 .0 .0 .0 .1) (r .0 .0 .0 .0 .1) (r .0 .0 .0 .1) (r .0 .0 .1) (r .0 .1) (r .1) (λ low high. omega arith))
+
+returns-10 : tie.Need-returns-10
+returns-10 c =
+    let r = c .before .before .match .rest in
+    let tested = c .if3 .left in
+    decode-unknown _ _ (record { within = c .before .before .before .before .if1 .left; byte = refl })
+    (no-form (r .0 .0 .0 .0 .0 .1) (r .0 .0 .0 .0 .1) (r .0 .0 .0 .1) (r .0 .0 .1) (r .0 .1) (r .1) (λ low high. omega arith))
+
+pub decode-command-spec : {M : Type 1} → statement M
+decode-command-spec =
+    tie.close
+    (tie.spec
+    returns
+    (λ c. search needs)
+    (λ c κs. search needs)
+    (λ c. search needs)
+    (λ c κs. search needs)
+    (λ c. search needs)
+    (λ c κs. search needs)
+    (λ c κs. search needs)
+    (λ c κs. search needs)
+    (λ c. search needs)
+    returns-3
+    (λ c. search needs)
+    returns-5
+    (λ c. search needs)
+    (λ c. search needs)
+    (λ c. search needs)
+    returns-9
+    returns-10)

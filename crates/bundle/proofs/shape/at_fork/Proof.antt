@@ -1,0 +1,10 @@
+-- `bundle::shape::at_fork` meets its contract. Assumes nothing.
+use borrow.Author.Needs.{needs}
+use Rattle.bundle.proofs.shape.at_fork.Statement.{statement}
+use Rattle.bundle.proofs.shape.at_fork.Tie as tie
+
+returns : tie.Need-returns
+returns c = cc
+
+pub at-fork-spec : {M : Type 1} → statement M
+at-fork-spec = tie.close (tie.spec (λ c κs. search needs) returns)

@@ -1,0 +1,10 @@
+-- `bundle::shape::is_stray` meets its contract. Assumes nothing.
+use borrow.Author.Needs.{needs}
+use Rattle.bundle.proofs.shape.is_stray.Statement.{statement}
+use Rattle.bundle.proofs.shape.is_stray.Tie as tie
+
+returns : tie.Need-returns
+returns c = cc
+
+pub is-stray-spec : {M : Type 1} → statement M
+is-stray-spec = tie.close (tie.spec (λ c κs. search needs) (λ c κs. search needs) returns)

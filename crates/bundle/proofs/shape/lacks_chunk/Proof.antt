@@ -1,0 +1,10 @@
+-- `bundle::shape::lacks_chunk` meets its contract. Assumes nothing.
+use borrow.Author.Needs.{needs}
+use Rattle.bundle.proofs.shape.lacks_chunk.Statement.{statement}
+use Rattle.bundle.proofs.shape.lacks_chunk.Tie as tie
+
+returns : tie.Need-returns
+returns c = cc
+
+pub lacks-chunk-spec : {M : Type 1} → statement M
+lacks-chunk-spec = tie.close (tie.spec (λ c κs. search needs) (λ c κs. search needs) returns)

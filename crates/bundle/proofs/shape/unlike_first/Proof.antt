@@ -1,0 +1,11 @@
+-- `bundle::shape::unlike_first` meets its contract. Assumes nothing.
+use borrow.Author.Needs.{needs}
+use Rattle.bundle.proofs.shape.unlike_first.Statement.{statement}
+use Rattle.bundle.proofs.shape.unlike_first.Tie as tie
+
+returns : tie.Need-returns
+returns c = cc
+
+pub unlike-first-spec : {M : Type 1} → statement M
+unlike-first-spec =
+    tie.close (tie.spec (λ c κs. search needs) (λ c κs. search needs) (λ c κs. search needs) returns)

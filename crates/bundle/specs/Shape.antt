@@ -1,0 +1,126 @@
+-- The tests 8 to 12 over the rows of a bundle's chunks, and by the tables of the code.
+use Prim.Native.Nat.{ℕ, zero, suc, _+_, _*_, _/_, _%_, _^_, _≤_, _<_}
+use mathlib.Core.Path.{_≡_}
+use mathlib.Core.Bool.{Bool, true, false, cond, not, _||_}
+use mathlib.Core.List.{List, [], _∷_}
+use lib.Dec.{eqb, ltb, leb}
+use lib.Bits.{bitOr}
+use lib.ListN.{length, getD, set}
+use Rattle.sorting.specs.Searching.{firstWithKey}
+use Rattle.bundle.specs.Answer.{Answer, gives}
+use Rattle.bundle.specs.Lists.{upTo, any, all, first, fromOption}
+use Rattle.bundle.specs.Check.{sizeOf, depthOf, failing, forkedBefore, refusedAt}
+use Rattle.bundle.specs.Index.{chunkRowAt, forkRowAt, table, isRow, indexOf}
+use Rattle.bundle.specs.declared.index.ChunkRow.{ChunkRow}
+use Rattle.bundle.specs.declared.index.Fork.{Fork}
+use Rattle.bundle.specs.declared.shape.Test.{Test}
+use Rattle.bundle.specs.declared.shape.Test.the-variants.{ForkedBefore, LacksChunk, TooDeep, UnlikeFirst}
+
+unfoldable pub strayRow : List Fork → List ChunkRow → ChunkRow → Bool
+strayRow fs before r = leb (sizeOf fs (r .team)) (r .member) || any (isRow (r .team) (r .member)) before
+
+unfoldable pub lacksRow : List ChunkRow → ℕ → ℕ → Bool
+lacksRow rs t size = not (all (λ m. any (isRow t m) rs) (upTo size))
+
+-- the barriers that member 0 of a team passes
+unfoldable pub firstBarriers : List ChunkRow → ℕ → ℕ
+firstBarriers rs t = fromOption 0 (λ (q : ChunkRow). q .barriers) (first (isRow t 0) rs)
+
+unfoldable pub unlikeRow : List ChunkRow → ChunkRow → Bool
+unlikeRow rs r = not (eqb (r .barriers) (firstBarriers rs (r .team)))
+
+-- 10 to 12, past 8 and 9
+unfoldable pub settledByRows : List ChunkRow → List Fork → Answer (Unit {0})
+settledByRows rs fs =
+    let atFork : Fork → ℕ = λ f. f .place in
+    let atRow : ChunkRow → ℕ = λ r. r .place in
+    refusedAt 10 (cond (lacksRow rs 0 1) (0 ∷ []) [])
+    (refusedAt 10 (failing atFork (λ before f. lacksRow rs (f .team) (f .size)) [] fs)
+    (refusedAt 11 (failing atFork (λ before f. ltb 4 (depthOf fs (f .team))) [] fs)
+    (refusedAt 12 (failing atRow (λ before r. unlikeRow rs r) [] rs)
+    (gives tt))))
+
+unfoldable pub shapeByRows : List ChunkRow → List Fork → Answer (Unit {0})
+shapeByRows rs fs =
+    refusedAt 8 (failing (λ (f : Fork). f .place) forkedBefore [] fs)
+    (refusedAt 9 (failing (λ (r : ChunkRow). r .place) (strayRow fs) [] rs)
+    (settledByRows rs fs))
+
+-- a test of the i-th element of a table, which sees the elements before too, the last first
+unfoldable pub passed : {A : Type 0} → (ℕ → A) → ℕ → List A
+passed f zero = []
+passed f (suc i) = f i ∷ passed f i
+
+abbrev pub failsAt : {A : Type 0} → (List A → A → Bool) → (ℕ → A) → ℕ → Bool
+failsAt fails f i = fails (passed f i) (f i)
+
+-- the first index below n that fails a test; n where there is none
+pub record FirstFailing (fails : ℕ → Bool) (n r : ℕ) : Type 0 where
+  pub within : r ≤ n
+  pub before : (i : ℕ) → i < r → fails i ≡ false
+  pub here : r < n → fails r ≡ true
+
+-- the slot of a team: the index of the REGION that forks it, the number of REGIONs where none does
+unfoldable pub slotOf : List Fork → ℕ → ℕ
+slotOf fs t = indexOf (λ (f : Fork). eqb (f .team) t) fs
+
+-- in these words a team's slot is found by the search for its number
+pub record ByTeam (order : List ℕ) (fs : List Fork) : Type 0 where
+  pub few : length order ≤ 512
+  pub long : length order ≡ length fs
+  pub slot : (t : ℕ) → firstWithKey order t ≡ slotOf fs t
+
+-- the members that were met of the team of a slot: a bit for each, in four words
+unfoldable pub metAt : List ℕ → ℕ → ℕ → Bool
+metAt masks slot m = eqb (getD masks (4 * slot + m / 64) 0 / 2 ^ (m % 64) % 2) 1
+
+unfoldable pub markedAt : List ℕ → ℕ → ℕ → List ℕ
+markedAt masks slot m = set masks (4 * slot + m / 64) (bitOr (getD masks (4 * slot + m / 64) 0) (2 ^ (m % 64)))
+
+-- the root, or a team that is forked
+abbrev pub Known : List Fork → ℕ → Type 0
+Known fs t = length fs ≤ slotOf fs t → t ≡ 0
+
+-- the tables by slot after these chunks: the members met, and the barriers of member 0
+pub record Met (fs : List Fork) (rs : List ChunkRow) (masks firsts : List ℕ) : Type 0 where
+  pub masks-long : 4 * length fs + 3 < length masks
+  pub firsts-long : length fs < length firsts
+  pub members : (t m : ℕ) → Known fs t → m < 256 → metAt masks (slotOf fs t) m ≡ any (isRow t m) rs
+  pub barriers : (t : ℕ) → Known fs t → getD firsts (slotOf fs t) 0 ≡ firstBarriers rs t
+
+-- the tables where no chunk was met, and where those before the first stray one were
+pub record Ready (chunks forks order masks firsts : List ℕ) (regions : ℕ) : Type 0 where
+  pub by-team : ByTeam order (table (forkRowAt forks) regions)
+  pub met : Met (table (forkRowAt forks) regions) (table (chunkRowAt chunks) 0) masks firsts
+
+pub record MetTo (chunks forks masks firsts : List ℕ) (count regions r : ℕ) : Type 0 where
+  pub first : FirstFailing (failsAt (strayRow (table (forkRowAt forks) regions)) (chunkRowAt chunks)) count r
+  pub met : Met (table (forkRowAt forks) regions) (table (chunkRowAt chunks) r) masks firsts
+
+-- what is known past 8 and 9
+pub record Settled (chunks forks order masks firsts : List ℕ) (count regions : ℕ) : Type 0 where
+  pub by-team : ByTeam order (table (forkRowAt forks) regions)
+  pub once-forked : (i : ℕ) → i < regions → failsAt forkedBefore (forkRowAt forks) i ≡ false
+  pub no-stray : (i : ℕ) → i < count → failsAt (strayRow (table (forkRowAt forks) regions)) (chunkRowAt chunks) i ≡ false
+  pub met : Met (table (forkRowAt forks) regions) (table (chunkRowAt chunks) count) masks firsts
+
+-- the tests by these tables; 11: whether so many REGIONs can be climbed from a team
+unfoldable pub climbs : ℕ → List ℕ → List ℕ → ℕ → Bool
+climbs zero forks order t = true
+climbs (suc n) forks order t =
+    let slot = firstWithKey order t in
+    cond (leb (length order) slot) false (climbs n forks order (forkRowAt forks slot .parent))
+
+-- the team number falls at each climb, so a team below 4 is not deeper than 4
+unfoldable pub deepBy : List ℕ → List ℕ → ℕ → Bool
+deepBy forks order t = cond (ltb t 4) false (climbs 5 forks order t)
+
+unfoldable pub lacksBy : List ℕ → ℕ → ℕ → Bool
+lacksBy masks slot size = not (all (λ m. metAt masks slot m) (upTo size))
+
+unfoldable pub failsBy : Test → (chunks forks order masks firsts : List ℕ) → ℕ → Bool
+failsBy ForkedBefore chunks forks order masks firsts i = ltb (firstWithKey order (forkRowAt forks i .team)) i
+failsBy LacksChunk chunks forks order masks firsts i = lacksBy masks i (forkRowAt forks i .size)
+failsBy TooDeep chunks forks order masks firsts i = deepBy forks order (forkRowAt forks i .team)
+failsBy UnlikeFirst chunks forks order masks firsts i =
+    not (eqb (chunkRowAt chunks i .barriers) (getD firsts (firstWithKey order (chunkRowAt chunks i .team)) 0))

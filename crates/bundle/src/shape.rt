@@ -1,0 +1,383 @@
+// The shape of a bundle, 8 to 12, by its index.
+use crate::answer::Checking;
+use crate::index::ChunkRow;
+use crate::index::chunk_at;
+use crate::index::fork_at;
+use crate::refusal::Cause;
+use sorting::search::first_with_key;
+use sorting::sort::sort;
+ghost use mathlib.Core.Path.{_≡_};
+ghost use mathlib.Core.Bool.{cond, not, _||_};
+ghost use Prim.Native.Nat.{_+_, _*_, _≤_, _<_};
+ghost use lib.Dec.{eqb, ltb, leb};
+ghost use lib.ListN.{length, getD, set};
+ghost use Rattle.sorting.specs.Searching.{firstWithKey};
+ghost use Rattle.bundle.specs.Check.{sizeOf, checkingOf};
+ghost use Rattle.bundle.specs.Index.{table, chunkRowAt, forkRowAt};
+ghost use Rattle.bundle.specs.Shape.{settledByRows, shapeByRows, FirstFailing, slotOf, ByTeam, metAt, markedAt, Ready, MetTo, Settled, climbs, deepBy, lacksBy, failsBy};
+ghost use Rattle.bundle.specs.declared.answer.Checking.the-variants as Checks;
+
+// The tests of a row by tables that are complete.
+pub enum Test {
+    ForkedBefore, // 8, of a REGION
+    LacksChunk, // 10, of a REGION
+    TooDeep, // 11, of a REGION
+    UnlikeFirst, // 12, of a chunk
+}
+
+// The slot of a team: the index of the REGION that forks it, the number of REGIONs where none does.
+fn slot_of(order: &[u64], team: u16) -> u32
+    requires { ⌜ length (now order) ≤ 512 ⌝ }
+    ensures { λ r. ⌜ r ≡ firstWithKey (now (order .entry)) team ⌝ }
+{
+    first_with_key(order, team as u64) as u32
+}
+
+// Whether a member of the team of a slot was met: a bit for each member, in four words.
+fn met(masks: &[u64], slot: u32, member: u8) -> bool
+    ensures { λ r. ⌜ r ≡ metAt (now (masks .entry)) slot member ⌝ }
+{
+    let at = 4 * (slot as usize) + (member / 64) as usize;
+    if masks.len() <= at {
+        return false;
+    }
+    (masks[at] >> (member % 64)) % 2 == 1
+}
+
+fn mark(masks: &mut [u64], slot: u32, member: u8)
+    requires { ⌜ 4 * slot + 3 < length (now masks) ⌝ }
+    ensures { λ _. ⌜ now (masks .exit) ≡ markedAt (now (masks .entry)) slot member ⌝ }
+{
+    let at = 4 * (slot as usize) + (member / 64) as usize;
+    masks[at] = masks[at] | (1 << (member % 64));
+}
+
+// The barriers of member 0 of the team of a slot.
+fn first_barriers(firsts: &[u32], slot: u32) -> u32
+    ensures { λ r. ⌜ r ≡ getD (now (firsts .entry)) slot 0 ⌝ }
+{
+    let at = slot as usize;
+    if at < firsts.len() {
+        return firsts[at];
+    }
+    0
+}
+
+// "The root is team 0, size 1"; a team that is never forked has no members.
+fn size_of(forks: &[u64], regions: u32, slot: u32, team: u16) -> u8
+    requires { ⌜ slot ≡ slotOf (table (forkRowAt (now forks)) regions) team ⌝ }
+    ensures { λ r. ⌜ r ≡ sizeOf (table (forkRowAt (now (forks .entry))) regions) team ⌝ }
+{
+    if team == 0 {
+        return 1;
+    }
+    if regions <= slot {
+        return 0;
+    }
+    let row = fork_at(forks, slot);
+    row.size
+}
+
+// 9: a member number not below the team's size, or a second chunk of one member.
+fn is_stray(forks: &[u64], regions: u32, masks: &[u64], slot: u32, row: ChunkRow) -> bool
+    requires { ⌜ slot ≡ slotOf (table (forkRowAt (now forks)) regions) (row .team) ⌝ }
+    ensures { λ r. ⌜ r ≡ (leb (sizeOf (table (forkRowAt (now (forks .entry))) regions) (row .team)) (row .member) || metAt (now (masks .entry)) slot (row .member)) ⌝ }
+{
+    let team = row.team;
+    let member = row.member;
+    (size_of(forks, regions, slot, team) <= member) | met(masks, slot, member)
+}
+
+// Notes a chunk that is not stray.
+fn note(masks: &mut [u64], firsts: &mut [u32], slot: u32, row: ChunkRow)
+    requires { ⌜ (4 * slot + 3 < length (now masks)) × (slot < length (now firsts)) ⌝ }
+    ensures { λ _. ⌜ (now (masks .exit) ≡ markedAt (now (masks .entry)) slot (row .member)) × (now (firsts .exit) ≡ cond (eqb (row .member) 0) (set (now (firsts .entry)) slot (row .barriers)) (now (firsts .entry))) ⌝ }
+{
+    let member = row.member;
+    let barriers = row.barriers;
+    mark(masks, slot, member);
+    if member == 0 {
+        firsts[slot as usize] = barriers;
+    }
+}
+
+// 9: the index of the first chunk that is stray, `count` where none is. The chunks before it are noted in the tables.
+fn first_stray(
+    chunks: &[u64],
+    count: u32,
+    forks: &[u64],
+    regions: u32,
+    order: &[u64],
+    masks: &mut [u64],
+    firsts: &mut [u32],
+) -> u32
+    requires { ⌜ Ready (now chunks) (now forks) (now order) (now masks) (now firsts) regions ⌝ }
+    ensures { λ r. ⌜ MetTo (now (chunks .entry)) (now (forks .entry)) (now (masks .exit)) (now (firsts .exit)) count regions r ⌝ }
+{
+    let mut i = 0;
+    while i < count {
+        let row = chunk_at(chunks, i);
+        let slot = slot_of(order, row.team);
+        if is_stray(forks, regions, masks, slot, row) {
+            return i;
+        }
+        note(masks, firsts, slot, row);
+        i += 1;
+    }
+    i
+}
+
+// Whether a member below `size` was not met.
+fn lacks_member(masks: &[u64], slot: u32, size: u8) -> bool
+    ensures { λ r. ⌜ r ≡ lacksBy (now (masks .entry)) slot size ⌝ }
+{
+    let mut member = 0;
+    while member < size {
+        if !met(masks, slot, member) {
+            return true;
+        }
+        member += 1;
+    }
+    false
+}
+
+// Whether so many REGIONs can be climbed from a team.
+fn climb(forks: &[u64], order: &[u64], team: u16, levels: u8) -> bool
+    requires { ⌜ length (now order) ≤ 512 ⌝ }
+    ensures { λ r. ⌜ r ≡ climbs levels (now (forks .entry)) (now (order .entry)) team ⌝ }
+{
+    if levels == 0 {
+        return true;
+    }
+    let slot = slot_of(order, team);
+    if order.len() <= slot as usize {
+        return false;
+    }
+    let row = fork_at(forks, slot);
+    climb(forks, order, row.parent, levels - 1)
+}
+
+fn forked_before(forks: &[u64], order: &[u64], i: u32) -> bool
+    requires { ⌜ length (now order) ≤ 512 ⌝ }
+    ensures { λ r. ⌜ r ≡ ltb (firstWithKey (now (order .entry)) (forkRowAt (now (forks .entry)) i .team)) i ⌝ }
+{
+    let row = fork_at(forks, i);
+    slot_of(order, row.team) < i
+}
+
+fn lacks_chunk(forks: &[u64], masks: &[u64], i: u32) -> bool
+    ensures { λ r. ⌜ r ≡ lacksBy (now (masks .entry)) i (forkRowAt (now (forks .entry)) i .size) ⌝ }
+{
+    let row = fork_at(forks, i);
+    lacks_member(masks, i, row.size)
+}
+
+// Deeper than 4. The team number falls at each climb, so a team below 4 is not.
+fn too_deep(forks: &[u64], order: &[u64], i: u32) -> bool
+    requires { ⌜ length (now order) ≤ 512 ⌝ }
+    ensures { λ r. ⌜ r ≡ deepBy (now (forks .entry)) (now (order .entry)) (forkRowAt (now (forks .entry)) i .team) ⌝ }
+{
+    let row = fork_at(forks, i);
+    let team = row.team;
+    if team < 4 {
+        return false;
+    }
+    climb(forks, order, team, 5)
+}
+
+fn unlike_first(chunks: &[u64], order: &[u64], firsts: &[u32], i: u32) -> bool
+    requires { ⌜ length (now order) ≤ 512 ⌝ }
+    ensures { λ r. ⌜ r ≡ not (eqb (chunkRowAt (now (chunks .entry)) i .barriers) (getD (now (firsts .entry)) (firstWithKey (now (order .entry)) (chunkRowAt (now (chunks .entry)) i .team)) 0)) ⌝ }
+{
+    let row = chunk_at(chunks, i);
+    let barriers = row.barriers;
+    !(barriers == first_barriers(firsts, slot_of(order, row.team)))
+}
+
+fn fails(
+    test: Test,
+    i: u32,
+    chunks: &[u64],
+    forks: &[u64],
+    order: &[u64],
+    masks: &[u64],
+    firsts: &[u32],
+) -> bool
+    requires { ⌜ length (now order) ≤ 512 ⌝ }
+    ensures { λ r. ⌜ r ≡ failsBy test (now (chunks .entry)) (now (forks .entry)) (now (order .entry)) (now (masks .entry)) (now (firsts .entry)) i ⌝ }
+{
+    match test {
+        Test::ForkedBefore => forked_before(forks, order, i),
+        Test::LacksChunk => lacks_chunk(forks, masks, i),
+        Test::TooDeep => too_deep(forks, order, i),
+        Test::UnlikeFirst => unlike_first(chunks, order, firsts, i),
+    }
+}
+
+// The index of the first row that fails the test; the number of rows where none does.
+fn first_failing(
+    test: Test,
+    rows: u32,
+    chunks: &[u64],
+    forks: &[u64],
+    order: &[u64],
+    masks: &[u64],
+    firsts: &[u32],
+) -> u32
+    requires { ⌜ length (now order) ≤ 512 ⌝ }
+    ensures { λ r. ⌜ FirstFailing (failsBy test (now (chunks .entry)) (now (forks .entry)) (now (order .entry)) (now (masks .entry)) (now (firsts .entry))) rows r ⌝ }
+{
+    let mut row = 0;
+    while row < rows {
+        if fails(test, row, chunks, forks, order, masks, firsts) {
+            return row;
+        }
+        row += 1;
+    }
+    row
+}
+
+// A refusal at a REGION, or at a chunk.
+fn at_fork(forks: &[u64], i: u32, cause: Cause) -> Checking
+    ensures { λ r. ⌜ r ≡ Checks.Refused (forkRowAt (now (forks .entry)) i .place) cause ⌝ }
+{
+    let row = fork_at(forks, i);
+    Checking::Refused {
+        place: row.place,
+        cause,
+    }
+}
+
+fn at_chunk(chunks: &[u64], i: u32, cause: Cause) -> Checking
+    ensures { λ r. ⌜ r ≡ Checks.Refused (chunkRowAt (now (chunks .entry)) i .place) cause ⌝ }
+{
+    let row = chunk_at(chunks, i);
+    Checking::Refused {
+        place: row.place,
+        cause,
+    }
+}
+
+// 10 to 12, past 8 and 9.
+fn test_settled(
+    chunks: &[u64],
+    count: u32,
+    forks: &[u64],
+    regions: u32,
+    order: &[u64],
+    masks: &[u64],
+    firsts: &[u32],
+) -> Checking
+    requires { ⌜ Settled (now chunks) (now forks) (now order) (now masks) (now firsts) count regions ⌝ }
+    ensures { λ r. ⌜ checkingOf r ≡ settledByRows (table (chunkRowAt (now (chunks .entry))) count) (table (forkRowAt (now (forks .entry))) regions) ⌝ }
+{
+    if !met(masks, slot_of(order, 0), 0) {
+        return Checking::Refused {
+            place: 0,
+            cause: Cause::MissingChunk,
+        };
+    }
+    let i = first_failing(
+        Test::LacksChunk,
+        regions,
+        chunks,
+        forks,
+        order,
+        masks,
+        firsts,
+    );
+    if i < regions {
+        return at_fork(forks, i, Cause::MissingChunk);
+    }
+    let i = first_failing(Test::TooDeep, regions, chunks, forks, order, masks, firsts);
+    if i < regions {
+        return at_fork(forks, i, Cause::TooDeep);
+    }
+    let i = first_failing(
+        Test::UnlikeFirst,
+        count,
+        chunks,
+        forks,
+        order,
+        masks,
+        firsts,
+    );
+    if i < count {
+        return at_chunk(chunks, i, Cause::BarrierCount);
+    }
+    Checking::Accepted
+}
+
+// "the lowest number, then lowest offset"
+fn test_all(
+    chunks: &[u64],
+    count: u32,
+    forks: &[u64],
+    regions: u32,
+    order: &[u64],
+    masks: &mut [u64],
+    firsts: &mut [u32],
+) -> Checking
+    requires { ⌜ Ready (now chunks) (now forks) (now order) (now masks) (now firsts) regions ⌝ }
+    ensures { λ r. ⌜ checkingOf r ≡ shapeByRows (table (chunkRowAt (now (chunks .entry))) count) (table (forkRowAt (now (forks .entry))) regions) ⌝ }
+{
+    let i = first_failing(
+        Test::ForkedBefore,
+        regions,
+        chunks,
+        forks,
+        order,
+        masks,
+        firsts,
+    );
+    if i < regions {
+        return at_fork(forks, i, Cause::ForkedBefore);
+    }
+    let i = first_stray(chunks, count, forks, regions, order, masks, firsts);
+    if i < count {
+        return at_chunk(chunks, i, Cause::StrayChunk);
+    }
+    test_settled(chunks, count, forks, regions, order, masks, firsts)
+}
+
+// Writes the team of each REGION with its index, as first_with_key reads them.
+fn number_teams(forks: &[u64], order: &mut [u64])
+    requires { ⌜ length (now order) ≤ 512 ⌝ }
+    ensures { λ _. ⌜ now (order .exit) ≡ table (λ i. forkRowAt (now (forks .entry)) i .team * 65536 + i) (length (now (order .entry))) ⌝ }
+{
+    let mut i = 0;
+    while i < order.len() {
+        let row = fork_at(forks, i as u32);
+        order[i] = (row.team as u64) * 65536 + i as u64;
+        i += 1;
+    }
+}
+
+fn order_teams(forks: &[u64], order: &mut [u64])
+    requires { ⌜ length (now order) ≤ 512 ⌝ }
+    ensures { λ _. ⌜ ByTeam (now (order .exit)) (table (forkRowAt (now (forks .entry))) (length (now (order .entry)))) ⌝ }
+{
+    let mut spare = [0u64; 256];
+    number_teams(forks, order);
+    sort(order, &mut spare);
+}
+
+// The tests 8 to 12.
+pub fn shape(chunks: &[u64], count: u32, forks: &[u64], regions: u32) -> Checking
+    requires { ⌜ count + regions ≤ 512 ⌝ }
+    ensures { λ r. ⌜ checkingOf r ≡ shapeByRows (table (chunkRowAt (now (chunks .entry))) count) (table (forkRowAt (now (forks .entry))) regions) ⌝ }
+{
+    let mut order = [0u64; 512];
+    let mut masks = [0u64; 2052];
+    let mut firsts = [0u32; 513];
+    order_teams(forks, &mut order[..regions as usize]);
+    test_all(
+        chunks,
+        count,
+        forks,
+        regions,
+        &order[..regions as usize],
+        &mut masks,
+        &mut firsts,
+    )
+}

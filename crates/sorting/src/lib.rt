@@ -1,0 +1,3 @@
+// Sorting numbers, and searching sorted ones.
+pub mod search;
+pub mod sort;

@@ -1,0 +1,211 @@
+-- The functions over pairs of rows, case by case.
+use Prim.Native.Nat.{ℕ, zero, suc, _+_, _*_, _≤_, _<_}
+use mathlib.Core.Path.{_≡_, refl, sym, _∙_, ap, ap₂, subst}
+use mathlib.Core.Bool.{Bool, true, false, cond, not, _&&_}
+use mathlib.Core.List.{List}
+use mathlib.Core.Option.{Option, none, some}
+use native.Mathlib.Omega.{arith}
+use native.Mathlib.Numerals.{add-one}
+use lib.ListN.{length}
+use borrow.Author.Tests.{not-true, not-false}
+use Rattle.bundle.specs.Lists.{fromOption}
+use Rattle.bundle.specs.Commands.{rangeOk}
+use Rattle.bundle.specs.declared.command.Range.{Range}
+use Rattle.order.specs.Ranges.{sharedByte}
+use Rattle.order.specs.Pairs.{lowestOf}
+use Rattle.order.specs.declared.range.Lowest.{Lowest}
+use Rattle.order.specs.declared.range.Lowest.the-variants as Lo
+use Rattle.order.proofs.SharedByte.{shared-some}
+use Rattle.order.proofs.PairBytes.{touch-fits}
+use Rattle.verdict.specs.Races.{nameBelow}
+use Rattle.verdict.specs.Working.{accessRowAt}
+use Rattle.verdict.specs.Tallying.{rowRange, rowName, boundsMeet, kindsClash, locksApart, unordered, rowsClash, raceFrom, raceBetween, clashRace, pairRace, replaces, keeping, counting, addRace, addPair, tallyRow, noTally, tallyAll, RowFits, TablesFit}
+use Rattle.verdict.specs.declared.race.Name.{Name}
+use Rattle.verdict.specs.declared.race.Race.{Race}
+use Rattle.verdict.specs.declared.rows.AccessRow.{AccessRow}
+use Rattle.verdict.specs.declared.pairs.Key.{Key}
+use Rattle.verdict.specs.declared.pairs.Tally.{Tally}
+
+-- one more race
+module _ (key : Key) (t : Tally) (r : Race) {b : Bool} (e : b ≡ replaces key t r) where
+  pub race-kept : b ≡ true → keeping t r ≡ addRace key t r
+  unfolding addRace
+  race-kept h = sym (ap (λ (x : Bool). cond x (keeping t r) (counting t)) (sym e ∙ h))
+
+  pub race-counted : b ≡ false → counting t ≡ addRace key t r
+  unfolding addRace
+  race-counted h = sym (ap (λ (x : Bool). cond x (keeping t r) (counting t)) (sym e ∙ h))
+
+-- the lower name first
+module _ (one other : AccessRow) (w : ℕ) {a b : Name} {t : Bool}
+    (p : a ≡ rowName one) (q : b ≡ rowName other) (e : t ≡ nameBelow a b) where
+  below-rows : t ≡ nameBelow (rowName one) (rowName other)
+  below-rows = e ∙ ap₂ nameBelow p q
+
+  pub one-first : t ≡ true → {r : Race} → r ≡ raceFrom one other w → r ≡ raceBetween one other w
+  unfolding raceBetween
+  one-first h f = f ∙ sym (ap (λ (x : Bool). cond x (raceFrom one other w) (raceFrom other one w)) (sym below-rows ∙ h))
+
+  pub other-first : t ≡ false → {r : Race} → r ≡ raceFrom other one w → r ≡ raceBetween one other w
+  unfolding raceBetween
+  other-first h f = f ∙ sym (ap (λ (x : Bool). cond x (raceFrom one other w) (raceFrom other one w)) (sym below-rows ∙ h))
+
+-- the tests one after another
+module _ (m : List ℕ) (one other : AccessRow) {k : Bool} (e : k ≡ kindsClash (one .kind) (other .kind)) where
+  pub kinds-fail : not k ≡ true → false ≡ rowsClash m one other
+  unfolding rowsClash
+  kinds-fail h =
+      sym
+      (ap
+      (λ (x : Bool). x && locksApart (one .locks) (other .locks) && unordered m (one .segment) (other .segment))
+      (sym e ∙ not-true k h))
+
+  module _ (p : not k ≡ false) {l : Bool} (f : l ≡ locksApart (one .locks) (other .locks)) where
+    passed : rowsClash m one other ≡ (l && unordered m (one .segment) (other .segment))
+    unfolding rowsClash
+    passed =
+        ap₂ (λ (x y : Bool). x && y && unordered m (one .segment) (other .segment)) (sym e ∙ not-false k p) (sym f)
+
+    pub locks-fail : not l ≡ true → false ≡ rowsClash m one other
+    locks-fail h =
+        sym (passed ∙ ap (λ (x : Bool). x && unordered m (one .segment) (other .segment)) (not-true l h))
+
+    pub paths-decide : not l ≡ false → {u : Bool} → u ≡ unordered m (one .segment) (other .segment) → u ≡ rowsClash m one other
+    paths-decide h g =
+        g ∙ sym (passed ∙ ap (λ (x : Bool). x && unordered m (one .segment) (other .segment)) (not-false l h))
+
+-- two rows whose bounds meet
+module _ (m : List ℕ) (one other : AccessRow) (key : Key) (t : Tally) {c : Bool} (e : c ≡ rowsClash m one other) where
+  pub no-clash : not c ≡ true → t ≡ addPair key t (clashRace m one other)
+  unfolding clashRace addPair
+  no-clash h =
+      sym
+      (ap
+      (λ (x : Bool).
+      addPair key t
+      (cond x (fromOption none (λ witness. some (raceBetween one other witness)) (sharedByte (rowRange one) (rowRange other))) none))
+      (sym e ∙ not-true c h))
+
+  module _ (p : not c ≡ false) {a b : Range} (l : Lowest)
+      (f : a ≡ rowRange one) (g : b ≡ rowRange other) (s : lowestOf l ≡ sharedByte a b) where
+    clashing :
+        clashRace m one other ≡ fromOption none (λ witness. some (raceBetween one other witness)) (lowestOf l)
+    unfolding clashRace
+    clashing =
+        ap₂
+        (λ (x : Bool) (o : Option ℕ). cond x (fromOption none (λ witness. some (raceBetween one other witness)) o) none)
+        (sym e ∙ not-false c p)
+        (sym (s ∙ ap₂ sharedByte f g))
+
+    pub byte-fits : RowFits one → {w : ℕ} → l ≡ Lo.Byte w → w < 4294967296
+    byte-fits fits {w} h =
+        touch-fits (rowRange one) w (fits .range) (shared-some (rowRange one) (rowRange other) w (sym (s ∙ ap₂ sharedByte f g) ∙ ap lowestOf h) .one)
+
+    pub clash-added :
+        {w : ℕ} {r : Race} {t′ : Tally} → l ≡ Lo.Byte w → r ≡ raceBetween one other w → t′ ≡ addRace key t r → t′ ≡ addPair key t (clashRace m one other)
+    unfolding addPair
+    clash-added h i j =
+        j ∙ ap (addRace key t) i
+        ∙ sym (ap (addPair key t) (clashing ∙ ap (λ (x : Lowest). fromOption none (λ witness. some (raceBetween one other witness)) (lowestOf x)) h))
+
+    pub clash-apart : l ≡ Lo.Nothing → t ≡ addPair key t (clashRace m one other)
+    unfolding addPair
+    clash-apart h =
+        sym (ap (addPair key t) (clashing ∙ ap (λ (x : Lowest). fromOption none (λ witness. some (raceBetween one other witness)) (lowestOf x)) h))
+
+-- a row and the j-th
+module _ (m rows : List ℕ) (one : AccessRow) (j : ℕ) (key : Key) (t : Tally) {c : Bool}
+    (e : c ≡ boundsMeet (one .base) (one .last) (accessRowAt rows j .base) (accessRowAt rows j .last)) where
+  pub bounds-fail : c ≡ false → {r : Tally} → r ≡ t → r ≡ addPair key t (pairRace m one (accessRowAt rows j))
+  unfolding pairRace addPair
+  bounds-fail h g = g ∙ sym (ap (addPair key t) (ap (λ (x : Bool). cond x (clashRace m one (accessRowAt rows j)) none) (sym e ∙ h)))
+
+  pub bounds-pass :
+      c ≡ true → {other : AccessRow} → other ≡ accessRowAt rows j → {r : Tally}
+      → r ≡ addPair key t (clashRace m one other)
+      → r ≡ addPair key t (pairRace m one (accessRowAt rows j))
+  unfolding pairRace
+  bounds-pass h f g =
+      g ∙ ap (λ (x : AccessRow). addPair key t (clashRace m one x)) f
+      ∙ sym (ap (addPair key t) (ap (λ (x : Bool). cond x (clashRace m one (accessRowAt rows j)) none) (sym e ∙ h)))
+
+-- the counts
+race-count : (key : Key) (t : Tally) (r : Race) → addRace key t r .count ≡ t .count + 1
+unfolding addRace
+race-count key t r = go (replaces key t r)
+  where
+    go : (x : Bool) → _≡_ {A = ℕ} (cond {A = Tally} x (keeping t r) (counting t) .count) (t .count + 1)
+    go true = refl
+    go false = refl
+
+pair-count : (key : Key) (t : Tally) (o : Option Race) → addPair key t o .count ≤ t .count + 1
+unfolding addPair
+pair-count key t none = omega arith
+pair-count key t (some r) = omega (arith, race-count key t r)
+
+module _ (m rows : List ℕ) (key : Key) where
+  pub row-count : (one : AccessRow) (t : Tally) (j : ℕ) → tallyRow m rows key one t j .count ≤ t .count + j
+  unfolding tallyRow
+  row-count one t zero = omega arith
+  row-count one t (suc j) =
+      omega (arith, row-count one t j, pair-count key (tallyRow m rows key one t j) (pairRace m one (accessRowAt rows j)))
+
+  pub all-count : (i : ℕ) → i ≤ 1024 → tallyAll m rows key i .count ≤ i * 1024
+  unfolding tallyAll
+  all-count zero h = omega arith
+  all-count (suc i) h =
+      omega (arith, all-count i (omega arith), row-count (accessRowAt rows i) (tallyAll m rows key i) i)
+
+  -- one turn of each loop
+  pub row-more :
+      (one : AccessRow) (t : Tally) (j : ℕ) {u v : Tally}
+      → u ≡ tallyRow m rows key one t j
+      → v ≡ addPair key u (pairRace m one (accessRowAt rows j))
+      → v ≡ tallyRow m rows key one t (j + 1)
+  row-more one t j p q =
+      rw add-one (unfold tallyRow in (q ∙ ap (λ (x : Tally). addPair key x (pairRace m one (accessRowAt rows j))) p))
+
+  pub all-more :
+      (i : ℕ) {u v : Tally} {one : AccessRow}
+      → u ≡ tallyAll m rows key i
+      → one ≡ accessRowAt rows i
+      → v ≡ tallyRow m rows key one u i
+      → v ≡ tallyAll m rows key (i + 1)
+  all-more i p o q =
+      rw add-one (unfold tallyAll in (q ∙ ap₂ (λ (x : AccessRow) (y : Tally). tallyRow m rows key x y i) o p))
+
+  -- and the last
+  pub row-all :
+      (one : AccessRow) (t : Tally) (i j : ℕ) {u : Tally} → j ≤ i → i ≤ j → u ≡ tallyRow m rows key one t j → u ≡ tallyRow m rows key one t i
+  row-all one t i j h l e = let q : j ≡ i = omega arith in e ∙ ap (tallyRow m rows key one t) q
+
+  pub all-all : (n i : ℕ) {u : Tally} → i ≤ n → n ≤ i → u ≡ tallyAll m rows key i → u ≡ tallyAll m rows key n
+  all-all n i h l e = let q : i ≡ n = omega arith in e ∙ ap (tallyAll m rows key) q
+
+  -- what a turn wants
+  pub row-fits :
+      (one : AccessRow) (t : Tally) (i j : ℕ) {u : Tally} {other : AccessRow}
+      → TablesFit m rows i × RowFits one × (t .count + i ≤ 4294967295)
+      → j < i
+      → u ≡ tallyRow m rows key one t j
+      → other ≡ accessRowAt rows j
+      → (length m ≡ 8192) × RowFits one × RowFits other × (u .count < 4294967295)
+  row-fits one t i j g h e o = (
+    g .0 .whole,
+    g .1,
+    subst RowFits (sym o) (g .0 .fit j h),
+    omega (arith, ap (λ (x : Tally). x .count) e, row-count one t j),
+  )
+
+  pub all-fit :
+      (n i : ℕ) {u : Tally} {one : AccessRow}
+      → TablesFit m rows n
+      → i < n
+      → u ≡ tallyAll m rows key i
+      → one ≡ accessRowAt rows i
+      → TablesFit m rows i × RowFits one × (u .count + i ≤ 4294967295)
+  all-fit n i {u} {one} g h e o = (
+    record { whole = g .whole; few = omega (arith, g .few); fit = λ j l. g .fit j (omega arith) },
+    subst RowFits (sym o) (g .fit i h),
+    omega (arith, g .few, ap (λ (x : Tally). x .count) e, all-count i (omega (arith, g .few))),
+  )

@@ -1,0 +1,19 @@
+-- `verdict::judge::judge_in` meets its contract. Assumes nothing.
+use mathlib.Core.Path.{refl}
+use Rattle.bundle.proofs.CheckCases.{indexed-accepted, indexed-refused}
+use Rattle.verdict.proofs.JudgeCases.{judged-as, judge-refused}
+use borrow.Author.Needs.{needs}
+use Rattle.verdict.proofs.judge.judge_in.Statement.{statement}
+use Rattle.verdict.proofs.judge.judge_in.Tie as tie
+
+take-census-requires : tie.Need-take-census-requires
+take-census-requires c κs = (indexed-accepted _ _ _ (c .before .before .before .before .index-bundle .ensures) (c .before .before .count .given .1) .accepted, c .before .before .before .before .before .before .before .before .before .pre)
+
+returns : tie.Need-returns
+returns c = (judged-as _ (indexed-accepted _ _ _ (c .before .before .before .before .before .before .before .before .index-bundle .ensures) (c .before .before .before .before .before .before .count .given .1)) _ _ refl (c .before .before .before .take-census .ensures .0) (c .judgement-of .ensures), c .before .before .before .take-census .ensures .1)
+
+returns-2 : tie.Need-returns-2
+returns-2 c = (judge-refused _ (c .before .place .given .0 .1 .0) (indexed-refused _ _ _ (c .before .before .before .index-bundle .ensures) (c .before .place .given .1)), refl)
+
+pub judge-in-spec : {M : Type 1} → statement M
+judge-in-spec = tie.close (tie.spec (λ c κs. search needs) (λ c. search needs) take-census-requires (λ c κs. search needs) (λ c. search needs) (λ c. search needs) returns returns-2)

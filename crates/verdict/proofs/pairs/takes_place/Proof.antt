@@ -1,0 +1,10 @@
+-- `verdict::pairs::takes_place` meets its contract. Assumes nothing.
+use borrow.Author.Needs.{needs}
+use Rattle.verdict.proofs.pairs.takes_place.Statement.{statement}
+use Rattle.verdict.proofs.pairs.takes_place.Tie as tie
+
+returns : tie.Need-returns
+returns c = cc
+
+pub takes-place-spec : {M : Type 1} → statement M
+takes-place-spec = tie.close (tie.spec (λ c κs. search needs) (λ c κs. search needs) returns)

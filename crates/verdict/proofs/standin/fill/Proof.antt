@@ -1,0 +1,3 @@
+use Rattle.verdict.proofs.standin.fill.Statement.{statement}
+
+axiom pub fill-spec : {M : Type 1} → statement M

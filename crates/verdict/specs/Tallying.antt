@@ -1,0 +1,162 @@
+-- What the loops over all pairs of accesses compute, from the rows of the accesses and the bits of the matrix.
+use Prim.Native.Nat.{ℕ, zero, suc, _+_, _*_, _/_, _%_, _≤_, _<_}
+use mathlib.Core.Path.{_≡_}
+use mathlib.Core.Bool.{Bool, true, false, cond, not, _&&_, _||_}
+use mathlib.Core.List.{List}
+use mathlib.Core.Option.{Option, none, some}
+use lib.ListN.{length}
+use lib.Dec.{eqb, ltb, leb}
+use Rattle.bundle.specs.Lists.{fromOption}
+use Rattle.bundle.specs.Locks.{commonLock}
+use Rattle.bundle.specs.Commands.{rangeOk}
+use Rattle.bundle.specs.declared.command.Range.{Range}
+use Rattle.order.specs.Ranges.{sharedByte}
+use Rattle.verdict.specs.Races.{lexLess, keyOf, raceKey, nameBelow, raceBelow}
+use Rattle.verdict.specs.Matrix.{bitAt}
+use Rattle.verdict.specs.Working.{accessRowAt}
+use Rattle.verdict.specs.declared.race.Name.{Name}
+use Rattle.verdict.specs.declared.race.Race.{Race}
+use Rattle.verdict.specs.declared.rows.AccessRow.{AccessRow}
+use Rattle.verdict.specs.declared.pairs.Key.{Key}
+use Rattle.verdict.specs.declared.pairs.Packed.{Packed}
+use Rattle.verdict.specs.declared.pairs.Tally.{Tally}
+
+-- a name as one number, in whose order the names are
+abbrev pub packed : Name → ℕ
+packed n = n .team * 16777216 + n .member * 65536 + n .number
+
+-- the parts of a name fit their widths
+pub record NameFits (n : Name) : Type 0 where
+  pub team : n .team < 65536
+  pub member : n .member < 256
+  pub number : n .number < 65536
+
+pub record PackedAs (n : Name) (number : ℕ) : Type 0 where
+  pub is : number ≡ packed n
+  pub fits : NameFits n
+
+-- the order of keys, with packed names
+abbrev pub packedLess : Packed → Packed → Bool
+packedLess a b =
+    ltb (a .witness) (b .witness)
+    || eqb (a .witness) (b .witness)
+    && (ltb (a .first) (b .first) || eqb (a .first) (b .first) && ltb (a .second) (b .second))
+
+abbrev pub packedKey : ℕ → Name → Name → Packed
+packedKey witness first second = record { witness = witness; first = packed first; second = packed second }
+
+pub record KeyPackedAs (witness : ℕ) (first second : Name) (key : Packed) : Type 0 where
+  pub is : key ≡ packedKey witness first second
+  pub first-fits : NameFits first
+  pub second-fits : NameFits second
+
+-- the range and the name of a row
+abbrev pub rowRange : AccessRow → Range
+rowRange r = record { base = r .base; stride = r .stride; count = r .count; size = r .size }
+
+abbrev pub rowName : AccessRow → Name
+rowName r = record { team = r .team; member = r .member; number = r .number }
+
+-- whether the bytes from one first byte to its last and those from another have one in common
+abbrev pub boundsMeet : ℕ → ℕ → ℕ → ℕ → Bool
+boundsMeet base last other otherLast = leb base otherLast && leb other last
+
+-- whether of two kinds at least one writes and not both are atomic
+abbrev pub kindsClash : ℕ → ℕ → Bool
+kindsClash one other = leb 1 (one % 2 + other % 2) && ltb (one / 2 + other / 2) 2
+
+-- whether two accesses hold no lock in common
+abbrev pub locksApart : ℕ → ℕ → Bool
+locksApart one other = not (commonLock one other)
+
+-- whether there is no path either way between two segments
+abbrev pub unordered : List ℕ → ℕ → ℕ → Bool
+unordered matrix one other = not (bitAt matrix one other) && not (bitAt matrix other one)
+
+unfoldable pub rowsClash : List ℕ → AccessRow → AccessRow → Bool
+rowsClash matrix one other =
+    kindsClash (one .kind) (other .kind)
+    && locksApart (one .locks) (other .locks)
+    && unordered matrix (one .segment) (other .segment)
+
+-- what a race carries
+abbrev pub raceFrom : AccessRow → AccessRow → ℕ → Race
+raceFrom one other witness =
+    record {
+      witness = witness;
+      first = rowName one;
+      «first_site» = one .site;
+      second = rowName other;
+      «second_site» = other .site;
+    }
+
+-- lower name first
+unfoldable pub raceBetween : AccessRow → AccessRow → ℕ → Race
+raceBetween one other witness =
+    cond (nameBelow (rowName one) (rowName other)) (raceFrom one other witness) (raceFrom other one witness)
+
+-- the race of two accesses, or none
+unfoldable pub clashRace : List ℕ → AccessRow → AccessRow → Option Race
+clashRace matrix one other =
+    cond (rowsClash matrix one other)
+    (fromOption none (λ witness. some (raceBetween one other witness)) (sharedByte (rowRange one) (rowRange other)))
+    none
+
+unfoldable pub pairRace : List ℕ → AccessRow → AccessRow → Option Race
+pairRace matrix one other =
+    cond (boundsMeet (one .base) (one .last) (other .base) (other .last)) (clashRace matrix one other) none
+
+-- whether a race is above the key; all are where none is given
+unfoldable pub aboveKey : Key → Race → Bool
+aboveKey key r = not (key .given) || lexLess (keyOf (key .witness) (key .first) (key .second)) (raceKey r)
+
+-- whether a race takes the place of the least so far
+abbrev pub replaces : Key → Tally → Race → Bool
+replaces key t r = aboveKey key r && (not (t .found) || raceBelow r (t .race))
+
+-- one more race counted, and kept or not
+abbrev pub keeping : Tally → Race → Tally
+keeping t r = record { count = t .count + 1; found = true; race = r }
+
+abbrev pub counting : Tally → Tally
+counting t = record { count = t .count + 1; found = t .found; race = t .race }
+
+-- the least above the key is kept
+unfoldable pub addRace : Key → Tally → Race → Tally
+addRace key t r = cond (replaces key t r) (keeping t r) (counting t)
+
+unfoldable pub addPair : Key → Tally → Option Race → Tally
+addPair key t none = t
+addPair key t (some r) = addRace key t r
+
+-- an access with the first j
+unfoldable pub tallyRow : List ℕ → List ℕ → Key → AccessRow → Tally → ℕ → Tally
+tallyRow matrix rows key one t zero = t
+tallyRow matrix rows key one t (suc j) =
+    addPair key (tallyRow matrix rows key one t j) (pairRace matrix one (accessRowAt rows j))
+
+-- nothing counted yet
+abbrev pub noTally : Tally
+noTally =
+    let nobody : Name = record { team = 0; member = 0; number = 0 } in
+    record {
+      count = 0;
+      found = false;
+      race = record { witness = 0; first = nobody; «first_site» = 0; second = nobody; «second_site» = 0 };
+    }
+
+-- each of the first n accesses with those before it
+unfoldable pub tallyAll : List ℕ → List ℕ → Key → ℕ → Tally
+tallyAll matrix rows key zero = noTally
+tallyAll matrix rows key (suc i) = tallyRow matrix rows key (accessRowAt rows i) (tallyAll matrix rows key i) i
+
+-- a row that the loops can use
+pub record RowFits (r : AccessRow) : Type 0 where
+  pub segment : r .segment < 512
+  pub range : rangeOk (rowRange r) ≡ true
+
+-- a whole matrix, and n rows
+pub record TablesFit (matrix rows : List ℕ) (n : ℕ) : Type 0 where
+  pub whole : length matrix ≡ 8192
+  pub few : n ≤ 1024
+  pub fit : (i : ℕ) → i < n → RowFits (accessRowAt rows i)

@@ -1,0 +1,88 @@
+-- What the judge's tables hold: of a segment three numbers, of an access a row of eight words.
+use Prim.Native.Nat.{ℕ, _+_, _*_, _/_, _%_, _≤_}
+use mathlib.Core.Path.{_≡_}
+use mathlib.Core.Bool.{Bool, true, cond}
+use mathlib.Core.List.{List}
+use mathlib.Core.Option.{some}
+use lib.ListN.{length, getD, getElem?}
+use Rattle.bundle.specs.Commands.{rangeOk, lastByte}
+use Rattle.bundle.specs.declared.command.AccessKind.{AccessKind}
+use Rattle.bundle.specs.declared.command.AccessKind.the-variants as Kind
+use Rattle.bundle.specs.Walk.{Node, Border, ofChunk, ofBarrier, ofRegion, Segment}
+use Rattle.verdict.specs.Races.{NamedAccess}
+use Rattle.verdict.specs.declared.rows.AccessRow.{AccessRow}
+
+-- an event at which segments end and are opened, as a number: the fork of a team (0), its join (1), its barrier of a number (2)
+abbrev pub eventCode : ℕ → ℕ → ℕ → ℕ
+eventCode kind number team = kind + 4 * (number + 65536 * team)
+
+-- where a segment of a team ends: the join of its own team, the barrier, or the fork of another team
+unfoldable pub endCode : ℕ → Border → ℕ
+endCode team ofChunk = eventCode 1 0 team
+endCode team (ofBarrier n) = eventCode 2 n team
+endCode team (ofRegion t) = eventCode 0 0 t
+
+-- where it is opened: the fork of its own team, the barrier, or the join of another team
+unfoldable pub openCode : ℕ → Border → ℕ
+openCode team ofChunk = eventCode 0 0 team
+openCode team (ofBarrier n) = eventCode 2 n team
+openCode team (ofRegion t) = eventCode 1 0 t
+
+-- a segment's team, member and number as one number
+unfoldable pub nodeCode : Node → ℕ
+nodeCode n = n .number + 65536 * (n .member + 256 * n .team)
+
+-- the tables hold the segments' numbers
+pub record SegmentTables (segments : List Segment) (ends opens nodes : List ℕ) : Type 0 where
+  pub few : length segments ≤ 512
+  pub end-codes : (i : ℕ) {s : Segment} → getElem? segments i ≡ some s → getD ends i 0 ≡ endCode (s .node .team) (s .ended)
+  pub open-codes : (i : ℕ) {s : Segment} → getElem? segments i ≡ some s → getD opens i 0 ≡ openCode (s .node .team) (s .opened)
+  pub node-codes : (i : ℕ) {s : Segment} → getElem? segments i ≡ some s → getD nodes i 0 ≡ nodeCode (s .node)
+
+-- an access kind as a number: 1 is added where it writes, 2 where it is atomic
+unfoldable pub kindCode : AccessKind → ℕ
+kindCode Kind.Read = 0
+kindCode Kind.Write = 1
+kindCode Kind.AtomicRead = 2
+kindCode Kind.AtomicWrite = 3
+
+-- the row of an access in eight words
+unfoldable pub accessRowAt : List ℕ → ℕ → AccessRow
+accessRowAt words i =
+    record {
+      base = getD words (8 * i) 0;
+      stride = getD words (8 * i + 1) 0 % 65536;
+      count = getD words (8 * i + 1) 0 / 65536;
+      team = getD words (8 * i + 2) 0 % 65536;
+      number = getD words (8 * i + 2) 0 / 65536;
+      site = getD words (8 * i + 3) 0 % 65536;
+      segment = getD words (8 * i + 3) 0 / 65536;
+      size = getD words (8 * i + 4) 0 % 256;
+      member = getD words (8 * i + 4) 0 / 256 % 256;
+      kind = getD words (8 * i + 4) 0 / 256 / 256 % 256;
+      locks = getD words (8 * i + 5) 0 + 4294967296 * getD words (8 * i + 6) 0;
+      last = getD words (8 * i + 7) 0;
+    }
+
+-- a row is that of an access; its segment is the place of the access's segment in the list of all
+pub record RowOf (segments : List Segment) (x : NamedAccess) (r : AccessRow) : Type 0 where
+  pub team : r .team ≡ x .name .team
+  pub member : r .member ≡ x .name .member
+  pub number : r .number ≡ x .name .number
+  pub site : r .site ≡ x .access .site
+  pub kind : r .kind ≡ kindCode (x .access .kind)
+  pub base : r .base ≡ x .access .range .base
+  pub stride : r .stride ≡ x .access .range .stride
+  pub count : r .count ≡ x .access .range .count
+  pub size : r .size ≡ x .access .range .size
+  pub last : r .last ≡ lastByte (x .access .range)
+  pub locks : r .locks ≡ x .locks
+  pub good : rangeOk (x .access .range) ≡ true
+  pub stands : Segment
+  pub stands-in : getElem? segments (r .segment) ≡ some stands
+  pub stands-node : stands .node ≡ x .node
+
+-- the words hold the rows of the accesses
+pub record AccessTable (segments : List Segment) (accesses : List NamedAccess) (words : List ℕ) : Type 0 where
+  pub few : length accesses ≤ 1024
+  pub rows : (i : ℕ) {x : NamedAccess} → getElem? accesses i ≡ some x → RowOf segments x (accessRowAt words i)

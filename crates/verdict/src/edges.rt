@@ -1,0 +1,74 @@
+// The edges of the fork-join graph as bits, from three numbers of each segment: the event that ends it, the event that opens it, and its
+// node (team, member and number).
+use crate::matrix::close;
+ghost use mathlib.Core.Path.{_≡_};
+ghost use Prim.Native.Nat.{_<_};
+ghost use lib.ListN.{length};
+ghost use Rattle.verdict.specs.Edges.{
+  edgeTest,
+  tableEdge,
+  Tables,
+  Columns,
+  EdgeWord,
+  RowFilled,
+  Filled,
+  Reached,
+};
+
+// Whether a segment has an edge to another: it ends where the other is opened, or the other is the next of its chunk.
+fn edge(end: u64, next: u64, opened: u64, node: u64) -> bool
+    ensures { λ r. ⌜ r ≡ edgeTest end next opened node ⌝ }
+{
+    (end == opened) | (next == node)
+}
+
+// The edges of a segment to 32 others, the first of them lowest.
+fn edge_word(opens: &[u64], nodes: &[u64], end: u64, next: u64, first: usize) -> u32
+    requires { ⌜ Columns (now opens) (now nodes) first ⌝ }
+    ensures { λ r. ⌜ EdgeWord (now (opens .entry)) (now (nodes .entry)) end next first r ⌝ }
+{
+    let mut word: u32 = 0;
+    let mut bit: u64 = 1;
+    let mut k: usize = 0;
+    while k < 32 {
+        word = word | (((edge(end, next, opens[first + k], nodes[first + k]) as u64) * bit) as u32);
+        bit *= 2;
+        k += 1;
+    }
+    word
+}
+
+// The edges of the segment at i to those below n. The words of the row are written whole: what they held does not matter.
+fn fill_row(ends: &[u64], opens: &[u64], nodes: &[u64], n: usize, matrix: &mut [u32], i: usize)
+    requires { ⌜ Tables (now ends) (now opens) (now nodes) n × (length (now matrix) ≡ 8192) × (i < n) ⌝ }
+    ensures { λ _. ⌜ RowFilled (tableEdge (now (ends .entry)) (now (opens .entry)) (now (nodes .entry)) i) n i (now (matrix .entry)) (now (matrix .exit)) ⌝ }
+{
+    let end = ends[i];
+    let next = nodes[i] + 1;
+    let mut word = 0;
+    while 32 * word < n {
+        matrix[16 * i + word] = edge_word(opens, nodes, end, next, 32 * word);
+        word += 1;
+    }
+}
+
+// The edges between the segments below n.
+pub fn fill_edges(ends: &[u64], opens: &[u64], nodes: &[u64], n: usize, matrix: &mut [u32])
+    requires { ⌜ Tables (now ends) (now opens) (now nodes) n × (length (now matrix) ≡ 8192) ⌝ }
+    ensures { λ _. ⌜ Filled (tableEdge (now (ends .entry)) (now (opens .entry)) (now (nodes .entry))) n (now (matrix .entry)) (now (matrix .exit)) ⌝ }
+{
+    let mut i = 0;
+    while i < n {
+        fill_row(ends, opens, nodes, n, matrix, i);
+        i += 1;
+    }
+}
+
+// Which of the segments below n reach which.
+pub fn reach(ends: &[u64], opens: &[u64], nodes: &[u64], n: usize, matrix: &mut [u32])
+    requires { ⌜ Tables (now ends) (now opens) (now nodes) n × (length (now matrix) ≡ 8192) ⌝ }
+    ensures { λ _. ⌜ Reached (now (ends .entry)) (now (opens .entry)) (now (nodes .entry)) n (now (matrix .entry)) (now (matrix .exit)) ⌝ }
+{
+    fill_edges(ends, opens, nodes, n, matrix);
+    close(matrix, n);
+}

@@ -1,0 +1,84 @@
+// The row of an access in eight words of the work area.
+ghost use mathlib.Core.Path.{_≡_};
+ghost use Prim.Native.Nat.{_+_, _*_, _<_};
+ghost use lib.ListN.{length, getD};
+ghost use Rattle.bundle.specs.Index.{Added};
+ghost use Rattle.verdict.specs.Working.{accessRowAt};
+
+// An access: its range and last byte, its name and site, the place of its segment among all, its kind (1 added where it writes, 2 where
+// it is atomic) and the locks that it holds.
+pub struct AccessRow {
+    pub base: u32,
+    pub stride: u16,
+    pub count: u16,
+    pub team: u16,
+    pub number: u16,
+    pub site: u16,
+    pub segment: u16,
+    pub size: u8,
+    pub member: u8,
+    pub kind: u8,
+    pub locks: u64,
+    pub last: u32,
+}
+
+// The word at an index; 0 past the end.
+pub fn word_at(words: &[u32], i: usize) -> u32
+    ensures { λ r. ⌜ r ≡ getD (now (words .entry)) i 0 ⌝ }
+{
+    if i < words.len() {
+        return words[i];
+    }
+    0
+}
+
+// The row of the i-th access.
+pub fn access_at(rows: &[u32], i: u32) -> AccessRow
+    ensures { λ r. ⌜ r ≡ accessRowAt (now (rows .entry)) i ⌝ }
+{
+    let at = 8 * (i as usize);
+    let range = word_at(rows, at + 1);
+    let name = word_at(rows, at + 2);
+    let place = word_at(rows, at + 3);
+    let small = word_at(rows, at + 4);
+    let low = word_at(rows, at + 5) as u64;
+    let high = word_at(rows, at + 6) as u64;
+    AccessRow {
+        base: word_at(rows, at),
+        stride: (range % 65536) as u16,
+        count: (range / 65536) as u16,
+        team: (name % 65536) as u16,
+        number: (name / 65536) as u16,
+        site: (place % 65536) as u16,
+        segment: (place / 65536) as u16,
+        size: (small % 256) as u8,
+        member: (small / 256 % 256) as u8,
+        kind: (small / 256 / 256 % 256) as u8,
+        locks: low + 4294967296 * high,
+        last: word_at(rows, at + 7),
+    }
+}
+
+// Two numbers of 16 bits in a word.
+fn two(low: u16, high: u16) -> u32
+    ensures { λ r. ⌜ r ≡ low + 65536 * high ⌝ }
+{
+    low as u32 + 65536 * (high as u32)
+}
+
+// Writes the row of the i-th access.
+pub fn add_access(rows: &mut [u32], i: u32, row: AccessRow)
+    requires { ⌜ 8 * i + 7 < length (now rows) ⌝ }
+    ensures { λ _. ⌜ Added accessRowAt (now (rows .entry)) (now (rows .exit)) i row ⌝ }
+{
+    let at = 8 * (i as usize);
+    let locks = row.locks;
+    rows[at] = row.base;
+    rows[at + 1] = two(row.stride, row.count);
+    rows[at + 2] = two(row.team, row.number);
+    rows[at + 3] = two(row.site, row.segment);
+    rows[at + 4] = row.size as u32 + 256 * (row.member as u32 + 256 * (row.kind as u32));
+    rows[at + 5] = (locks % 4294967296) as u32;
+    rows[at + 6] = (locks / 4294967296) as u32;
+    rows[at + 7] = row.last;
+}
