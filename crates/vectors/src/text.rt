@@ -1,4 +1,4 @@
-// Text on standard output.
+// Text on standard output, each piece written at once: a buffer handed through all functions would double their proofs.
 use bundle::refusal::Cause;
 use libc::STDOUT_FILENO;
 
