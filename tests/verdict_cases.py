@@ -11,7 +11,7 @@ from second_reader import Command
 from vector_frames import judge_frame, next_frame
 
 # Whether crates/vectors answers judge and next race. Turned on, these frames are written and compared too.
-ANSWERED = False
+ANSWERED = True
 
 LENGTHS = (0, 16383, 16384, 20000)  # of a work area, in words
 FILLERS = (0, 1, 0x80000000, 0xFFFFFFFF, 0x5A5A5A5A)

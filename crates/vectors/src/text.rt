@@ -12,6 +12,12 @@ pub fn put_field(number: u64) {
     io::print_decimal(STDOUT_FILENO, number);
 }
 
+// A dot, and the number.
+pub fn put_dotted(number: u64) {
+    put_text(b".");
+    io::print_decimal(STDOUT_FILENO, number);
+}
+
 fn put_hex_byte(byte: u8) {
     io::print_hex(STDOUT_FILENO, byte as u64, 2);
 }
