@@ -6,7 +6,7 @@ use Rattle.exports.proofs.judge.dezhakom_judge.Statement.{statement}
 use Rattle.exports.proofs.judge.dezhakom_judge.Tie as tie
 
 returns : tie.Need-returns
-returns c = ap judgedLeft (c .before .before .before .before .judge .ensures) ∙ rw (c .before .judged-numbers .ensures) refl
+returns c = ap judgedLeft (c .before .before .before .before .judge .ensures .0) ∙ rw (c .before .judged-numbers .ensures) refl
 
 pub dezhakom-judge-spec : {M : Type 1} → statement M
 dezhakom-judge-spec =
