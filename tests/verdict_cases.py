@@ -7,10 +7,11 @@ import generators
 import second_reader as sr
 from bundle_cases import listed_bundles, short_aimed_bundles, small_damaged, small_good
 from bundle_text import bundle
+from second_reader import Command
 from vector_frames import judge_frame, next_frame
 
 # Whether crates/vectors answers judge and next race. Turned on, these frames are written and compared too.
-ANSWERED = False
+ANSWERED = True
 
 LENGTHS = (0, 16383, 16384, 20000)  # of a work area, in words
 FILLERS = (0, 1, 0x80000000, 0xFFFFFFFF, 0x5A5A5A5A)
@@ -184,4 +185,13 @@ def large_verdict_frames(seed):
             data = generators.bundle_bytes(order)
             yield judge_frame(some_area(rng), data)
             yield next_frame(some_area(rng), generators.BASE + 20, LOWEST, LOWEST, data)
-    yield judge_frame(some_area(rng), generators.random_bundle(rng, generators.LARGE))
+    yield judge_frame(some_area(rng), generators.bundle_bytes(many_races()))
+
+
+def many_races():
+    """More races than 16 bits count: 32 members that write one byte 13 times each."""
+    write = Command(sr.WRITE, (1, generators.BASE, 0, 1, 1))
+    chunks = [[Command(sr.MEMBER, (0, 0)), Command(sr.REGION, (1, 32)), Command(sr.END, ())]]
+    for member in range(32):
+        chunks.append([Command(sr.MEMBER, (1, member)), *[write] * 13, Command(sr.END, ())])
+    return chunks

@@ -1,2 +1,3 @@
--- Answers as numbers of 64 bits, for callers in other languages.
+-- Answers as numbers, for callers in other languages.
+pub mod Judged
 pub mod Packing

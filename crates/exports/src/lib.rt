@@ -1,4 +1,5 @@
-// Operations for programs in Rust or C to call: numbers and byte slices go in, and the answer is one number.
+// Operations for programs in Rust or C to call: numbers and slices go in, and an answer is one number, or several in lent numbers.
 pub mod check;
+pub mod judge;
 mod refused;
 pub mod shared;

@@ -3,6 +3,7 @@
 // A frame is an operation (1 byte), the length of the body (4 bytes, low byte first), and the body.
 mod bundles;
 mod commands;
+mod judgements;
 mod numbers;
 mod orders;
 mod text;
@@ -19,6 +20,8 @@ fn answer(operation: u8, body: &mut [u8]) -> bool {
         5 => bundles::label(body),
         6 => orders::compare(body),
         7 => orders::share(body),
+        8 => judgements::judge(body),
+        9 => judgements::next(body),
         _ => false,
     }
 }

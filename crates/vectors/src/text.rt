@@ -1,4 +1,4 @@
-// Text on standard output.
+// Text on standard output, each piece written at once: a buffer handed through all functions would double their proofs.
 use bundle::refusal::Cause;
 use libc::STDOUT_FILENO;
 
@@ -9,6 +9,12 @@ pub fn put_text(text: &[u8]) {
 // A space, and the number.
 pub fn put_field(number: u64) {
     put_text(b" ");
+    io::print_decimal(STDOUT_FILENO, number);
+}
+
+// A dot, and the number.
+pub fn put_dotted(number: u64) {
+    put_text(b".");
     io::print_decimal(STDOUT_FILENO, number);
 }
 

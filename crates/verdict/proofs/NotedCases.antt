@@ -7,7 +7,7 @@ use native.Mathlib.Omega.{arith}
 use lib.Dec.{ltb}
 use lib.ListN.{length, set}
 use borrow.Author.Tests.{lt-ltb}
-use Rattle.bundle.specs.Commands.{rangeOk, lastByte, inRange}
+use Rattle.bundle.specs.Commands.{rangeOk, lastByte, operandsOk, inRange}
 use Rattle.bundle.specs.Locks.{holds}
 use Rattle.bundle.specs.Chunks.{afterBarrier, afterJoin, afterAcquire, afterRelease, afterCommand}
 use Rattle.bundle.specs.Walk.{opensSegment, addsAccess, Border, ofBarrier, ofRegion}
@@ -18,6 +18,7 @@ use Rattle.bundle.specs.declared.command.Access.{Access}
 use Rattle.bundle.specs.declared.command.Range.{Range}
 use Rattle.bundle.specs.declared.command.Command.{Command}
 use Rattle.bundle.specs.declared.command.Command.the-variants as Com
+use Rattle.bundle.proofs.Ranges.{in-range-ok}
 use Rattle.bundle.proofs.Tests.{and-right, false-is-true}
 use Rattle.bundle.proofs.Ranges.{range-parts, size-within}
 use Rattle.verdict.specs.Working.{eventCode, endCode, openCode, nodeCode, accessRowAt}
@@ -57,8 +58,8 @@ pub acquires :
     → misusesLock (k .locks) (Com.Acquire l) ≡ false
     → after ≡ cond (ltb l 64 && not (holds l (k .locks))) (afterAcquire l k) k
     → after ≡ afterAcquire l k
-unfolding inRange misusesLock
-acquires k after l r m e = e ∙ go (ltb l 64) (holds l (k .locks)) r m
+unfolding operandsOk misusesLock
+acquires k after l r m e = e ∙ go (ltb l 64) (holds l (k .locks)) (in-range-ok (Com.Acquire l) r) m
   where
     go : (a b : Bool) → a ≡ true → b ≡ false → cond (a && not b) (afterAcquire l k) k ≡ afterAcquire l k
     go a b p q = rw (p, q)
@@ -115,7 +116,7 @@ module _ {p : Cursor} {c : Command} {ends opens nodes rows : List ℕ} (n : Nota
       let l = access-below q in (
         omega (arith, n .segment),
         omega (arith, n .access-in),
-        unfold inRange in (and-right (ltb (a .site) 65536) (rangeOk (a .range)) (rw q at (n .in-range))),
+        unfold operandsOk in (in-range-ok (Com.Access a) (rw q at (n .in-range))),
       )
 
   pub row-room : {a : Access} → c ≡ Com.Access a → 8 * p .accesses + 7 < length rows

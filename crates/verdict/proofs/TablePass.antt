@@ -9,7 +9,7 @@ use native.Mathlib.Nat.{add-zero}
 use lib.ListN.{length, set, getElem?}
 use lib.Dec.{ltb}
 use Rattle.bundle.specs.Answer.{gives, refuses}
-use Rattle.bundle.specs.Commands.{rangeOk, inRange, readAt}
+use Rattle.bundle.specs.Commands.{rangeOk, operandsOk, readAt}
 use Rattle.bundle.specs.Chunks.{Placed, fresh, afterCommand, frontOf, gatherOne, gather, chunksOf}
 use Rattle.bundle.specs.Walk.{Border, ofChunk, ofBarrier, ofRegion, borders, opensSegment, addsAccess, entriesFrom, Opening, openingAt, segmentsFrom}
 use Rattle.bundle.specs.Scan.{isMember, misplaced, misusesLock, start}
@@ -18,6 +18,7 @@ use Rattle.bundle.specs.Index.{Added}
 use Rattle.bundle.specs.declared.command.Access.{Access}
 use Rattle.bundle.specs.declared.command.Command.{Command}
 use Rattle.bundle.specs.declared.command.Command.the-variants as Com
+use Rattle.bundle.proofs.Ranges.{in-range-ok}
 use Rattle.bundle.proofs.Tests.{false-is-true, and-right, false-of-not}
 use Rattle.bundle.proofs.Delimiters.{plain}
 use Rattle.bundle.proofs.Decoding.{read-next}
@@ -251,7 +252,7 @@ module _ {s : List ℕ} (a : Accepted s) where
         let w = stands-on v st (sym (append-nil done)) refl in
         let more : p .accesses + 1 ≤ 1024 = access-room a w in
         let range = orderly-head (scanHere true p) (Com.Access x) (commandsIn ps) (v .order) .in-range in
-        let good : rangeOk (x .range) ≡ true = unfold inRange in (and-right (ltb (x .site) 65536) (rangeOk (x .range)) range) in
+        let good : rangeOk (x .range) ≡ true = unfold operandsOk in (in-range-ok (Com.Access x) range) in
         turn-still (Com.Access x) (accessHere p x ∷ []) v st refl refl refl refl refl
         (λ rows′ same row.
         let d = row x refl in (
