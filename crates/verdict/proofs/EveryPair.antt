@@ -1,6 +1,6 @@
 -- All pairs of a list: each element with those before it, both ways round, gives what every element with every element does.
 use Prim.Native.Nat.{ℕ, zero, suc}
-use mathlib.Core.Path.{_≡_, refl, sym, _∙_, ap, subst}
+use mathlib.Core.Path.{_≡_, sym, _∙_, ap, subst}
 use mathlib.Core.List.{
   List,
   [],

@@ -1,36 +1,34 @@
 -- Judge and next race, case by case: the tables in the work area, the counts, the answers, and demand 3.
-use Prim.Native.Nat.{ℕ, suc, _+_, _*_, _≤_, _<_}
-use mathlib.Core.Path.{_≡_, refl, sym, _∙_, ap, ap₂, subst}
+use Prim.Native.Nat.{ℕ, suc, _+_, _≤_, _<_}
+use mathlib.Core.Path.{_≡_, refl, sym, _∙_, ap, subst}
 use mathlib.Core.Bool.{Bool, true, false, cond, not, _||_}
-use mathlib.Core.List.{List, [], _∷_, _++_, map, append-nil}
+use mathlib.Core.List.{List, [], _∷_, _++_, append-nil}
 use mathlib.Core.Option.{Option, none, some}
 use native.Mathlib.Omega.{arith}
 use lib.ListN.{length, take, drop, replicate, getD, getElem?, length-drop}
 use lib.Seq.{length-take-le, length-front, take-at, drop-at, drop-length}
 use borrow.Rule.Slice.PartMut.{same-len-mid}
 use borrow.Author.Tests.{lt-ltb, le-ltb}
-use Rattle.bundle.specs.Answer.{Answer, gives, refuses, whenGiven, numberOf}
+use Rattle.bundle.specs.Answer.{Answer, gives, refuses, numberOf}
 use Rattle.bundle.specs.Lists.{first}
 use Rattle.bundle.specs.Commands.{Bytes, Lent, rangeOk}
 use Rattle.bundle.specs.Walk.{Segment}
 use Rattle.bundle.specs.Chunks.{Chunk, chunksOf}
 use Rattle.bundle.specs.Check.{checkOf, Accepted}
-use Rattle.bundle.specs.Index.{chunkRowAt, table, rowsFrom, chunkRows, Indexed}
+use Rattle.bundle.specs.Index.{chunkRowAt, rowsFrom, chunkRows, Indexed}
 use Rattle.bundle.specs.declared.refusal.Cause.{Cause}
 use Rattle.bundle.proofs.Tables.{table-length}
 use Rattle.bundle.proofs.Reorder.{distinct-members}
 use Rattle.verdict.specs.Graph.{segmentsOf}
 use Rattle.verdict.specs.Races.{NamedAccess, lexLess, keyOf, raceKey, accessesOf, racesOf}
-use Rattle.verdict.specs.Matrix.{PathBits}
-use Rattle.verdict.specs.Working.{nodeCode, accessRowAt, RowOf, AccessTable, SegmentTables}
-use Rattle.verdict.specs.Tallying.{rowRange, aboveKey, tallyAll, RowFits, TablesFit}
+use Rattle.verdict.specs.Working.{nodeCode, accessRowAt}
+use Rattle.verdict.specs.Tallying.{aboveKey, tallyAll, RowFits, TablesFit}
 use Rattle.verdict.specs.Judge.{verdictOf, judgementOf, raceAbove, overWork, judgedOf, judgeOf, nextAbove, nextOf, judgingOf, nextRaceOf}
 use Rattle.verdict.specs.Demand.{Judged}
 use Rattle.verdict.specs.Promise.{Promise}
 use Rattle.verdict.specs.Census.{matrixPart, rowsPart, MatrixFilled, AreaFilled, leastOf, Tallies, Counted, verdictIn, nextIn}
 use Rattle.verdict.specs.declared.race.Name.{Name}
 use Rattle.verdict.specs.declared.race.Race.{Race}
-use Rattle.verdict.specs.declared.race.Verdict.{Verdict}
 use Rattle.verdict.specs.declared.race.Verdict.the-variants as Ver
 use Rattle.verdict.specs.declared.race.Judgement.{Judgement}
 use Rattle.verdict.specs.declared.race.Judging.{Judging}
@@ -41,7 +39,7 @@ use Rattle.verdict.specs.declared.pairs.Key.{Key}
 use Rattle.verdict.specs.declared.pairs.Tally.{Tally}
 use Rattle.verdict.specs.declared.judge.Census.{Census}
 use Rattle.verdict.specs.Filling.{Filled}
-use Rattle.verdict.specs.Edges.{Tables, Regular, Reached}
+use Rattle.verdict.specs.Edges.{Tables, Reached}
 use Rattle.verdict.specs.declared.fill.Counts.{Counts}
 use Rattle.verdict.proofs.Regularity.{regular}
 use Rattle.verdict.proofs.ListPlaces.{below-at, at-below, at-mem}

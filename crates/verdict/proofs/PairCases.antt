@@ -8,8 +8,6 @@ use native.Mathlib.Omega.{arith}
 use native.Mathlib.Numerals.{add-one}
 use lib.ListN.{length}
 use borrow.Author.Tests.{not-true, not-false}
-use Rattle.bundle.specs.Lists.{fromOption}
-use Rattle.bundle.specs.Commands.{rangeOk}
 use Rattle.bundle.specs.declared.command.Range.{Range}
 use Rattle.order.specs.Ranges.{sharedByte}
 use Rattle.order.specs.Pairs.{lowestOf}
@@ -38,7 +36,6 @@ use Rattle.verdict.specs.Tallying.{
   addRace,
   addPair,
   tallyRow,
-  noTally,
   tallyAll,
   RowFits,
   TablesFit,

@@ -1,12 +1,12 @@
 -- The rows of two accesses give the race of the two, whichever comes first.
-use Prim.Native.Nat.{ℕ, _+_, _*_, _-_, _<_, _≤_, _/_, _%_}
+use Prim.Native.Nat.{ℕ, _+_, _-_, _≤_, _/_, _%_}
 use mathlib.Core.Path.{_≡_, refl, sym, _∙_, ap, ap₂, subst}
 use mathlib.Core.Bool.{Bool, true, false, cond, not, _&&_, _||_}
 use mathlib.Core.List.{List, [], _∷_, _++_, append-nil}
 use mathlib.Core.Option.{Option, none, some}
 use native.Mathlib.Omega.{arith}
 use native.Mathlib.Nat.{mul-le-mul-right, add-comm}
-use lib.Dec.{eqb, ltb, leb}
+use lib.Dec.{ltb, leb}
 use borrow.Author.Tests.{le-leb}
 use Rattle.bundle.specs.Lists.{fromOption}
 use Rattle.bundle.specs.Locks.{commonLock}
@@ -18,12 +18,11 @@ use Rattle.bundle.specs.declared.command.Range.{Range}
 use Rattle.bundle.proofs.Tests.{both, not-both, is-false, same-test}
 use Rattle.order.specs.Ranges.{Touches, sharedByte}
 use Rattle.order.proofs.SharedByte.{shared-some, shared-swap}
-use Rattle.verdict.specs.Graph.{Pair, closureOf, reaches}
-use Rattle.verdict.specs.Races.{NamedAccess, nameKey, nameBelow, lexLess, writes, atomic, clashes, raceAt, raceOf}
+use Rattle.verdict.specs.Graph.{closureOf, reaches}
+use Rattle.verdict.specs.Races.{NamedAccess, nameKey, nameBelow, writes, atomic, clashes, raceAt, raceOf}
 use Rattle.verdict.specs.Matrix.{bitAt, PathBits}
 use Rattle.verdict.specs.Working.{kindCode, RowOf}
-use Rattle.verdict.specs.Tallying.{rowRange, rowName, boundsMeet, kindsClash, locksApart, unordered, rowsClash, raceFrom, raceBetween, clashRace, pairRace}
-use Rattle.verdict.specs.declared.race.Name.{Name}
+use Rattle.verdict.specs.Tallying.{rowRange, rowName, boundsMeet, kindsClash, rowsClash, raceFrom, raceBetween, clashRace, pairRace}
 use Rattle.verdict.specs.declared.race.Race.{Race}
 use Rattle.verdict.specs.declared.rows.AccessRow.{AccessRow}
 use Rattle.verdict.proofs.Lexical.{Compared, less, same, more, compare, less-asymmetric}

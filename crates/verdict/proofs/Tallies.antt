@@ -1,5 +1,5 @@
 -- The tally over all pairs: as many races as the bundle has, and the first of them above the key.
-use Prim.Native.Nat.{ℕ, zero, suc, _+_, _≤_, _<_}
+use Prim.Native.Nat.{ℕ, zero, suc, _+_, _≤_}
 use mathlib.Core.Path.{_≡_, refl, sym, _∙_, ap, subst}
 use mathlib.Core.Logic.{⊎-elim}
 use mathlib.Core.Bool.{Bool, true, false, cond, not, _&&_, _||_}
@@ -30,16 +30,16 @@ use lib.Seq.{take-length}
 use Rattle.bundle.specs.Lists.{first}
 use Rattle.bundle.specs.Walk.{Segment}
 use Rattle.bundle.specs.Chunks.{Chunk}
-use Rattle.bundle.proofs.Tests.{and-left, and-right, both, not-both, is-false, or-other}
+use Rattle.bundle.proofs.Tests.{and-left, and-right, both, not-both, is-false}
 use Rattle.bundle.proofs.ListLaws.{perm-mem, perm-length, Distinct}
 use Rattle.bundle.proofs.Places.{memberKey}
 use Rattle.verdict.specs.Graph.{closureOf, segmentsOf}
-use Rattle.verdict.specs.Races.{NamedAccess, nameKey, nameBelow, raceBelow, raceKey, clashes, raceOf, racesAmong, accessesOf, racesOf}
+use Rattle.verdict.specs.Races.{NamedAccess, nameKey, nameBelow, raceBelow, clashes, raceOf, racesAmong, accessesOf, racesOf}
 use Rattle.verdict.specs.Matrix.{PathBits}
 use Rattle.verdict.specs.Working.{accessRowAt, AccessTable}
 use Rattle.verdict.specs.Tallying.{aboveKey, replaces, keeping, counting, addRace, addPair, pairRace, tallyRow, noTally, tallyAll}
 use Rattle.verdict.specs.Demand.{Ascending}
-use Rattle.verdict.specs.Census.{leastOf, Tallies}
+use Rattle.verdict.specs.Census.{Tallies}
 use Rattle.verdict.specs.declared.race.Race.{Race}
 use Rattle.verdict.specs.declared.pairs.Key.{Key}
 use Rattle.verdict.specs.declared.pairs.Tally.{Tally}

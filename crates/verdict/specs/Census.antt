@@ -6,7 +6,7 @@ use mathlib.Core.List.{List}
 use mathlib.Core.Option.{Option, none, some}
 use lib.ListN.{length, take, drop}
 use Rattle.bundle.specs.Lists.{first}
-use Rattle.bundle.specs.Chunks.{Chunk, chunksOf}
+use Rattle.bundle.specs.Chunks.{chunksOf}
 use Rattle.verdict.specs.Graph.{segmentsOf}
 use Rattle.verdict.specs.Races.{accessesOf, racesOf}
 use Rattle.verdict.specs.Matrix.{PathBits}

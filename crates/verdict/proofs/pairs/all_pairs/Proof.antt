@@ -1,5 +1,5 @@
 -- `verdict::pairs::all_pairs` meets its contract. The invariant: the accesses passed are compared with those before them. The measure: those left. Assumes nothing.
-use mathlib.Core.Path.{_≡_, refl}
+use mathlib.Core.Path.{_≡_}
 use Prim.Native.Nat.{_≤_, _-_}
 use Rattle.verdict.specs.Tallying.{tallyAll}
 use Rattle.verdict.proofs.PairCases.{all-fit, all-more, all-all}
