@@ -6,11 +6,6 @@ use Rattle.verdict.specs.Tallying.{tallyRow}
 use Rattle.verdict.proofs.PairCases.{clash-passes, clash-fails, row-within, row-fits, row-more, row-all}
 use Rattle.verdict.proofs.pairs.add_row.Statement.{statement}
 use Rattle.verdict.proofs.pairs.add_row.Tie as tie
-use Rattle.verdict.proofs.pairs.add_row.Reads as reads
-use Rattle.verdict.proofs.pairs.add_row.Lts as lts
-use Rattle.verdict.proofs.pairs.add_clash.Reads as add-clash-reads
-use Rattle.verdict.proofs.pairs.clash.Reads as clash-reads
-use Rattle.verdict.proofs.rows.access_at.Reads as access-at-reads
 
 abbrev Inv-loop : tie.InvT-loop
 Inv-loop matrix rows one i key sum₀ j₀ sum j = (j ≤ i) × (sum ≡ tallyRow matrix rows key one sum₀ j)
@@ -18,36 +13,28 @@ Inv-loop matrix rows one i key sum₀ j₀ sum j = (j ≤ i) × (sum ≡ tallyRo
 abbrev μ-loop : tie.MeasureT-loop
 μ-loop matrix rows one i key sum₀ j₀ sum j = i - j
 
--- src/pairs.rt:284:5
 loop-holds : tie.Need-loop-holds Inv-loop μ-loop
 unfolding tallyRow
 loop-holds c = (search needs, refl)
 
--- src/pairs.rt:285:12
 clash-requires : tie.Need-clash-requires Inv-loop μ-loop
 clash-requires c κs = row-within _ _ (c .before .before .before .before .args .key) _ _ _ (c .before .before .before .before .pre) (c .loop-test .taken)
 
--- src/pairs.rt:286:34
 access-at-requires : tie.Need-access-at-requires Inv-loop μ-loop
 access-at-requires c κs = search needs
 
--- src/pairs.rt:286:13
 add-clash-requires : tie.Need-add-clash-requires Inv-loop μ-loop
 add-clash-requires c κs = row-fits _ _ _ _ _ _ _ (c .before .before .before .before .before .before .before .pre) (c .before .before .before .loop-test .taken) (c .before .before .before .before .loop .inv .1)
 
--- src/pairs.rt:288:9
 add-j : tie.Need-add-j Inv-loop μ-loop
 add-j c = search needs
 
--- src/pairs.rt:284:5
 loop-less : tie.Need-loop-less Inv-loop μ-loop
 loop-less c = search needs
 
--- src/pairs.rt:284:5
 loop-again : tie.Need-loop-again Inv-loop μ-loop
 loop-again c = (search needs, row-more _ _ _ _ _ _ (c .before .before .before .loop .inv .1) (⊎-elim (λ w. clash-passes _ _ _ _ _ _ (c .before .clash .ensures) (w .0 .taken) (w .1 .ensures) (w .3 ∙ w .2 .ensures)) (λ w. clash-fails _ _ _ _ _ _ (c .before .clash .ensures) (w .0 .left) (w .1)) (c .if1 .came)))
 
--- src/pairs.rt:278:1
 returns : tie.Need-returns Inv-loop μ-loop
 returns c = row-all _ _ _ _ _ _ _ (c .before .loop .inv .0) (c .loop-test .left) (c .before .loop .inv .1)
 
