@@ -1,3 +1,4 @@
+-- `bundle::check::check` meets its contract. Assumes nothing.
 use mathlib.Core.Path.{sym}
 use Rattle.bundle.proofs.CheckCases.{indexed-accepted, indexed-refused}
 use borrow.Author.Needs.{needs}

@@ -1,3 +1,4 @@
+-- `bundle::check::count_in` meets its contract. Assumes nothing.
 use borrow.Author.Needs.{needs}
 use Rattle.bundle.proofs.check.count_in.Statement.{statement}
 use Rattle.bundle.proofs.check.count_in.Tie as tie

@@ -1,3 +1,4 @@
+-- `bundle::check::ends_in` meets its contract. Assumes nothing.
 use Rattle.bundle.proofs.CheckCases.{ends-none, ends-some}
 use borrow.Author.Needs.{needs}
 use Rattle.bundle.proofs.check.ends_in.Statement.{statement}

@@ -1,3 +1,4 @@
+-- `bundle::check::find_chunk` meets its contract. Assumes nothing.
 use mathlib.Core.Path.{sym, _∙_, ap}
 use native.Mathlib.Omega.{arith}
 use Rattle.bundle.specs.Find.{foundOf}

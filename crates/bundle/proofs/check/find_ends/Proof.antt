@@ -1,3 +1,4 @@
+-- `bundle::check::find_ends` meets its contract. Assumes nothing.
 use mathlib.Core.Path.{sym, _∙_}
 use Rattle.bundle.proofs.CheckCases.{indexed-accepted, indexed-refused, find-rows, find-refused}
 use borrow.Author.Needs.{needs}

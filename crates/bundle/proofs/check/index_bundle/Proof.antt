@@ -1,3 +1,4 @@
+-- `bundle::check::index_bundle` meets its contract. Assumes nothing.
 use Rattle.bundle.proofs.CheckCases.{check-long, check-refused, check-rows, surveyed-tables, surveyed-refusal}
 use borrow.Author.Needs.{needs}
 use Rattle.bundle.proofs.check.index_bundle.Statement.{statement}

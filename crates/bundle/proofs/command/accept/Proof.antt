@@ -1,3 +1,4 @@
+-- `bundle::command::accept` meets its contract. Assumes nothing.
 use mathlib.Core.Path.{sym, _∙_}
 use borrow.Author.Tests.{not-true, not-false}
 use Rattle.bundle.proofs.Arms.{accept-beyond, accept-within}

@@ -1,3 +1,4 @@
+-- `bundle::command::read_command` meets its contract. Assumes nothing.
 use mathlib.Core.Path.{refl}
 use native.Mathlib.Omega.{arith}
 use Rattle.bundle.specs.Commands.{formOf, codeOf, sum, widthOf, widthsOf, fitWidths, operandsOk, inRange, commandAt}

@@ -1,3 +1,4 @@
+-- `bundle::index::add_chunk` meets its contract. Assumes nothing.
 use Rattle.bundle.proofs.Tables.{chunk-added, stored-past}
 use borrow.Author.Needs.{needs}
 use Rattle.bundle.proofs.index.add_chunk.Statement.{statement}

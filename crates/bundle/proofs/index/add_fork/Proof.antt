@@ -1,3 +1,4 @@
+-- `bundle::index::add_fork` meets its contract. Assumes nothing.
 use native.Mathlib.Omega.{arith}
 use lib.ListN.{length-set}
 use Rattle.bundle.proofs.Tables.{fork-added, stored-fork}

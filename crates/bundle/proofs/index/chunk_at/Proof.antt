@@ -1,3 +1,4 @@
+-- `bundle::index::chunk_at` meets its contract. Assumes nothing.
 use Rattle.bundle.specs.Index.{chunkRowAt, chunkRowOf}
 use borrow.Author.Needs.{needs}
 use Rattle.bundle.proofs.index.chunk_at.Statement.{statement}

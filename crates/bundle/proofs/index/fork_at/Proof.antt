@@ -1,3 +1,4 @@
+-- `bundle::index::fork_at` meets its contract. Assumes nothing.
 use Rattle.bundle.specs.Index.{forkRowAt, forkRowOf}
 use borrow.Author.Needs.{needs}
 use Rattle.bundle.proofs.index.fork_at.Statement.{statement}

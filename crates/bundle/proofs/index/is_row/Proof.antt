@@ -1,3 +1,4 @@
+-- `bundle::index::is_row` meets its contract. Assumes nothing.
 use Rattle.bundle.specs.Index.{isRow}
 use borrow.Author.Needs.{needs}
 use Rattle.bundle.proofs.index.is_row.Statement.{statement}

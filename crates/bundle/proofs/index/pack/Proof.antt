@@ -1,3 +1,4 @@
+-- `bundle::index::pack` meets its contract. Assumes nothing.
 use Rattle.bundle.proofs.Tables.{packed}
 use borrow.Author.Needs.{needs}
 use Rattle.bundle.proofs.index.pack.Statement.{statement}

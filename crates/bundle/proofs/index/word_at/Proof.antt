@@ -1,3 +1,4 @@
+-- `bundle::index::word_at` meets its contract. Assumes nothing.
 use denote.Ref.{now}
 use mathlib.Core.Path.{sym}
 use lib.ListN.{List·getD-eq-default}

@@ -1,3 +1,4 @@
+-- `bundle::survey::closed_row` meets its contract. Assumes nothing.
 use mathlib.Core.Path.{refl}
 use native.Mathlib.Omega.{arith}
 use Rattle.bundle.specs.Survey.{closedRow}

@@ -1,3 +1,4 @@
+-- `bundle::survey::note` meets its contract. Assumes nothing.
 use mathlib.Core.Path.{refl}
 use Rattle.bundle.specs.Survey.{passAfter, newChunks, newForks}
 use Rattle.bundle.proofs.Delimiters.{closes}

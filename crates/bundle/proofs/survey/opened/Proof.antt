@@ -1,3 +1,4 @@
+-- `bundle::survey::opened` meets its contract. Assumes nothing.
 use Rattle.bundle.specs.Survey.{openedAt}
 use borrow.Author.Needs.{needs}
 use Rattle.bundle.proofs.survey.opened.Statement.{statement}

@@ -1,3 +1,4 @@
+-- `verdict::pairs::add_clash` meets its contract. Assumes nothing.
 use Rattle.verdict.proofs.PairCases.{byte-fits, clash-added, clash-apart}
 use borrow.Author.Needs.{needs}
 use Rattle.verdict.proofs.pairs.add_clash.Statement.{statement}

@@ -1,3 +1,4 @@
+-- `verdict::pairs::clash` meets its contract. Assumes nothing.
 use Rattle.verdict.specs.Working.{accessRowAt}
 use Prim.Native.Nat.{ℕ}
 use mathlib.Core.Path.{sym, _∙_, ap, subst}

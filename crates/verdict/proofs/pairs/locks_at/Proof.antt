@@ -1,3 +1,4 @@
+-- `verdict::pairs::locks_at` meets its contract. Assumes nothing.
 use Rattle.verdict.specs.Working.{accessRowAt}
 use borrow.Author.Needs.{needs}
 use Rattle.verdict.proofs.pairs.locks_at.Statement.{statement}
