@@ -8,8 +8,8 @@ use Prim.Native.Nat.{ℕ, suc, _+_, _-_, _≤_, _<_}
 use native.Mathlib.Omega.{arith}
 use borrow.Author.Tests.{ne-eqb, lt-leb, le-leb, lt-ltb, le-ltb}
 use lib.ListN.{length, getD}
-use Rattle.bundle.specs.Answer.{gives, refuses}
-use Rattle.bundle.specs.Commands.{kindOf, accessWidths, accessOf, formOf, sum, widthOf, operandsFrom, commandAt, inRange, decodeByte, decodeAt, ranged, readAt, readingOf}
+use Rattle.bundle.specs.Answer.{Answer, gives, refuses, whenGiven}
+use Rattle.bundle.specs.Commands.{Taken, kindOf, accessWidths, accessOf, formOf, sum, widthOf, operandsFrom, commandAt, inRange, decodeByte, decodeAt, ranged, readAt, readingOf}
 use Rattle.bundle.specs.Inner.{StandsAt, AccessAt}
 use Rattle.bundle.specs.declared.refusal.Cause.{Cause}
 use Rattle.bundle.specs.declared.command.Command.{Command}
@@ -76,17 +76,26 @@ module _ (s : List ℕ) (at : ℕ) (stands : AccessAt s at) where
       ∙ decode-whole s at access-stands c (omega arith) (rw w h)
       (rw (form-of-access (getD s at 0) (stands .low) (stands .high)) e)
 
--- what reading makes of what is decoded
-module _ (s : List ℕ) (at : ℕ) {r : Reading} (decodes : readingOf r ≡ decodeAt s at) where
-  pub read-refused : {place : ℕ} {cause : Cause} → r ≡ Read.Refused place cause → readingOf r ≡ readAt s at
+-- what the test of ranges makes of what is decoded
+module _ (at : ℕ) {r : Reading} where
+  pub accept-beyond : {next : ℕ} {c : Command} → r ≡ Read.Taken next c → inRange c ≡ false → refuses 5 at ≡ whenGiven (readingOf r) (ranged at)
+  unfolding ranged
+  accept-beyond e b = rw (e, b)
+
+  pub accept-within : {next : ℕ} {c : Command} → r ≡ Read.Taken next c → inRange c ≡ true → gives (record { command = c; next = next }) ≡ whenGiven (readingOf r) (ranged at)
+  unfolding ranged
+  accept-within e b = rw (e, b)
+
+-- and what reading does
+module _ (s : List ℕ) (at : ℕ) where
+  pub read-accepted : {a b : Answer Taken} → a ≡ decodeAt s at → b ≡ whenGiven a (ranged at) → b ≡ readAt s at
   unfolding readAt
-  read-refused e = rw (← decodes, e)
+  read-accepted d e = e ∙ ap (λ (x : Answer Taken). whenGiven x (ranged at)) d
 
-  pub read-beyond : {next : ℕ} {c : Command} → r ≡ Read.Taken next c → inRange c ≡ false → refuses 5 at ≡ readAt s at
+  pub read-whole : (t : Taken) → gives t ≡ decodeAt s at → inRange (t .command) ≡ true → gives t ≡ readAt s at
   unfolding readAt ranged
-  read-beyond e b = rw (← decodes, e, b)
+  read-whole t d b = rw (← d, b)
 
-  pub read-within :
-      {next : ℕ} {c : Command} → r ≡ Read.Taken next c → inRange c ≡ true → gives (record { command = c; next = next }) ≡ readAt s at
-  unfolding readAt ranged
-  read-within e b = rw (← decodes, e, b)
+  pub read-not : (n p : ℕ) → refuses n p ≡ decodeAt s at → refuses n p ≡ readAt s at
+  unfolding readAt
+  read-not n p d = rw (← d)

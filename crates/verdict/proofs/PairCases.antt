@@ -17,6 +17,7 @@ use Rattle.order.proofs.SharedByte.{shared-some}
 use Rattle.order.proofs.PairBytes.{touch-fits}
 use Rattle.verdict.specs.Races.{nameBelow}
 use Rattle.verdict.specs.Working.{accessRowAt}
+use Rattle.verdict.specs.Matrix.{Within}
 use Rattle.verdict.specs.Tallying.{
   rowRange,
   rowName,
@@ -71,28 +72,40 @@ module _ (one other : AccessRow) (w : ℕ) {a b : Name} {t : Bool}
   other-first h f = f ∙ sym (ap (λ (x : Bool). cond x (raceFrom one other w) (raceFrom other one w)) (sym below-rows ∙ h))
 
 -- the tests one after another
-module _ (m : List ℕ) (one other : AccessRow) {k : Bool} (e : k ≡ kindsClash (one .kind) (other .kind)) where
-  pub kinds-fail : not k ≡ true → false ≡ rowsClash m one other
-  unfolding rowsClash
-  kinds-fail h =
-      sym
-      (ap
-      (λ (x : Bool). x && locksApart (one .locks) (other .locks) && unordered m (one .segment) (other .segment))
-      (sym e ∙ not-true k h))
+abbrev Clash : List ℕ → AccessRow → AccessRow → Bool → Type 0
+Clash m one other x = x ≡ (boundsMeet (one .base) (one .last) (other .base) (other .last) && rowsClash m one other)
 
-  module _ (p : not k ≡ false) {l : Bool} (f : l ≡ locksApart (one .locks) (other .locks)) where
-    passed : rowsClash m one other ≡ (l && unordered m (one .segment) (other .segment))
+module _ (m : List ℕ) (one other : AccessRow) {d : Bool}
+    (bounds : d ≡ boundsMeet (one .base) (one .last) (other .base) (other .last)) where
+  pub bounds-fail : not d ≡ true → Clash m one other false
+  bounds-fail h = sym (ap (λ (x : Bool). x && rowsClash m one other) (sym bounds ∙ not-true d h))
+
+  module _ (p : not d ≡ false) {k : Bool} (kinds : k ≡ kindsClash (one .kind) (other .kind)) where
+    near : (boundsMeet (one .base) (one .last) (other .base) (other .last) && rowsClash m one other) ≡ rowsClash m one other
+    near = ap (λ (x : Bool). x && rowsClash m one other) (sym bounds ∙ not-false d p)
+
+    pub kinds-fail : not k ≡ true → Clash m one other false
     unfolding rowsClash
-    passed =
-        ap₂ (λ (x y : Bool). x && y && unordered m (one .segment) (other .segment)) (sym e ∙ not-false k p) (sym f)
+    kinds-fail h =
+        sym
+        (near
+        ∙ ap
+        (λ (x : Bool). x && locksApart (one .locks) (other .locks) && unordered m (one .segment) (other .segment))
+        (sym kinds ∙ not-true k h))
 
-    pub locks-fail : not l ≡ true → false ≡ rowsClash m one other
-    locks-fail h =
-        sym (passed ∙ ap (λ (x : Bool). x && unordered m (one .segment) (other .segment)) (not-true l h))
+    module _ (q : not k ≡ false) {l : Bool} (locks : l ≡ locksApart (one .locks) (other .locks)) where
+      passed : rowsClash m one other ≡ (l && unordered m (one .segment) (other .segment))
+      unfolding rowsClash
+      passed =
+          ap₂ (λ (x y : Bool). x && y && unordered m (one .segment) (other .segment)) (sym kinds ∙ not-false k q) (sym locks)
 
-    pub paths-decide : not l ≡ false → {u : Bool} → u ≡ unordered m (one .segment) (other .segment) → u ≡ rowsClash m one other
-    paths-decide h g =
-        g ∙ sym (passed ∙ ap (λ (x : Bool). x && unordered m (one .segment) (other .segment)) (not-false l h))
+      pub locks-fail : not l ≡ true → Clash m one other false
+      locks-fail h =
+          sym (near ∙ passed ∙ ap (λ (x : Bool). x && unordered m (one .segment) (other .segment)) (not-true l h))
+
+      pub paths-decide : not l ≡ false → {u : Bool} → u ≡ unordered m (one .segment) (other .segment) → Clash m one other u
+      paths-decide h g =
+          g ∙ sym (near ∙ passed ∙ ap (λ (x : Bool). x && unordered m (one .segment) (other .segment)) (not-false l h))
 
 -- the lowest shared byte of two rows
 module _ (one other : AccessRow) {a b : Range} (l : Lowest)
@@ -105,50 +118,55 @@ module _ (one other : AccessRow) {a b : Range} (l : Lowest)
       touch-fits (rowRange one) w (fits .range)
       (shared-some (rowRange one) (rowRange other) w (shared-rows ∙ ap lowestOf h) .one)
 
--- two rows whose bounds meet
-module _ (m : List ℕ) (one other : AccessRow) (key : Key) (t : Tally) {c : Bool} (e : c ≡ rowsClash m one other) where
-  pub no-clash : not c ≡ true → t ≡ addPair key t (clashRace m one other)
-  unfolding clashRace addPair
-  no-clash h =
-      sym
-      (ap
-      (λ (x : Bool). addPair key t (cond x (raceAtByte one other (sharedByte (rowRange one) (rowRange other))) none))
-      (sym e ∙ not-true c h))
+-- two rows that clash
+module _ (one other : AccessRow) (key : Key) (t : Tally) {a b : Range} (l : Lowest)
+    (f : a ≡ rowRange one) (g : b ≡ rowRange other) (s : lowestOf l ≡ sharedByte a b) where
+  clashing :
+      {k : Lowest}
+      → l ≡ k
+      → addPair key t (raceAtByte one other (sharedByte (rowRange one) (rowRange other))) ≡ addPair key t (raceAtByte one other (lowestOf k))
+  clashing h = ap (λ (o : Option ℕ). addPair key t (raceAtByte one other o)) (shared-rows one other l f g s ∙ ap lowestOf h)
 
-  module _ (p : not c ≡ false) {a b : Range} (l : Lowest)
-      (f : a ≡ rowRange one) (g : b ≡ rowRange other) (s : lowestOf l ≡ sharedByte a b) where
-    clashing : {k : Lowest} → l ≡ k → addPair key t (clashRace m one other) ≡ addPair key t (raceAtByte one other (lowestOf k))
-    unfolding clashRace
-    clashing h =
-        ap₂
-        (λ (x : Bool) (o : Option ℕ). addPair key t (cond x (raceAtByte one other o) none))
-        (sym e ∙ not-false c p)
-        (shared-rows one other l f g s ∙ ap lowestOf h)
+  pub clash-added :
+      {w : ℕ} {r : Race} {u : Tally}
+      → l ≡ Lo.Byte w
+      → r ≡ raceBetween one other w
+      → u ≡ addRace key t r
+      → u ≡ addPair key t (raceAtByte one other (sharedByte (rowRange one) (rowRange other)))
+  unfolding addPair
+  clash-added h i j = j ∙ ap (addRace key t) i ∙ sym (clashing h)
 
-    pub clash-added :
-        {w : ℕ} {r : Race} {u : Tally} → l ≡ Lo.Byte w → r ≡ raceBetween one other w → u ≡ addRace key t r → u ≡ addPair key t (clashRace m one other)
-    unfolding addPair
-    clash-added h i j = j ∙ ap (addRace key t) i ∙ sym (clashing h)
-
-    pub clash-apart : l ≡ Lo.Nothing → t ≡ addPair key t (clashRace m one other)
-    unfolding addPair
-    clash-apart h = sym (clashing h)
+  pub clash-apart : l ≡ Lo.Nothing → t ≡ addPair key t (raceAtByte one other (sharedByte (rowRange one) (rowRange other)))
+  unfolding addPair
+  clash-apart h = sym (clashing h)
 
 -- a row and the j-th
 module _ (m rows : List ℕ) (one : AccessRow) (j : ℕ) (key : Key) (t : Tally) {c : Bool}
-    (e : c ≡ boundsMeet (one .base) (one .last) (accessRowAt rows j .base) (accessRowAt rows j .last)) where
-  pub bounds-fail : c ≡ false → {r : Tally} → r ≡ t → r ≡ addPair key t (pairRace m one (accessRowAt rows j))
-  unfolding pairRace addPair
-  bounds-fail h g = g ∙ sym (ap (addPair key t) (ap (λ (x : Bool). cond x (clashRace m one (accessRowAt rows j)) none) (sym e ∙ h)))
+    (e : c ≡ (boundsMeet (one .base) (one .last) (accessRowAt rows j .base) (accessRowAt rows j .last) && rowsClash m one (accessRowAt rows j))) where
+  abbrev shared : AccessRow → Option Race
+  shared other = raceAtByte one other (sharedByte (rowRange one) (rowRange other))
 
-  pub bounds-pass :
+  both-tests : (x y : Bool) (o : Option Race) → cond x (cond y o none) none ≡ cond (x && y) o none
+  both-tests true y o = refl
+  both-tests false y o = refl
+
+  one-test : pairRace m one (accessRowAt rows j) ≡ cond c (shared (accessRowAt rows j)) none
+  unfolding pairRace clashRace
+  one-test =
+      both-tests (boundsMeet (one .base) (one .last) (accessRowAt rows j .base) (accessRowAt rows j .last)) (rowsClash m one (accessRowAt rows j)) (shared (accessRowAt rows j))
+      ∙ ap (λ (x : Bool). cond x (shared (accessRowAt rows j)) none) (sym e)
+
+  pub clash-fails : c ≡ false → {r : Tally} → r ≡ t → r ≡ addPair key t (pairRace m one (accessRowAt rows j))
+  unfolding addPair
+  clash-fails h g = g ∙ sym (ap (addPair key t) (one-test ∙ ap (λ (x : Bool). cond x (shared (accessRowAt rows j)) none) h))
+
+  pub clash-passes :
       c ≡ true → {other : AccessRow} → other ≡ accessRowAt rows j → {r : Tally}
-      → r ≡ addPair key t (clashRace m one other)
+      → r ≡ addPair key t (shared other)
       → r ≡ addPair key t (pairRace m one (accessRowAt rows j))
-  unfolding pairRace
-  bounds-pass h f g =
-      g ∙ ap (λ (x : AccessRow). addPair key t (clashRace m one x)) f
-      ∙ sym (ap (addPair key t) (ap (λ (x : Bool). cond x (clashRace m one (accessRowAt rows j)) none) (sym e ∙ h)))
+  clash-passes h f g =
+      g ∙ ap (λ (x : AccessRow). addPair key t (shared x)) f
+      ∙ sym (ap (addPair key t) (one-test ∙ ap (λ (x : Bool). cond x (shared (accessRowAt rows j)) none) h))
 
 -- the counts
 race-count : (key : Key) (t : Tally) (r : Race) → addRace key t r .count ≡ t .count + 1
@@ -204,19 +222,20 @@ module _ (m rows : List ℕ) (key : Key) where
   all-all n i h l e = let q : i ≡ n = omega arith in e ∙ ap (tallyAll m rows key) q
 
   -- what a turn wants
+  pub row-within :
+      (one : AccessRow) (i j : ℕ) {n : ℕ}
+      → TablesFit m rows i × RowFits one × (n ≤ 4294967295)
+      → j < i
+      → Within m (one .segment) (accessRowAt rows j .segment)
+  row-within one i j g h = record { whole = g .0 .whole; row = g .1 .segment; column = g .0 .fit j h .segment }
+
   pub row-fits :
-      (one : AccessRow) (t : Tally) (i j : ℕ) {u : Tally} {other : AccessRow}
+      (one : AccessRow) (t : Tally) (i j : ℕ) {u : Tally}
       → TablesFit m rows i × RowFits one × (t .count + i ≤ 4294967295)
       → j < i
       → u ≡ tallyRow m rows key one t j
-      → other ≡ accessRowAt rows j
-      → (length m ≡ 8192) × RowFits one × RowFits other × (u .count < 4294967295)
-  row-fits one t i j g h e o = (
-    g .0 .whole,
-    g .1,
-    subst RowFits (sym o) (g .0 .fit j h),
-    omega (arith, ap (λ (x : Tally). x .count) e, row-count one t j),
-  )
+      → RowFits one × (u .count < 4294967295)
+  row-fits one t i j g h e = (g .1, omega (arith, ap (λ (x : Tally). x .count) e, row-count one t j))
 
   pub all-fit :
       (n i : ℕ) {u : Tally} {one : AccessRow}

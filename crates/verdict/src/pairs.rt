@@ -10,8 +10,10 @@ use order::lock::common;
 use order::range::Lowest;
 use order::range::shared_byte;
 ghost use mathlib.Core.Path.{_≡_};
+ghost use mathlib.Core.Bool.{_&&_};
 ghost use lib.ListN.{length};
 ghost use Prim.Native.Nat.{_+_, _*_, _≤_, _<_};
+ghost use Rattle.order.specs.Ranges.{sharedByte};
 ghost use Rattle.verdict.specs.Races.{lexLess, nameBelow, keyOf, raceKey, raceBelow};
 ghost use Rattle.verdict.specs.Matrix.{Within};
 ghost use Rattle.verdict.specs.Working.{accessRowAt};
@@ -28,7 +30,7 @@ ghost use Rattle.verdict.specs.Tallying.{
   rowsClash,
   raceFrom,
   raceBetween,
-  clashRace,
+  raceAtByte,
   aboveKey,
   replaces,
   addRace,
@@ -217,28 +219,11 @@ fn no_path(matrix: &[u32], one: u16, other: u16) -> bool
     !bit(matrix, a, b) & !bit(matrix, b, a)
 }
 
-// Whether two accesses race if they share a byte. The cheap tests come first.
-fn clash(matrix: &[u32], one: AccessRow, other: AccessRow) -> bool
-    requires { ⌜ Within (now matrix) (one .segment) (other .segment) ⌝ }
-    ensures { λ r. ⌜ r ≡ rowsClash (now (matrix .entry)) one other ⌝ }
+// The race of two accesses that clash, if they share a byte.
+fn add_clash(one: AccessRow, other: AccessRow, key: Key, tally: Tally) -> Tally
+    requires { ⌜ RowFits one × (tally .count < 4294967295) ⌝ }
+    ensures { λ r. ⌜ r ≡ addPair key tally (raceAtByte one other (sharedByte (rowRange one) (rowRange other))) ⌝ }
 {
-    if !kinds_clash(one.kind, other.kind) {
-        return false;
-    }
-    if !locks_apart(one.locks, other.locks) {
-        return false;
-    }
-    no_path(matrix, one.segment, other.segment)
-}
-
-// Adds the race of two accesses whose bounds meet, if they race.
-fn add_clash(matrix: &[u32], one: AccessRow, other: AccessRow, key: Key, tally: Tally) -> Tally
-    requires { ⌜ (length (now matrix) ≡ 8192) × RowFits one × RowFits other × (tally .count < 4294967295) ⌝ }
-    ensures { λ r. ⌜ r ≡ addPair key tally (clashRace (now (matrix .entry)) one other) ⌝ }
-{
-    if !clash(matrix, one, other) {
-        return tally;
-    }
     match shared_byte(range_of(one), range_of(other)) {
         Lowest::Byte(byte) => add_race(key, tally, race_between(one, other, byte as u32)),
         Lowest::Nothing => tally,
@@ -253,7 +238,43 @@ fn bounds_meet(rows: &[u32], j: u32, base: u32, last: u32) -> bool
     (base <= word_at(rows, at + 7)) & (word_at(rows, at) <= last)
 }
 
-// Adds the races of an access with those before it. A pair whose bounds do not meet costs two words and no call.
+fn kind_at(rows: &[u32], j: u32) -> u8
+    ensures { λ r. ⌜ r ≡ accessRowAt (now (rows .entry)) j .kind ⌝ }
+{
+    (word_at(rows, 8 * (j as usize) + 4) / 256 / 256 % 256) as u8
+}
+
+fn locks_at(rows: &[u32], j: u32) -> u64
+    ensures { λ r. ⌜ r ≡ accessRowAt (now (rows .entry)) j .locks ⌝ }
+{
+    let at = 8 * (j as usize);
+    word_at(rows, at + 5) as u64 + 4294967296 * (word_at(rows, at + 6) as u64)
+}
+
+fn segment_at(rows: &[u32], j: u32) -> u16
+    ensures { λ r. ⌜ r ≡ accessRowAt (now (rows .entry)) j .segment ⌝ }
+{
+    (word_at(rows, 8 * (j as usize) + 3) / 65536) as u16
+}
+
+// Whether an access and the j-th race if they share a byte. The cheap tests come first, and only their words are read.
+fn clash(matrix: &[u32], rows: &[u32], one: AccessRow, j: u32) -> bool
+    requires { ⌜ Within (now matrix) (one .segment) (accessRowAt (now rows) j .segment) ⌝ }
+    ensures { λ r. ⌜ r ≡ (boundsMeet (one .base) (one .last) (accessRowAt (now (rows .entry)) j .base) (accessRowAt (now (rows .entry)) j .last) && rowsClash (now (matrix .entry)) one (accessRowAt (now (rows .entry)) j)) ⌝ }
+{
+    if !bounds_meet(rows, j, one.base, one.last) {
+        return false;
+    }
+    if !kinds_clash(one.kind, kind_at(rows, j)) {
+        return false;
+    }
+    if !locks_apart(one.locks, locks_at(rows, j)) {
+        return false;
+    }
+    no_path(matrix, one.segment, segment_at(rows, j))
+}
+
+// Adds the races of an access with those before it. A pair that cannot race costs a few words and no call.
 fn add_row(matrix: &[u32], rows: &[u32], one: AccessRow, i: u32, key: Key, tally: Tally) -> Tally
     requires { ⌜ TablesFit (now matrix) (now rows) i × RowFits one × (tally .count + i ≤ 4294967295) ⌝ }
     ensures { λ r. ⌜ r ≡ tallyRow (now (matrix .entry)) (now (rows .entry)) key one tally i ⌝ }
@@ -261,8 +282,8 @@ fn add_row(matrix: &[u32], rows: &[u32], one: AccessRow, i: u32, key: Key, tally
     let mut sum = tally;
     let mut j = 0;
     while j < i {
-        if bounds_meet(rows, j, one.base, one.last) {
-            sum = add_clash(matrix, one, access_at(rows, j), key, sum);
+        if clash(matrix, rows, one, j) {
+            sum = add_clash(one, access_at(rows, j), key, sum);
         }
         j += 1;
     }

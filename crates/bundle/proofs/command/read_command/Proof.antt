@@ -1,34 +1,69 @@
 -- `bundle::command::read_command` meets its contract. Assumes nothing.
-use mathlib.Core.Path.{sym, _∙_}
+use mathlib.Core.Path.{refl}
+use native.Mathlib.Omega.{arith}
+use Rattle.bundle.specs.Commands.{formOf, codeOf, sum, widthOf, widthsOf, fitWidths, operandsOk, inRange, commandAt}
+use Rattle.bundle.proofs.Forms.{no-form}
+use Rattle.bundle.proofs.Arms.{decode-past, decode-unknown, decode-whole, read-accepted, read-whole, read-not}
 use borrow.Author.Needs.{needs}
-use borrow.Author.Tests.{not-true, not-false}
-use Rattle.bundle.proofs.Arms.{read-refused, read-beyond, read-within}
 use Rattle.bundle.proofs.command.read_command.Statement.{statement}
 use Rattle.bundle.proofs.command.read_command.Tie as tie
 
 returns : tie.Need-returns
-returns c = read-refused _ _ (c .before .before .decode-command .ensures) (c .enum-told .given .1)
+returns c = read-not _ _ 18 _ (decode-past _ _ (c .if1 .taken))
 
 returns-2 : tie.Need-returns-2
-returns-2 c =
-    let taken = c .before .before .before in
-    read-beyond _ _ (taken .before .before .decode-command .ensures) (taken .reading .given .1)
-    (sym (c .before .in-range .ensures) ∙ not-true _ (c .if1 .taken))
+returns-2 c = read-accepted _ _ (c .before .decode-member .ensures) (c .accept .ensures)
 
 returns-3 : tie.Need-returns-3
-returns-3 c =
-    let taken = c .before .before .before in
-    read-within _ _ (taken .before .before .decode-command .ensures) (taken .reading .given .1)
-    (sym (c .before .in-range .ensures) ∙ not-false _ (c .if1 .left))
+unfolding formOf sum widthOf commandAt codeOf widthsOf fitWidths operandsOk inRange
+returns-3 c = read-whole _ _ _ (decode-whole _ _ (record { within = c .before .before .if1 .left; byte = c .match .keys2 }) _ (omega arith) (search needs) refl) refl
+
+returns-4 : tie.Need-returns-4
+returns-4 c = read-accepted _ _ (c .before .decode-region .ensures) (c .accept2 .ensures)
+
+returns-5 : tie.Need-returns-5
+unfolding formOf sum widthOf commandAt codeOf widthsOf fitWidths operandsOk inRange
+returns-5 c = read-whole _ _ _ (decode-whole _ _ (record { within = c .before .before .if1 .left; byte = c .match .keys4 }) _ (omega arith) (search needs) refl) refl
+
+returns-6 : tie.Need-returns-6
+returns-6 c = read-accepted _ _ (c .before .decode-acquire .ensures) (c .accept3 .ensures)
+
+returns-7 : tie.Need-returns-7
+returns-7 c = read-accepted _ _ (c .before .decode-release .ensures) (c .accept4 .ensures)
+
+returns-8 : tie.Need-returns-8
+returns-8 c = read-accepted _ _ (c .before .decode-access .ensures) (c .accept5 .ensures)
+
+returns-9 : tie.Need-returns-9
+returns-9 c = let r = c .before .match .rest in let tested = c .if2 .taken in read-not _ _ 2 _ (decode-unknown _ _ (record { within = c .before .before .before .if1 .left; byte = refl }) (no-form (r .0 .0 .0 .0 .0 .1) (r .0 .0 .0 .0 .1) (r .0 .0 .0 .1) (r .0 .0 .1) (r .0 .1) (r .1) (λ low high. omega arith)))
+
+returns-10 : tie.Need-returns-10
+returns-10 c = let r = c .before .before .match .rest in let tested = c .if3 .left in read-not _ _ 2 _ (decode-unknown _ _ (record { within = c .before .before .before .before .if1 .left; byte = refl }) (no-form (r .0 .0 .0 .0 .0 .1) (r .0 .0 .0 .0 .1) (r .0 .0 .0 .1) (r .0 .0 .1) (r .0 .1) (r .1) (λ low high. omega arith)))
 
 pub read-command-spec : {M : Type 1} → statement M
 read-command-spec =
     tie.close
     (tie.spec
+    returns
+    (λ c. search needs)
+    (λ c κs. search needs)
     (λ c κs. search needs)
     (λ c. search needs)
+    (λ c κs. search needs)
+    (λ c κs. search needs)
     (λ c. search needs)
-    returns
+    (λ c κs. search needs)
+    (λ c κs. search needs)
+    (λ c κs. search needs)
+    (λ c κs. search needs)
+    (λ c κs. search needs)
     (λ c κs. search needs)
     returns-2
-    returns-3)
+    returns-3
+    returns-4
+    returns-5
+    returns-6
+    returns-7
+    returns-8
+    returns-9
+    returns-10)

