@@ -111,7 +111,7 @@ pub fn fork_at(forks: &[u64], i: u32) -> Fork
 }
 
 // Writes the row of a chunk behind the first `count`.
-pub fn add_chunk(chunks: &mut [u64], count: u32, row: ChunkRow)
+pub(crate) fn add_chunk(chunks: &mut [u64], count: u32, row: ChunkRow)
     requires { ⌜ (2 * count + 1 < length (now chunks)) × ChunkFits row ⌝ }
     ensures { λ _. ⌜ Added chunkRowAt (now (chunks .entry)) (now (chunks .exit)) count row ⌝ }
 {
@@ -133,7 +133,7 @@ pub fn add_chunk(chunks: &mut [u64], count: u32, row: ChunkRow)
 }
 
 // Writes the row of a REGION behind the first `count`.
-pub fn add_fork(forks: &mut [u64], count: u32, row: Fork)
+pub(crate) fn add_fork(forks: &mut [u64], count: u32, row: Fork)
     requires { ⌜ (3 * count + 2 < length (now forks)) × ForkFits row ⌝ }
     ensures { λ _. ⌜ Added forkRowAt (now (forks .entry)) (now (forks .exit)) count row ⌝ }
 {
