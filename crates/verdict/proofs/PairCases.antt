@@ -1,13 +1,16 @@
 -- The functions over pairs of rows, case by case.
 use Prim.Native.Nat.{ℕ, zero, suc, _+_, _*_, _≤_, _<_}
 use mathlib.Core.Path.{_≡_, refl, sym, _∙_, ap, ap₂, subst}
-use mathlib.Core.Bool.{Bool, true, false, cond, not, _&&_}
-use mathlib.Core.List.{List}
+use mathlib.Core.Logic.{⊎-elim}
+use mathlib.Core.Bool.{Bool, true, false, cond, not, _&&_, _||_}
+use mathlib.Core.List.{List, [], _++_}
 use mathlib.Core.Option.{Option, none, some}
 use native.Mathlib.Omega.{arith}
 use native.Mathlib.Numerals.{add-one}
 use lib.ListN.{length}
-use borrow.Author.Tests.{not-true, not-false}
+use lib.Dec.{eqb, ltb}
+use borrow.Author.Tests.{not-true, not-false, ltb-true, eqb-true}
+use Rattle.bundle.proofs.Tests.{false-is-true, both, and-left, and-right, or-cases, is-false, refuted, not-of-false, cond-elim}
 use Rattle.bundle.specs.declared.command.Range.{Range}
 use Rattle.order.specs.Ranges.{sharedByte}
 use Rattle.order.specs.Pairs.{lowestOf}
@@ -15,7 +18,7 @@ use Rattle.order.specs.declared.range.Lowest.{Lowest}
 use Rattle.order.specs.declared.range.Lowest.the-variants as Lo
 use Rattle.order.proofs.SharedByte.{shared-some}
 use Rattle.order.proofs.PairBytes.{touch-fits}
-use Rattle.verdict.specs.Races.{nameBelow}
+use Rattle.verdict.specs.Races.{lexLess, nameKey, nameBelow, keyOf, raceKey, raceBelow}
 use Rattle.verdict.specs.Working.{accessRowAt}
 use Rattle.verdict.specs.Matrix.{Within}
 use Rattle.verdict.specs.Tallying.{
@@ -29,9 +32,11 @@ use Rattle.verdict.specs.Tallying.{
   raceFrom,
   raceBetween,
   raceAtByte,
+  aboveKey,
   clashRace,
   pairRace,
   replaces,
+  comesLater,
   keeping,
   counting,
   addRace,
@@ -46,6 +51,8 @@ use Rattle.verdict.specs.declared.race.Race.{Race}
 use Rattle.verdict.specs.declared.rows.AccessRow.{AccessRow}
 use Rattle.verdict.specs.declared.pairs.Key.{Key}
 use Rattle.verdict.specs.declared.pairs.Tally.{Tally}
+
+use Rattle.verdict.proofs.Lexical.{less-elim, less-head, less-tail, less-asymmetric}
 
 -- one more race
 module _ (key : Key) (t : Tally) (r : Race) {b : Bool} (e : b ≡ replaces key t r) where
@@ -70,6 +77,95 @@ module _ (one other : AccessRow) (w : ℕ) {a b : Name} {t : Bool}
   pub other-first : t ≡ false → {r : Race} → r ≡ raceFrom other one w → r ≡ raceBetween one other w
   unfolding raceBetween
   other-first h f = f ∙ sym (ap (λ (x : Bool). cond x (raceFrom one other w) (raceFrom other one w)) (sym below-rows ∙ h))
+
+-- a lower name comes first, whatever stands behind the names
+name-first : (a b : Name) (c d : List ℕ) → nameBelow a b ≡ true → lexLess (nameKey a ++ c) (nameKey b ++ d) ≡ true
+unfolding nameBelow nameKey
+name-first a b c d e =
+    ⊎-elim (less-head _ _ _ _)
+    (λ p.
+    less-tail _ _ _ _ (p .0)
+    (⊎-elim (less-head _ _ _ _)
+    (λ q.
+    less-tail _ _ _ _ (q .0)
+    (⊎-elim (less-head _ _ _ _) (λ (r : (a .number ≡ b .number) × (lexLess [] [] ≡ true)). false-is-true (unfold lexLess in (r .1))) (less-elim _ _ _ _ (q .1))))
+    (less-elim _ _ _ _ (p .1))))
+    (less-elim _ _ _ _ e)
+
+pick-one : (x y p q : Bool) → (x || y && (p && q)) ≡ true → (x || y && p) ≡ true
+pick-one true y p q e = refl
+pick-one false y p q e = both (and-left y (p && q) e) (and-left p q (and-right y (p && q) e))
+
+pick-other : (x y p q : Bool) → (x || y && (p && q)) ≡ true → (x || y && q) ≡ true
+pick-other true y p q e = refl
+pick-other false y p q e = both (and-left y (p && q) e) (and-right p q (and-right y (p && q) e))
+
+-- a race that comes after the least so far is only counted
+module _ (t : Tally) (one other : AccessRow) (w : ℕ) where
+  abbrev least : Race
+  least = t .race
+
+  after-least : (r : Race) → (ltb (least .witness) (r .witness) || eqb (least .witness) (r .witness) && nameBelow (least .first) (r .first)) ≡ true → raceBelow least r ≡ true
+  unfolding raceBelow raceKey keyOf
+  after-least r e =
+      let lw : ℕ = least .witness in
+      let rw′ : ℕ = r .witness in
+      let lf : Name = least .first in
+      let rf : Name = r .first in
+      let lk : List ℕ = nameKey lf ++ nameKey (least .second) in
+      let rk : List ℕ = nameKey rf ++ nameKey (r .second) in
+      ⊎-elim (λ (h : ltb lw rw′ ≡ true). less-head lw rw′ lk rk (ltb-true lw rw′ h))
+      (λ (h : (eqb lw rw′ && nameBelow lf rf) ≡ true).
+      less-tail lw rw′ lk rk (eqb-true lw rw′ (and-left (eqb lw rw′) (nameBelow lf rf) h))
+      (name-first lf rf (nameKey (least .second)) (nameKey (r .second)) (and-right (eqb lw rw′) (nameBelow lf rf) h)))
+      (or-cases (ltb lw rw′) (eqb lw rw′ && nameBelow lf rf) e)
+
+  later-below : comesLater t (rowName one) (rowName other) w ≡ true → raceBelow least (raceBetween one other w) ≡ true
+  unfolding comesLater raceBetween
+  later-below e =
+      let above : Bool = ltb (least .witness) w in
+      let same : Bool = eqb (least .witness) w in
+      let one-above : Bool = nameBelow (least .first) (rowName one) in
+      let other-above : Bool = nameBelow (least .first) (rowName other) in
+      let h : (above || same && (one-above && other-above)) ≡ true = and-right (t .found) (above || same && (one-above && other-above)) e in
+      cond-elim (λ (r : Race). raceBelow least r ≡ true) (nameBelow (rowName one) (rowName other)) (raceFrom one other w) (raceFrom other one w)
+      (λ i. after-least (raceFrom one other w) (pick-one above same one-above other-above h))
+      (λ i. after-least (raceFrom other one w) (pick-other above same one-above other-above h))
+
+  later-found : comesLater t (rowName one) (rowName other) w ≡ true → t .found ≡ true
+  unfolding comesLater
+  later-found e = and-left _ _ e
+
+  not-replaced : (key : Key) → comesLater t (rowName one) (rowName other) w ≡ true → replaces key t (raceBetween one other w) ≡ false
+  unfolding raceBelow
+  not-replaced key e =
+      let r : Race = raceBetween one other w in
+      is-false (replaces key t r)
+      (λ q.
+      ⊎-elim (λ (h : not (t .found) ≡ true). refuted (later-found e) h)
+      (λ (h : raceBelow r least ≡ true). less-asymmetric (raceKey least) (raceKey r) (later-below e) h)
+      (or-cases (not (t .found)) (raceBelow r least) (and-right (aboveKey key r) (not (t .found) || raceBelow r least) q)))
+
+  pub later-counted :
+      (key : Key) {b : Bool} → b ≡ comesLater t (rowName one) (rowName other) w → b ≡ true → counting t ≡ addRace key t (raceBetween one other w)
+  later-counted key p h = race-counted key t (raceBetween one other w) (sym (not-replaced key (sym p ∙ h))) refl
+
+  pub made-added :
+      (key : Key) {r : Race} {u : Tally} → r ≡ raceBetween one other w → u ≡ addRace key t r → u ≡ addRace key t (raceBetween one other w)
+  made-added key i j = j ∙ ap (addRace key t) i
+
+  pub later-told :
+      {a b : Name} {p q : Bool}
+      → a ≡ rowName one
+      → p ≡ nameBelow (least .first) a
+      → b ≡ rowName other
+      → q ≡ nameBelow (least .first) b
+      → (t .found && (ltb (least .witness) w || eqb (least .witness) w && (p && q))) ≡ comesLater t (rowName one) (rowName other) w
+  unfolding comesLater
+  later-told f h g i =
+      ap₂ (λ (x y : Bool). t .found && (ltb (least .witness) w || eqb (least .witness) w && (x && y)))
+      (h ∙ ap (nameBelow (least .first)) f)
+      (i ∙ ap (nameBelow (least .first)) g)
 
 -- the tests one after another
 abbrev Clash : List ℕ → AccessRow → AccessRow → Bool → Type 0
@@ -128,13 +224,12 @@ module _ (one other : AccessRow) (key : Key) (t : Tally) {a b : Range} (l : Lowe
   clashing h = ap (λ (o : Option ℕ). addPair key t (raceAtByte one other o)) (shared-rows one other l f g s ∙ ap lowestOf h)
 
   pub clash-added :
-      {w : ℕ} {r : Race} {u : Tally}
+      {w : ℕ} {u : Tally}
       → l ≡ Lo.Byte w
-      → r ≡ raceBetween one other w
-      → u ≡ addRace key t r
+      → u ≡ addRace key t (raceBetween one other w)
       → u ≡ addPair key t (raceAtByte one other (sharedByte (rowRange one) (rowRange other)))
   unfolding addPair
-  clash-added h i j = j ∙ ap (addRace key t) i ∙ sym (clashing h)
+  clash-added h j = j ∙ sym (clashing h)
 
   pub clash-apart : l ≡ Lo.Nothing → t ≡ addPair key t (raceAtByte one other (sharedByte (rowRange one) (rowRange other)))
   unfolding addPair

@@ -115,6 +115,14 @@ aboveKey key r = not (key .given) || lexLess (keyOf (key .witness) (key .first) 
 abbrev pub replaces : Key → Tally → Race → Bool
 replaces key t r = aboveKey key r && (not (t .found) || raceBelow r (t .race))
 
+-- whether the race of two accesses comes after the least so far: it does where the witness is above the least's, or is the same and both
+-- names are above the least's first
+unfoldable pub comesLater : Tally → Name → Name → ℕ → Bool
+comesLater t one other witness =
+    t .found
+    && (ltb (t .race .witness) witness
+    || eqb (t .race .witness) witness && (nameBelow (t .race .first) one && nameBelow (t .race .first) other))
+
 -- one more race counted, and kept or not
 abbrev pub keeping : Tally → Race → Tally
 keeping t r = record { count = t .count + 1; found = true; race = r }

@@ -33,6 +33,7 @@ ghost use Rattle.verdict.specs.Tallying.{
   raceAtByte,
   aboveKey,
   replaces,
+  comesLater,
   addRace,
   addPair,
   tallyRow,
@@ -219,13 +220,43 @@ fn no_path(matrix: &[u32], one: u16, other: u16) -> bool
     !bit(matrix, a, b) & !bit(matrix, b, a)
 }
 
+// Whether the race of two accesses comes after the least so far: told by the witness and the names, before the race is made.
+fn comes_later(tally: Tally, one: AccessRow, other: AccessRow, witness: u32) -> bool
+    ensures { λ r. ⌜ r ≡ comesLater tally (rowName one) (rowName other) witness ⌝ }
+{
+    let found = tally.found;
+    let least = tally.race;
+    found
+        & ((least.witness < witness)
+            | ((least.witness == witness)
+                & (name_below(least.first, name_of(one))
+                    & name_below(least.first, name_of(other)))))
+}
+
+// The race of two accesses that share a byte. Most races come later than the least, and are only counted.
+fn add_at(one: AccessRow, other: AccessRow, witness: u32, key: Key, tally: Tally) -> Tally
+    requires { ⌜ tally .count < 4294967295 ⌝ }
+    ensures { λ r. ⌜ r ≡ addRace key tally (raceBetween one other witness) ⌝ }
+{
+    if comes_later(tally, one, other, witness) {
+        let found = tally.found;
+        let race = tally.race;
+        return Tally {
+            count: tally.count + 1,
+            found,
+            race,
+        };
+    }
+    add_race(key, tally, race_between(one, other, witness))
+}
+
 // The race of two accesses that clash, if they share a byte.
 fn add_clash(one: AccessRow, other: AccessRow, key: Key, tally: Tally) -> Tally
     requires { ⌜ RowFits one × (tally .count < 4294967295) ⌝ }
     ensures { λ r. ⌜ r ≡ addPair key tally (raceAtByte one other (sharedByte (rowRange one) (rowRange other))) ⌝ }
 {
     match shared_byte(range_of(one), range_of(other)) {
-        Lowest::Byte(byte) => add_race(key, tally, race_between(one, other, byte as u32)),
+        Lowest::Byte(byte) => add_at(one, other, byte as u32, key, tally),
         Lowest::Nothing => tally,
     }
 }

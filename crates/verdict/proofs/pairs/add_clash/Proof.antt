@@ -4,11 +4,11 @@ use borrow.Author.Needs.{needs}
 use Rattle.verdict.proofs.pairs.add_clash.Statement.{statement}
 use Rattle.verdict.proofs.pairs.add_clash.Tie as tie
 
-cast-race-between : tie.Need-cast-race-between
-cast-race-between c = record { fits = byte-fits (c .before .before .before .before .before .before .args .one) (c .before .before .before .before .before .before .args .other) _ (c .before .before .before .before .before .range-of .ensures) (c .before .before .before .before .range-of2 .ensures) (c .before .before .before .shared-byte .ensures) (c .before .before .before .before .before .before .pre .0) (c .before .byte .given .1) }
+cast-add-at : tie.Need-cast-add-at
+cast-add-at c = record { fits = byte-fits (c .before .before .before .before .before .before .args .one) (c .before .before .before .before .before .before .args .other) _ (c .before .before .before .before .before .range-of .ensures) (c .before .before .before .before .range-of2 .ensures) (c .before .before .before .shared-byte .ensures) (c .before .before .before .before .before .before .pre .0) (c .before .byte .given .1) }
 
 returns : tie.Need-returns
-returns c = clash-added _ _ _ _ _ (c .before .before .before .before .before .before .before .range-of .ensures) (c .before .before .before .before .before .before .range-of2 .ensures) (c .before .before .before .before .before .shared-byte .ensures) (c .before .before .before .byte .given .1) (c .before .race-between .ensures) (c .add-race .ensures)
+returns c = clash-added _ _ _ _ _ (c .before .before .before .before .before .before .range-of .ensures) (c .before .before .before .before .before .range-of2 .ensures) (c .before .before .before .before .shared-byte .ensures) (c .before .before .byte .given .1) (c .add-at .ensures)
 
 returns-2 : tie.Need-returns-2
 returns-2 c = clash-apart _ _ _ _ _ (c .before .before .before .before .range-of .ensures) (c .before .before .before .range-of2 .ensures) (c .before .before .shared-byte .ensures) (c .enum-told .given .1)
@@ -21,8 +21,7 @@ add-clash-spec =
     (λ c κs. search needs)
     (λ c κs. search needs)
     (λ c. search needs)
-    cast-race-between
-    (λ c κs. search needs)
+    cast-add-at
     (λ c κs. search needs)
     (λ c. search needs)
     returns

@@ -1,0 +1,13 @@
+-- `verdict::pairs::comes_later` meets its contract. Assumes nothing.
+use Rattle.verdict.proofs.PairCases.{later-told}
+use borrow.Author.Needs.{needs}
+use Rattle.verdict.proofs.pairs.comes_later.Statement.{statement}
+use Rattle.verdict.proofs.pairs.comes_later.Tie as tie
+
+returns : tie.Need-returns
+returns c = later-told (c .before .before .before .before .before .before .before .args .tally) (c .before .before .before .before .before .before .before .args .one) (c .before .before .before .before .before .before .before .args .other) (c .before .before .before .before .before .before .before .args .witness) (c .before .before .before .name-of .ensures) (c .before .before .name-below .ensures) (c .before .name-of2 .ensures) (c .name-below2 .ensures)
+
+pub comes-later-spec : {M : Type 1} → statement M
+comes-later-spec =
+    tie.close
+    (tie.spec (λ c κs. search needs) (λ c κs. search needs) (λ c κs. search needs) (λ c κs. search needs) returns)
