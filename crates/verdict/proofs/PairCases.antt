@@ -51,7 +51,6 @@ use Rattle.verdict.specs.declared.race.Race.{Race}
 use Rattle.verdict.specs.declared.rows.AccessRow.{AccessRow}
 use Rattle.verdict.specs.declared.pairs.Key.{Key}
 use Rattle.verdict.specs.declared.pairs.Tally.{Tally}
-
 use Rattle.verdict.proofs.Lexical.{less-elim, less-head, less-tail, less-asymmetric}
 
 -- one more race
