@@ -4,19 +4,19 @@ use mathlib.Core.Path.{_≡_, refl, sym, _∙_, ap, subst}
 use mathlib.Core.Logic.{⊎-elim}
 use mathlib.Core.Bool.{Bool, true}
 use mathlib.Core.List.{List, List·Memᴰ}
-use mathlib.Core.Option.{some}
+use native.Mathlib.Nat.{mod-eq-of-lt}
 use native.Mathlib.Omega.{arith}
 use lib.Arith.{digits-div, digits-mod}
 use lib.Dec.{eqb}
-use lib.ListN.{length, getD, getElem?}
+use lib.ListN.{length}
 use borrow.Author.Tests.{eqb-true, eq-eqb}
 use Rattle.bundle.proofs.Tests.{or-cases, or-one, or-other, same-test}
 use Rattle.bundle.specs.Walk.{Border, ofChunk, ofBarrier, ofRegion, Segment}
 use Rattle.verdict.specs.Graph.{Joined, next, fork, join, barrier, joins}
 use Rattle.verdict.specs.Matrix.{EdgeBits, Closed}
 use Rattle.verdict.specs.Working.{endCode, openCode, nodeCode, SegmentTables}
-use Rattle.verdict.specs.Edges.{edgeTest, tableEdge, Tables, Filled, Regular, Reached}
-use Rattle.verdict.proofs.ListPlaces.{at-mem, at-below, below-at}
+use Rattle.verdict.specs.Edges.{edgeTest, tableEdge, Filled, Regular, Reached}
+use Rattle.verdict.proofs.ListPlaces.{at-mem, at-below}
 use Rattle.verdict.proofs.MatrixPaths.{closed-reaches}
 use Rattle.verdict.proofs.Reachability.{joins-true, joined-joins}
 
@@ -62,7 +62,7 @@ module _ {ss : List Segment} (g : Regular ss) (a b : Segment) (a-in : List·Mem�
       go (ofBarrier n) (ofBarrier i) q r e =
           let l = g .ended-barrier a n a-in q in
           let h = g .opened-barrier b i b-in r in
-          let same = digits-same 65536 (a .node .team) n (b .node .team) i (omega arith) (omega arith) (omega arith) in
+          let same = digits-same 512 (a .node .team) n (b .node .team) i l h (omega (arith, mod-eq-of-lt l, mod-eq-of-lt h)) in
           barrier n (same .0) q (r ∙ ap ofBarrier (sym (same .1)))
       go (ofBarrier n) (ofRegion t) q r e = absurd (omega arith)
       go (ofRegion u) ofChunk q r e =
@@ -77,25 +77,20 @@ module _ {ss : List Segment} (g : Regular ss) (a b : Segment) (a-in : List·Mem�
   node-joined e =
       let l = g .number a a-in in
       let h = g .number b b-in in
+      let k = g .member a a-in in
+      let m = g .member b b-in in
       let low =
-      digits-same 65536
-      (a .node .team * 256 + a .node .member)
+      digits-same 1024
+      (a .node .team * 64 + a .node .member)
       (a .node .number + 1)
-      (b .node .team * 256 + b .node .member)
+      (b .node .team * 64 + b .node .member)
       (b .node .number)
       (omega arith)
       (omega arith)
       (omega arith)
       in
       let up =
-      digits-same 256
-      (a .node .team)
-      (a .node .member)
-      (b .node .team)
-      (b .node .member)
-      (omega (arith, g .member a a-in))
-      (omega (arith, g .member b b-in))
-      (low .0)
+      digits-same 64 (a .node .team) (a .node .member) (b .node .team) (b .node .member) k m (low .0)
       in
       next (up .0) (up .1) (omega arith)
 
@@ -107,7 +102,7 @@ module _ {ss : List Segment} (g : Regular ss) (a b : Segment) (a-in : List·Mem�
       event e = or-one (eqb (placeOf a + 1) (placeOf b)) (eq-eqb (endOf a) (openOf b) e)
 
       go : Joined a b → codesJoin a b ≡ true
-      go (next t m n) = or-other (eqb (endOf a) (openOf b)) (eq-eqb (placeOf a + 1) (placeOf b) (omega arith))
+      go (next t m n) = or-other (eqb (endOf a) (openOf b)) (eq-eqb (placeOf a + 1) (placeOf b) (omega (arith, g .number a a-in, g .number b b-in)))
       go (fork e n) = event (rw (e, g .opened-first b b-in n))
       go (join e o) = event (rw (e, o))
       go (barrier n t e o) = event (rw (e, o, t))
@@ -125,19 +120,6 @@ module _ {ss : List Segment} (g : Regular ss) (a b : Segment) (a-in : List·Mem�
       (λ e. joined-codes (joins-true a b e))
 
 module _ {ss : List Segment} {ends opens nodes : List ℕ} (t : SegmentTables ss ends opens nodes) (g : Regular ss) where
-  -- the numbers of a bundle's segments are small
-  pub tables-ready : length ends ≡ 512 → length opens ≡ 512 → length nodes ≡ 512 → Tables ends opens nodes (length ss)
-  tables-ready e o n =
-      record { ends-whole = e; opens-whole = o; nodes-whole = n; small = t .few; codes = λ i h. let s = below-at ss i h in small (s .0) i (s .1) }
-    where
-      small : (s : Segment) (i : ℕ) → getElem? ss i ≡ some s → getD nodes i 0 < 1099511627776
-      small s i p =
-          let m = at-mem ss i p in
-          let a = g .team s m in
-          let b = g .member s m in
-          let c = g .number s m in
-          rw (t .node-codes i p) (unfold nodeCode in (omega arith))
-
   -- the tests between the places of the tables are the edges between their segments
   pub filled-edges : {before m : List ℕ} → Filled (tableEdge ends opens nodes) (length ss) before m → EdgeBits ss m
   filled-edges f =

@@ -1,33 +1,26 @@
 -- The edges word by word and row by row: what each loop has done so far.
 use Prim.Native.Nat.{ℕ, _+_, _*_, _/_, _%_, _^_, _≤_, _<_}
-use mathlib.Core.Path.{_≡_, refl, sym, _∙_, ap}
+use mathlib.Core.Path.{_≡_, refl, _∙_, ap}
 use mathlib.Core.Bool.{Bool, true, false, or-false}
 use mathlib.Core.List.{List}
 use native.Mathlib.Nat.{zero-mul, one-mul, zero-div}
 use native.Mathlib.Omega.{arith}
 use lib.Bits.{bitOr}
 use lib.ListN.{length, getD, set}
-use lib.Pow.{pow-lt, pow-add}
+use lib.Pow.{shl-exact}
 use lib.Seq.{getD-set-same, getD-set-other}
 use mir.Val.{boolByte}
 use borrow.Author.Count.{below-more}
-use Rattle.verdict.specs.Matrix.{bitAt}
+use Rattle.verdict.specs.Matrix.{bitAt, TestWord}
 use Rattle.verdict.specs.Edges.{RowFilled, Filled}
 use Rattle.verdict.proofs.BitRows.{bitOf, bit-or, bit-itself, bit-other}
 
--- the code's bit of column k
-pub bit-small : {bit : ℕ} (k : ℕ) → bit ≡ 2 ^ k → k < 32 → bit < 4294967296
-bit-small k e h = rw e (pow-lt h)
-
-pub test-small : {bit : ℕ} (t : Bool) → bit < 4294967296 → boolByte t * bit < 4294967296
-test-small true h = rw one-mul h
-test-small false h = rw zero-mul (omega arith)
-
-pub bit-next : {bit : ℕ} (k : ℕ) → bit ≡ 2 ^ k → bit * 2 ≡ 2 ^ (k + 1)
-bit-next k e = rw e (sym (pow-add 2 k 1))
-
--- a test as that bit
+-- a test as the bit of column k, and the code's shift of it
 module _ (k : ℕ) where
+  shifted : (t : Bool) → k < 32 → boolByte t * 2 ^ k % 4294967296 ≡ boolByte t * 2 ^ k
+  shifted true h = shl-exact {a = 1} 1 k 32 (omega arith) (omega arith)
+  shifted false h = shl-exact {a = 0} 0 k 32 (omega arith) (omega arith)
+
   no-bit : (l : ℕ) → bitOf (boolByte false * 2 ^ k) l ≡ false
   no-bit l = rw (zero-mul, zero-div)
 
@@ -48,13 +41,13 @@ pub bits-none : (test : ℕ → Bool) (first : ℕ) → BitsTo test first 0 0
 bits-none test first = record { done = λ l h. absurd (omega arith); rest = λ l h. rw zero-div }
 
 pub bits-more :
-    {test : ℕ → Bool} {first word bit k : ℕ} (t : Bool)
+    {test : ℕ → Bool} {first word k : ℕ} (t : Bool)
     → BitsTo test first word k
-    → bit ≡ 2 ^ k
+    → k < 32
     → t ≡ test (first + k)
-    → BitsTo test first (bitOr word (boolByte t * bit)) (k + 1)
-bits-more {test} {first} {word} {bit} {k} t b q e =
-    rw q
+    → BitsTo test first (bitOr word (boolByte t * 2 ^ k % 4294967296)) (k + 1)
+bits-more {test} {first} {word} {k} t b h e =
+    rw (shifted k t h)
     record {
       done =
           below-more (λ (l : ℕ). bitOf (bitOr word x) l ≡ test (first + l)) k
@@ -65,6 +58,9 @@ bits-more {test} {first} {word} {bit} {k} t b q e =
   where
     x : ℕ
     x = boolByte t * 2 ^ k
+
+pub bits-all : {test : ℕ → Bool} {first word k : ℕ} → 32 ≤ k → BitsTo test first word k → TestWord test first word
+bits-all h b = record { bits = λ l a. b .done l (omega arith) }
 
 -- the first w words of row i have the tests of their columns, the others are as before
 pub record CellsTo (test : ℕ → Bool) (i : ℕ) (before now : List ℕ) (w : ℕ) : Type 0 where

@@ -101,7 +101,7 @@ module _ (s : List ℕ) {r : Counts} {ends opens nodes rows : List ℕ} (f : Fil
       ss : List Segment
       ss = segmentsOf (chunksOf s)
 
-      codes : (i : ℕ) → (x : Segment) × (getElem? ss i ≡ some x) → getD nodes i 0 < 1099511627776
+      codes : (i : ℕ) → (x : Segment) × (getElem? ss i ≡ some x) → getD nodes i 0 < 4294967295
       codes i (x, e) =
           let g = regular s ok (f .segment-tables .few) in
           let m = at-mem ss i e in

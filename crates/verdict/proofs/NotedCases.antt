@@ -19,7 +19,7 @@ use Rattle.bundle.specs.declared.command.Range.{Range}
 use Rattle.bundle.specs.declared.command.Command.{Command}
 use Rattle.bundle.specs.declared.command.Command.the-variants as Com
 use Rattle.bundle.proofs.Ranges.{in-range-ok}
-use Rattle.bundle.proofs.Tests.{and-right, false-is-true}
+use Rattle.bundle.proofs.Tests.{false-is-true}
 use Rattle.bundle.proofs.Ranges.{range-parts, size-within}
 use Rattle.verdict.specs.Working.{eventCode, endCode, openCode, nodeCode, accessRowAt}
 use Rattle.verdict.specs.Filling.{entered, left, advanced, cursorAfter, onCrossing, endsAfter, opensAfter, nodesAfter, rowHere, SegmentOpened, Countable, Notable, Noted}

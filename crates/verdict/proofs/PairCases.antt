@@ -7,10 +7,9 @@ use mathlib.Core.List.{List, [], _++_}
 use mathlib.Core.Option.{Option, none, some}
 use native.Mathlib.Omega.{arith}
 use native.Mathlib.Numerals.{add-one}
-use lib.ListN.{length}
 use lib.Dec.{eqb, ltb}
 use borrow.Author.Tests.{not-true, not-false, ltb-true, eqb-true}
-use Rattle.bundle.proofs.Tests.{false-is-true, both, and-left, and-right, or-cases, is-false, refuted, not-of-false, cond-elim}
+use Rattle.bundle.proofs.Tests.{false-is-true, both, and-left, and-right, or-cases, is-false, refuted, cond-elim}
 use Rattle.bundle.specs.declared.command.Range.{Range}
 use Rattle.order.specs.Ranges.{sharedByte}
 use Rattle.order.specs.Pairs.{lowestOf}

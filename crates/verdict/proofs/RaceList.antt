@@ -8,7 +8,7 @@ use mathlib.Core.Option.{Option, none, some}
 use Rattle.bundle.specs.Lists.{upTo, concatMap, fromOption}
 use Rattle.bundle.specs.Locks.{holds, commonLock}
 use Rattle.bundle.specs.Chunks.{Chunk}
-use Rattle.bundle.proofs.Tests.{both, and-left, and-right, or-cases, or-one, or-other, is-false, not-both, not-of-false, false-of-not, refuted, fails}
+use Rattle.bundle.proofs.Tests.{both, and-left, and-right, or-cases, or-one, or-other, refuted, fails}
 use Rattle.bundle.proofs.ListLaws.{any-elim, any-intro, upTo-elim, upTo-intro, concatMap-elim, concatMap-intro, Distinct, distinct-nil, distinct-cons, distinct-concatMap}
 use Rattle.bundle.proofs.Places.{memberKey}
 use Rattle.order.specs.Ranges.{sharedByte}

@@ -1,5 +1,5 @@
 -- The pass over an accepted bundle, command by command, and the tables at its end.
-use Prim.Native.Nat.{ℕ, _+_, _-_, _≤_, _<_}
+use Prim.Native.Nat.{ℕ, _+_, _≤_, _<_}
 use mathlib.Core.Path.{_≡_, refl, sym, _∙_, ap, subst}
 use mathlib.Core.Bool.{Bool, true, false}
 use mathlib.Core.List.{List, [], _∷_, _++_, append-nil}
@@ -7,7 +7,6 @@ use mathlib.Core.Option.{some}
 use native.Mathlib.Omega.{arith}
 use native.Mathlib.Nat.{add-zero}
 use lib.ListN.{length, set, getElem?}
-use lib.Dec.{ltb}
 use Rattle.bundle.specs.Answer.{gives, refuses}
 use Rattle.bundle.specs.Commands.{rangeOk, operandsOk, readAt}
 use Rattle.bundle.specs.Chunks.{Placed, fresh, afterCommand, frontOf, gatherOne, gather, chunksOf}
@@ -19,7 +18,7 @@ use Rattle.bundle.specs.declared.command.Access.{Access}
 use Rattle.bundle.specs.declared.command.Command.{Command}
 use Rattle.bundle.specs.declared.command.Command.the-variants as Com
 use Rattle.bundle.proofs.Ranges.{in-range-ok}
-use Rattle.bundle.proofs.Tests.{false-is-true, and-right, false-of-not}
+use Rattle.bundle.proofs.Tests.{false-is-true, false-of-not}
 use Rattle.bundle.proofs.Delimiters.{plain}
 use Rattle.bundle.proofs.Decoding.{read-next}
 use Rattle.bundle.proofs.Scanning.{orderly, orderly-head}

@@ -1,5 +1,5 @@
 -- The edges between a bundle's segments as a test on the numbers in the judge's tables.
-use Prim.Native.Nat.{ℕ, _+_, _/_, _%_, _^_, _≤_, _<_}
+use Prim.Native.Nat.{ℕ, _+_, _≤_, _<_}
 use mathlib.Core.Path.{_≡_}
 use mathlib.Core.Bool.{Bool, _||_}
 use mathlib.Core.List.{List, map, List·Memᴰ}
@@ -15,9 +15,12 @@ use Rattle.verdict.specs.Working.{SegmentTables}
 abbrev pub edgeTest : ℕ → ℕ → ℕ → ℕ → Bool
 edgeTest end next opened node = eqb end opened || eqb next node
 
--- the same for the segments at two places of the tables
+-- the same for the second at a place of the tables, and for both
+abbrev pub edgeColumn : List ℕ → List ℕ → ℕ → ℕ → ℕ → Bool
+edgeColumn opens nodes end next c = edgeTest end next (getD opens c 0) (getD nodes c 0)
+
 abbrev pub tableEdge : List ℕ → List ℕ → List ℕ → ℕ → ℕ → Bool
-tableEdge ends opens nodes i j = edgeTest (getD ends i 0) (getD nodes i 0 + 1) (getD opens j 0) (getD nodes j 0)
+tableEdge ends opens nodes i = edgeColumn opens nodes (getD ends i 0) (getD nodes i 0 + 1)
 
 -- whole tables, of which the places below n are used
 pub record Tables (ends opens nodes : List ℕ) (n : ℕ) : Type 0 where
@@ -25,16 +28,12 @@ pub record Tables (ends opens nodes : List ℕ) (n : ℕ) : Type 0 where
   pub opens-whole : length opens ≡ 512
   pub nodes-whole : length nodes ≡ 512
   pub small : n ≤ 512
-  pub codes : (i : ℕ) → i < n → getD nodes i 0 < 1099511627776
+  pub codes : (i : ℕ) → i < n → getD nodes i 0 < 4294967295
 
 -- 32 columns of the tables
 pub record Columns (opens nodes : List ℕ) (first : ℕ) : Type 0 where
   pub opens-in : first + 32 ≤ length opens
   pub nodes-in : first + 32 ≤ length nodes
-
--- the tests of 32 columns in a word
-pub record EdgeWord (opens nodes : List ℕ) (end next first word : ℕ) : Type 0 where
-  pub bits : (k : ℕ) → k < 32 → eqb (word / 2 ^ k % 2) 1 ≡ edgeTest end next (getD opens (first + k) 0) (getD nodes (first + k) 0)
 
 -- the tests of the columns below n in row i
 pub record RowFilled (test : ℕ → Bool) (n i : ℕ) (before after : List ℕ) : Type 0 where

@@ -13,6 +13,10 @@ use Rattle.verdict.specs.Graph.{Segment, joins, closureOf, reaches}
 unfoldable pub bitAt : List ℕ → ℕ → ℕ → Bool
 bitAt m i j = eqb (getD m (16 * i + j / 32) 0 / 2 ^ (j % 32) % 2) 1
 
+-- the tests of 32 columns in a word, the first of them lowest
+pub record TestWord (test : ℕ → Bool) (first word : ℕ) : Type 0 where
+  pub bits : (k : ℕ) → k < 32 → eqb (word / 2 ^ k % 2) 1 ≡ test (first + k)
+
 -- a whole matrix, and a row and column of it
 pub record Within (m : List ℕ) (i j : ℕ) : Type 0 where
   pub whole : length m ≡ 8192

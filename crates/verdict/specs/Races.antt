@@ -4,7 +4,6 @@ use mathlib.Core.Path.{_≡_}
 use mathlib.Core.Logic.{_⊎_}
 use mathlib.Core.Bool.{Bool, true, false, cond, not, _&&_, _||_}
 use mathlib.Core.List.{List, [], _∷_, _++_, List·Memᴰ}
-use mathlib.Core.Option.{Option, none, some}
 use lib.Dec.{eqb, ltb}
 use Rattle.bundle.specs.Lists.{concatMap, fromOption}
 use Rattle.bundle.specs.Locks.{holds, commonLock}
@@ -15,7 +14,7 @@ use Rattle.bundle.specs.declared.command.AccessKind.{AccessKind}
 use Rattle.bundle.specs.declared.command.AccessKind.the-variants as Kind
 use Rattle.bundle.specs.declared.command.Access.{Access}
 use Rattle.order.specs.Ranges.{Touches, sharedByte}
-use Rattle.verdict.specs.Graph.{Node, Segment, Pair, GraphPath, segmentsOf, closureOf, reaches}
+use Rattle.verdict.specs.Graph.{Node, Pair, GraphPath, segmentsOf, closureOf, reaches}
 use Rattle.verdict.specs.declared.race.Name.{Name}
 use Rattle.verdict.specs.declared.race.Race.{Race}
 

@@ -1,5 +1,5 @@
 -- Document 01's proved cases P1 to P14 as data, each with what is wanted. `proofs/Examples.antt` proves that the definitions agree.
-use Prim.Native.Nat.{ℕ, zero, suc}
+use Prim.Native.Nat.{ℕ}
 use mathlib.Core.List.{List, [], _∷_, _++_}
 use mathlib.Core.Option.{Option, none, some}
 use lib.ListN.{length, take, replicate}
@@ -15,8 +15,6 @@ use Rattle.order.specs.declared.label.Label.{Label}
 use Rattle.order.specs.declared.label.Order.{Order}
 use Rattle.order.specs.declared.label.Order.the-variants as Ord
 use Rattle.verdict.specs.Judge.{judgedOf}
-use Rattle.verdict.specs.declared.race.Name.{Name}
-use Rattle.verdict.specs.declared.race.Race.{Race}
 use Rattle.verdict.specs.declared.race.Verdict.{Verdict}
 use Rattle.verdict.specs.declared.race.Verdict.the-variants as Ver
 use Rattle.verdict.specs.declared.race.Judgement.{Judgement}

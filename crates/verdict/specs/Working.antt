@@ -1,7 +1,7 @@
 -- What the judge's tables hold: of a segment three numbers, of an access a row of eight words.
 use Prim.Native.Nat.{ℕ, _+_, _*_, _/_, _%_, _≤_}
 use mathlib.Core.Path.{_≡_}
-use mathlib.Core.Bool.{Bool, true, cond}
+use mathlib.Core.Bool.{true}
 use mathlib.Core.List.{List}
 use mathlib.Core.Option.{some}
 use lib.ListN.{length, getD, getElem?}
@@ -12,9 +12,10 @@ use Rattle.bundle.specs.Walk.{Node, Border, ofChunk, ofBarrier, ofRegion, Segme
 use Rattle.verdict.specs.Races.{NamedAccess}
 use Rattle.verdict.specs.declared.rows.AccessRow.{AccessRow}
 
--- an event at which segments end and are opened, as a number: the fork of a team (0), its join (1), its barrier of a number (2)
+-- an event at which segments end and are opened, as a number: the fork of a team (0), its join (1), its barrier of a number (2).
+-- A bundle has at most 512 segments, so that these numbers have 32 bits
 abbrev pub eventCode : ℕ → ℕ → ℕ → ℕ
-eventCode kind number team = kind + 4 * (number + 65536 * team)
+eventCode kind number team = kind + 4 * (number % 512 + 512 * team)
 
 -- where a segment of a team ends: the join of its own team, the barrier, or the fork of another team
 unfoldable pub endCode : ℕ → Border → ℕ
@@ -30,7 +31,7 @@ openCode team (ofRegion t) = eventCode 1 0 t
 
 -- a segment's team, member and number as one number
 unfoldable pub nodeCode : Node → ℕ
-nodeCode n = n .number + 65536 * (n .member + 256 * n .team)
+nodeCode n = n .number % 1024 + 1024 * (n .member % 64 + 64 * n .team)
 
 -- the tables hold the segments' numbers
 pub record SegmentTables (segments : List Segment) (ends opens nodes : List ℕ) : Type 0 where

@@ -4,42 +4,41 @@ use crate::matrix::close;
 ghost use mathlib.Core.Path.{_≡_};
 ghost use Prim.Native.Nat.{_<_};
 ghost use lib.ListN.{length};
+ghost use Rattle.verdict.specs.Matrix.{TestWord};
 ghost use Rattle.verdict.specs.Edges.{
   edgeTest,
+  edgeColumn,
   tableEdge,
   Tables,
   Columns,
-  EdgeWord,
   RowFilled,
   Filled,
   Reached,
 };
 
 // Whether a segment has an edge to another: it ends where the other is opened, or the other is the next of its chunk.
-fn edge(end: u64, next: u64, opened: u64, node: u64) -> bool
+fn edge(end: u32, next: u32, opened: u32, node: u32) -> bool
     ensures { λ r. ⌜ r ≡ edgeTest end next opened node ⌝ }
 {
     (end == opened) | (next == node)
 }
 
 // The edges of a segment to 32 others, the first of them lowest.
-fn edge_word(opens: &[u64], nodes: &[u64], end: u64, next: u64, first: usize) -> u32
+fn edge_word(opens: &[u32], nodes: &[u32], end: u32, next: u32, first: usize) -> u32
     requires { ⌜ Columns (now opens) (now nodes) first ⌝ }
-    ensures { λ r. ⌜ EdgeWord (now (opens .entry)) (now (nodes .entry)) end next first r ⌝ }
+    ensures { λ r. ⌜ TestWord (edgeColumn (now (opens .entry)) (now (nodes .entry)) end next) first r ⌝ }
 {
     let mut word: u32 = 0;
-    let mut bit: u64 = 1;
     let mut k: usize = 0;
     while k < 32 {
-        word = word | (((edge(end, next, opens[first + k], nodes[first + k]) as u64) * bit) as u32);
-        bit *= 2;
+        word = word | ((edge(end, next, opens[first + k], nodes[first + k]) as u32) << k);
         k += 1;
     }
     word
 }
 
 // The edges of the segment at i to those below n. The words of the row are written whole: what they held does not matter.
-fn fill_row(ends: &[u64], opens: &[u64], nodes: &[u64], n: usize, matrix: &mut [u32], i: usize)
+fn fill_row(ends: &[u32], opens: &[u32], nodes: &[u32], n: usize, matrix: &mut [u32], i: usize)
     requires { ⌜ Tables (now ends) (now opens) (now nodes) n × (length (now matrix) ≡ 8192) × (i < n) ⌝ }
     ensures { λ _. ⌜ RowFilled (tableEdge (now (ends .entry)) (now (opens .entry)) (now (nodes .entry)) i) n i (now (matrix .entry)) (now (matrix .exit)) ⌝ }
 {
@@ -53,7 +52,7 @@ fn fill_row(ends: &[u64], opens: &[u64], nodes: &[u64], n: usize, matrix: &mut [
 }
 
 // The edges between the segments below n.
-pub fn fill_edges(ends: &[u64], opens: &[u64], nodes: &[u64], n: usize, matrix: &mut [u32])
+pub fn fill_edges(ends: &[u32], opens: &[u32], nodes: &[u32], n: usize, matrix: &mut [u32])
     requires { ⌜ Tables (now ends) (now opens) (now nodes) n × (length (now matrix) ≡ 8192) ⌝ }
     ensures { λ _. ⌜ Filled (tableEdge (now (ends .entry)) (now (opens .entry)) (now (nodes .entry))) n (now (matrix .entry)) (now (matrix .exit)) ⌝ }
 {
@@ -65,7 +64,7 @@ pub fn fill_edges(ends: &[u64], opens: &[u64], nodes: &[u64], n: usize, matrix: 
 }
 
 // Which of the segments below n reach which.
-pub fn reach(ends: &[u64], opens: &[u64], nodes: &[u64], n: usize, matrix: &mut [u32])
+pub fn reach(ends: &[u32], opens: &[u32], nodes: &[u32], n: usize, matrix: &mut [u32])
     requires { ⌜ Tables (now ends) (now opens) (now nodes) n × (length (now matrix) ≡ 8192) ⌝ }
     ensures { λ _. ⌜ Reached (now (ends .entry)) (now (opens .entry)) (now (nodes .entry)) n (now (matrix .entry)) (now (matrix .exit)) ⌝ }
 {

@@ -51,16 +51,16 @@ fn begin() -> Cursor
     }
 }
 
-fn event_code(kind: u8, number: u32, team: u16) -> u64
+fn event_code(kind: u8, number: u32, team: u16) -> u32
     ensures { λ r. ⌜ r ≡ eventCode kind number team ⌝ }
 {
-    kind as u64 + 4 * (number as u64 + 65536 * (team as u64))
+    kind as u32 + 4 * (number % 512 + 512 * (team as u32))
 }
 
-fn node_code(cursor: Cursor) -> u64
+fn node_code(cursor: Cursor) -> u32
     ensures { λ r. ⌜ r ≡ nodeCode (record { team = cursor .team; member = cursor .member; number = cursor .number }) ⌝ }
 {
-    cursor.number as u64 + 65536 * (cursor.member as u64 + 256 * (cursor.team as u64))
+    cursor.number % 1024 + 1024 * ((cursor.member % 64) as u32 + 64 * (cursor.team as u32))
 }
 
 fn kind_code(kind: AccessKind) -> u8
@@ -159,7 +159,7 @@ fn row_here(cursor: Cursor, access: Access) -> AccessRow
 }
 
 // Writes where the open segment is opened, and its node.
-fn open_segment(cursor: Cursor, code: u64, opens: &mut [u64], nodes: &mut [u64])
+fn open_segment(cursor: Cursor, code: u32, opens: &mut [u32], nodes: &mut [u32])
     requires { ⌜ (cursor .segment < 512) × (length (now opens) ≡ 512) × (length (now nodes) ≡ 512) ⌝ }
     ensures { λ _. ⌜ SegmentOpened cursor code (now (opens .entry)) (now (nodes .entry)) (now (opens .exit)) (now (nodes .exit)) ⌝ }
 {
@@ -173,9 +173,9 @@ fn note(
     cursor: Cursor,
     command: Command,
     next: usize,
-    ends: &mut [u64],
-    opens: &mut [u64],
-    nodes: &mut [u64],
+    ends: &mut [u32],
+    opens: &mut [u32],
+    nodes: &mut [u32],
     rows: &mut [u32],
 ) -> Cursor
     requires { ⌜ Notable cursor command (now ends) (now opens) (now nodes) (now rows) ⌝ }
@@ -219,9 +219,9 @@ fn note(
 // The whole bundle, front to back. In an accepted bundle no command is refused.
 pub fn fill(
     bytes: &[u8],
-    ends: &mut [u64],
-    opens: &mut [u64],
-    nodes: &mut [u64],
+    ends: &mut [u32],
+    opens: &mut [u32],
+    nodes: &mut [u32],
     rows: &mut [u32],
 ) -> Counts
     requires { ⌜ Accepted (now bytes) × Room (now ends) (now opens) (now nodes) (now rows) ⌝ }

@@ -36,9 +36,9 @@ pub struct Census {
 // Fills the tables of segments, and the second half of the area with the rows of the accesses.
 fn fill_rows(
     bytes: &[u8],
-    ends: &mut [u64],
-    opens: &mut [u64],
-    nodes: &mut [u64],
+    ends: &mut [u32],
+    opens: &mut [u32],
+    nodes: &mut [u32],
     area: &mut [u32],
 ) -> Counts
     requires { ⌜ Accepted (now bytes) × Room (now ends) (now opens) (now nodes) (rowsPart (now area)) × (16384 ≤ length (now area)) ⌝ }
@@ -48,7 +48,7 @@ fn fill_rows(
 }
 
 // Fills the first half of the area with the matrix of which segment reaches which.
-fn fill_matrix(ends: &[u64], opens: &[u64], nodes: &[u64], n: usize, area: &mut [u32])
+fn fill_matrix(ends: &[u32], opens: &[u32], nodes: &[u32], n: usize, area: &mut [u32])
     requires { ⌜ Tables (now ends) (now opens) (now nodes) n × (16384 ≤ length (now area)) ⌝ }
     ensures { λ _. ⌜ MatrixFilled (now (ends .entry)) (now (opens .entry)) (now (nodes .entry)) n (now (area .entry)) (now (area .exit)) ⌝ }
 {
@@ -60,9 +60,9 @@ fn fill_area(bytes: &[u8], area: &mut [u32]) -> Counts
     requires { ⌜ Accepted (now bytes) × (16384 ≤ length (now area)) ⌝ }
     ensures { λ r. ⌜ AreaFilled (now (bytes .entry)) (now (area .exit)) (r .segments) (r .accesses) × (length (now (area .exit)) ≡ length (now (area .entry))) ⌝ }
 {
-    let mut ends = [0u64; 512];
-    let mut opens = [0u64; 512];
-    let mut nodes = [0u64; 512];
+    let mut ends = [0u32; 512];
+    let mut opens = [0u32; 512];
+    let mut nodes = [0u32; 512];
     let counts = fill_rows(bytes, &mut ends, &mut opens, &mut nodes, area);
     let n = counts.segments as usize;
     fill_matrix(&ends, &opens, &nodes, n, area);

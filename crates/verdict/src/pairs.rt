@@ -11,7 +11,6 @@ use order::range::Lowest;
 use order::range::shared_byte;
 ghost use mathlib.Core.Path.{_≡_};
 ghost use mathlib.Core.Bool.{_&&_};
-ghost use lib.ListN.{length};
 ghost use Prim.Native.Nat.{_+_, _*_, _≤_, _<_};
 ghost use Rattle.order.specs.Ranges.{sharedByte};
 ghost use Rattle.verdict.specs.Races.{lexLess, nameBelow, keyOf, raceKey, raceBelow};

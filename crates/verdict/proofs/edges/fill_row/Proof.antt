@@ -1,10 +1,10 @@
 -- `verdict::edges::fill_row` meets its contract. The invariant: the words passed have the tests of their columns, the others are as they were. The measure: the words left. Assumes nothing.
 use borrow.Author.Needs.{needs}
 use mathlib.Core.Path.{_≡_}
-use Prim.Native.Nat.{ℕ, _≤_, _-_}
+use Prim.Native.Nat.{_≤_, _-_}
 use native.Mathlib.Omega.{arith}
-use lib.ListN.{length, getD}
-use Rattle.verdict.specs.Edges.{edgeTest}
+use lib.ListN.{length}
+use Rattle.verdict.specs.Edges.{edgeColumn}
 use Rattle.verdict.proofs.EdgeWords.{CellsTo, cells-none, cells-more, cells-all}
 use Rattle.verdict.proofs.edges.fill_row.Statement.{statement}
 use Rattle.verdict.proofs.edges.fill_row.Tie as tie
@@ -13,7 +13,7 @@ abbrev Inv-loop : tie.InvT-loop
 Inv-loop ends opens nodes n matrix₀ i end next word₀ matrix word =
     (word ≤ 16)
     × (length matrix ≡ length matrix₀)
-    × CellsTo (λ (c : ℕ). edgeTest end next (getD opens c 0) (getD nodes c 0)) i matrix₀ matrix word
+    × CellsTo (edgeColumn opens nodes end next) i matrix₀ matrix word
 
 abbrev μ-loop : tie.MeasureT-loop
 μ-loop ends opens nodes n matrix₀ i end next word₀ matrix word = 16 - word

@@ -1,7 +1,7 @@
 -- `verdict::fill::node_code` meets its contract. Assumes nothing.
 use mathlib.Core.Path.{refl}
-use Rattle.verdict.specs.Working.{nodeCode}
 use borrow.Author.Needs.{needs}
+use Rattle.verdict.specs.Working.{nodeCode}
 use Rattle.verdict.proofs.fill.node_code.Statement.{statement}
 use Rattle.verdict.proofs.fill.node_code.Tie as tie
 
@@ -13,7 +13,6 @@ pub node-code-spec : {M : Type 1} → statement M
 node-code-spec =
     tie.close
     (tie.spec
-    (λ c. search needs)
     (λ c. search needs)
     (λ c. search needs)
     (λ c. search needs)

@@ -1,8 +1,6 @@
 -- `verdict::pairs::clash` meets its contract. Assumes nothing.
 use Rattle.verdict.specs.Working.{accessRowAt}
-use Prim.Native.Nat.{ℕ}
-use mathlib.Core.Path.{sym, _∙_, ap, subst}
-use Rattle.verdict.specs.Matrix.{Within}
+use mathlib.Core.Path.{_∙_, ap}
 use Rattle.verdict.specs.Tallying.{kindsClash, locksApart, unordered}
 use Rattle.verdict.proofs.PairCases.{bounds-fail, kinds-fail, locks-fail, paths-decide}
 use borrow.Author.Needs.{needs}
