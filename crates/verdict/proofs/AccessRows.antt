@@ -1,4 +1,4 @@
--- The row of an access in eight words: what is stored is read back, and other rows stay.
+-- The row of an access in eight words: what is stored is read back, and the rows before it stay.
 use Prim.Native.Nat.{ℕ, zero, suc, _+_, _*_, _/_, _%_, _≤_, _<_}
 use mathlib.Core.Path.{_≡_, refl, _∙_, ap}
 use mathlib.Core.List.{List, [], _∷_}
@@ -6,39 +6,44 @@ use native.Mathlib.Omega.{arith}
 use lib.ListN.{length, getD, set, length-set}
 use lib.Seq.{getD-set-same, getD-set-other}
 use Rattle.bundle.specs.Index.{Added}
-use Rattle.verdict.specs.Working.{accessRowAt}
+use Rattle.verdict.specs.Working.{accessRowAt, RowIn}
 use Rattle.verdict.specs.declared.rows.AccessRow.{AccessRow}
 
--- words stored one after another, from a distance behind a place on
+-- words stored in one column after another, at the same distance from the column's front
 abbrev pub stored : List ℕ → ℕ → ℕ → List ℕ → List ℕ
 stored words at k [] = words
-stored words at k (v ∷ vs) = stored (set words (at + k) v) at (suc k) vs
+stored words at k (v ∷ vs) = stored (set words (at + 1024 * k) v) at (suc k) vs
 
 stored-length : (words : List ℕ) (at k : ℕ) (vs : List ℕ) → length (stored words at k vs) ≡ length words
 stored-length words at k [] = refl
-stored-length words at k (v ∷ vs) = stored-length (set words (at + k) v) at (suc k) vs ∙ length-set words (at + k) v
+stored-length words at k (v ∷ vs) = stored-length (set words (at + 1024 * k) v) at (suc k) vs ∙ length-set words (at + 1024 * k) v
 
-stored-before : (words : List ℕ) (at k : ℕ) (vs : List ℕ) (j : ℕ) → j < at + k → getD (stored words at k vs) j 0 ≡ getD words j 0
-stored-before words at k [] j h = refl
-stored-before words at k (v ∷ vs) j h =
-    stored-before (set words (at + k) v) at (suc k) vs j (omega arith) ∙ getD-set-other words (at + k) j v 0 (λ q. omega arith)
+stored-other :
+    (words : List ℕ) (at k : ℕ) (vs : List ℕ) (j : ℕ)
+    → ((l : ℕ) → k ≤ l → j ≡ at + 1024 * l → ⊥)
+    → getD (stored words at k vs) j 0 ≡ getD words j 0
+stored-other words at k [] j ne = refl
+stored-other words at k (v ∷ vs) j ne =
+    stored-other (set words (at + 1024 * k) v) at (suc k) vs j (λ l h. ne l (omega arith))
+    ∙ getD-set-other words (at + 1024 * k) j v 0 (λ q. ne k (omega arith) (omega arith))
 
 stored-at :
     (words : List ℕ) (at k : ℕ) (vs : List ℕ) (j : ℕ)
-    → at + k + length vs ≤ length words
+    → at < 1024
+    → 1024 * (k + length vs) ≤ length words
     → j < length vs
-    → getD (stored words at k vs) (at + (k + j)) 0 ≡ getD vs j 0
-stored-at words at k [] j l h = absurd (omega arith)
-stored-at words at k (v ∷ vs) zero l h =
-    let here : at + (k + 0) ≡ at + k = omega arith in
+    → getD (stored words at k vs) (at + 1024 * (k + j)) 0 ≡ getD vs j 0
+stored-at words at k [] j a l h = absurd (omega arith)
+stored-at words at k (v ∷ vs) zero a l h =
+    let here : at + 1024 * (k + 0) ≡ at + 1024 * k = omega arith in
     ap (λ (i : ℕ). getD (stored words at k (v ∷ vs)) i 0) here
-    ∙ stored-before (set words (at + k) v) at (suc k) vs (at + k) (omega arith)
-    ∙ getD-set-same words (at + k) v 0 (omega arith)
-stored-at words at k (v ∷ vs) (suc j) l h =
-    let here : at + (k + suc j) ≡ at + (suc k + j) = omega arith in
-    let long = length-set words (at + k) v in
+    ∙ stored-other (set words (at + 1024 * k) v) at (suc k) vs (at + 1024 * k) (λ l h e. omega arith)
+    ∙ getD-set-same words (at + 1024 * k) v 0 (omega arith)
+stored-at words at k (v ∷ vs) (suc j) a l h =
+    let here : at + 1024 * (k + suc j) ≡ at + 1024 * (suc k + j) = omega arith in
+    let long = length-set words (at + 1024 * k) v in
     ap (λ (i : ℕ). getD (stored words at k (v ∷ vs)) i 0) here
-    ∙ stored-at (set words (at + k) v) at (suc k) vs j (omega arith) (omega arith)
+    ∙ stored-at (set words (at + 1024 * k) v) at (suc k) vs j a (omega arith) (omega arith)
 
 -- the numbers of a word
 low : (a b n : ℕ) → a < 65536 → n ≡ a + 65536 * b → n % 65536 ≡ a
@@ -71,38 +76,45 @@ pub record RowFits (r : AccessRow) : Type 0 where
 module _ (words : List ℕ) (i : ℕ) (row : AccessRow) (range name place : ℕ) where
   abbrev behind : List ℕ
   behind =
-      range
-      ∷ name
-      ∷ place
-      ∷ (row .size + 256 * (row .member + 256 * row .kind))
+      row .last
       ∷ (row .locks % 4294967296)
       ∷ (row .locks / 4294967296)
-      ∷ row .last
+      ∷ (row .size + 256 * (row .member + 256 * row .kind))
+      ∷ range
+      ∷ name
+      ∷ place
       ∷ []
 
   abbrev pub rowStored : List ℕ
-  rowStored = stored (set words (8 * i) (row .base)) (8 * i) 1 behind
+  rowStored = stored (set words i (row .base)) i 1 behind
 
   pub row-length : length rowStored ≡ length words
-  row-length = stored-length (set words (8 * i) (row .base)) (8 * i) 1 behind ∙ length-set words (8 * i) (row .base)
+  row-length = stored-length (set words i (row .base)) i 1 behind ∙ length-set words i (row .base)
 
-  row-before : (j : ℕ) → j < 8 * i → getD rowStored j 0 ≡ getD words j 0
-  row-before j h =
-      stored-before (set words (8 * i) (row .base)) (8 * i) 1 behind j (omega arith)
-      ∙ getD-set-other words (8 * i) j (row .base) 0 (λ q. omega arith)
+  row-other : (j : ℕ) → ((l : ℕ) → j ≡ i + 1024 * l → ⊥) → getD rowStored j 0 ≡ getD words j 0
+  row-other j ne =
+      stored-other (set words i (row .base)) i 1 behind j (λ l h. ne l)
+      ∙ getD-set-other words i j (row .base) 0 (λ q. ne 0 (omega arith))
 
-  row-first : 8 * i + 7 < length words → getD rowStored (8 * i) 0 ≡ row .base
+  row-first : RowIn words i → getD rowStored i 0 ≡ row .base
   row-first h =
-      stored-before (set words (8 * i) (row .base)) (8 * i) 1 behind (8 * i) (omega arith)
-      ∙ getD-set-same words (8 * i) (row .base) 0 (omega arith)
+      stored-other (set words i (row .base)) i 1 behind i (λ l k e. omega arith)
+      ∙ getD-set-same words i (row .base) 0 (omega (arith, h .below, h .whole))
 
-  row-word : 8 * i + 7 < length words → (j : ℕ) → j < 7 → getD rowStored (8 * i + (1 + j)) 0 ≡ getD behind j 0
+  row-word : RowIn words i → (j : ℕ) → j < 7 → getD rowStored (i + 1024 * (1 + j)) 0 ≡ getD behind j 0
   row-word h j l =
-      let long = length-set words (8 * i) (row .base) in
-      stored-at (set words (8 * i) (row .base)) (8 * i) 1 behind j (omega arith) l
+      let long = length-set words i (row .base) in
+      stored-at (set words i (row .base)) i 1 behind j (h .below) (omega (arith, h .whole)) l
+
+  -- the words of the rows before it
+  row-kept : RowIn words i → (j : ℕ) → j < i → (k : ℕ) → getD rowStored (j + 1024 * k) 0 ≡ getD words (j + 1024 * k) 0
+  row-kept h j l k = row-other (j + 1024 * k) (λ m e. omega (arith, h .below))
+
+  row-kept-first : RowIn words i → (j : ℕ) → j < i → getD rowStored j 0 ≡ getD words j 0
+  row-kept-first h j l = row-other j (λ m e. omega (arith, h .below))
 
   pub row-added :
-      8 * i + 7 < length words
+      RowIn words i
       → RowFits row
       → range ≡ row .stride + 65536 * row .count
       → name ≡ row .team + 65536 * row .number
@@ -137,13 +149,13 @@ module _ (words : List ℕ) (i : ℕ) (row : AccessRow) (range name place : ℕ)
             λ j l.
             unfold accessRowAt in
             (rw (
-              row-before (8 * j) (omega arith),
-              row-before (8 * j + 1) (omega arith),
-              row-before (8 * j + 2) (omega arith),
-              row-before (8 * j + 3) (omega arith),
-              row-before (8 * j + 4) (omega arith),
-              row-before (8 * j + 5) (omega arith),
-              row-before (8 * j + 6) (omega arith),
-              row-before (8 * j + 7) (omega arith),
+              row-kept-first h j l,
+              row-kept h j l 1,
+              row-kept h j l 2,
+              row-kept h j l 3,
+              row-kept h j l 4,
+              row-kept h j l 5,
+              row-kept h j l 6,
+              row-kept h j l 7,
             ));
       }

@@ -128,6 +128,7 @@ module _ (s area : List ℕ) {g n : ℕ} (a : AreaFilled s area g n) where
   area-fits large = (
     record {
       whole = matrix-long area large;
+      rows-whole = rows-room area large;
       few = omega (arith, a .access-count, a .rows .few);
       fit = λ i h. fits i (below-at xs i (omega (arith, a .access-count)));
     },

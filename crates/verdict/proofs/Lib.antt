@@ -30,4 +30,5 @@ pub mod RowRaces
 pub mod EveryPair
 pub mod Tallies
 pub mod PairCases
+pub mod PairBlocks
 pub mod JudgeCases

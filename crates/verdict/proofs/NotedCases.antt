@@ -21,7 +21,7 @@ use Rattle.bundle.specs.declared.command.Command.the-variants as Com
 use Rattle.bundle.proofs.Ranges.{in-range-ok}
 use Rattle.bundle.proofs.Tests.{false-is-true}
 use Rattle.bundle.proofs.Ranges.{range-parts, size-within}
-use Rattle.verdict.specs.Working.{eventCode, endCode, openCode, nodeCode, accessRowAt}
+use Rattle.verdict.specs.Working.{eventCode, endCode, openCode, nodeCode, accessRowAt, RowIn}
 use Rattle.verdict.specs.Filling.{entered, left, advanced, cursorAfter, onCrossing, endsAfter, opensAfter, nodesAfter, rowHere, SegmentOpened, Countable, Notable, Noted}
 use Rattle.verdict.specs.declared.fill.Cursor.{Cursor}
 use Rattle.verdict.specs.declared.rows.AccessRow.{AccessRow}
@@ -119,8 +119,8 @@ module _ {p : Cursor} {c : Command} {ends opens nodes rows : List ℕ} (n : Nota
         unfold operandsOk in (in-range-ok (Com.Access a) (rw q at (n .in-range))),
       )
 
-  pub row-room : {a : Access} → c ≡ Com.Access a → 8 * p .accesses + 7 < length rows
-  row-room q = let l = access-below q in omega (arith, n .room .row-table)
+  pub row-room : {a : Access} → c ≡ Com.Access a → RowIn rows (p .accesses)
+  row-room q = record { below = access-below q; whole = n .room .row-table }
 
   pub access-counts : {a : Access} → c ≡ Com.Access a → Countable p 0 1
   access-counts q =

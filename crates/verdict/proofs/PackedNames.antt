@@ -1,5 +1,5 @@
 -- Names as numbers: their order, and that of keys, is the order of the numbers.
-use Prim.Native.Nat.{ℕ, _+_, _*_, _<_}
+use Prim.Native.Nat.{ℕ, _+_, _*_, _/_, _%_, _<_}
 use mathlib.Core.Path.{_≡_, refl, sym, _∙_, ap, ap₂}
 use mathlib.Core.Logic.{_⊎_, inl, inr}
 use mathlib.Core.Bool.{Bool, true, false, _&&_, _||_}
@@ -8,7 +8,7 @@ use lib.Dec.{eqb, ltb}
 use borrow.Author.Tests.{ltb-true, ltb-false, eqb-true, eqb-false, lt-ltb, le-ltb, eq-eqb, ne-eqb}
 use Rattle.bundle.proofs.Tests.{decide}
 use Rattle.verdict.specs.Races.{lexLess, nameKey, nameBelow, keyOf, raceKey}
-use Rattle.verdict.specs.Tallying.{packed, NameFits, PackedAs, packedLess, packedKey, KeyPackedAs}
+use Rattle.verdict.specs.Tallying.{packed, NameFits, PackedAs, packedLess, packedKey, KeyPackedAs, SideOf}
 use Rattle.verdict.specs.declared.race.Name.{Name}
 use Rattle.verdict.specs.declared.race.Race.{Race}
 use Rattle.verdict.specs.declared.pairs.Packed.{Packed}
@@ -113,3 +113,33 @@ key-order {w} {a} {b} r p q e =
     e
     ∙ ap₂ packedLess (p .is) (q .is)
     ∙ packed-key w (r .witness) a b (r .first) (r .second) (p .first-fits) (p .second-fits) (q .first-fits) (q .second-fits)
+
+-- a name and a site as one number
+abbrev side : ℕ → ℕ → ℕ → ℕ → ℕ
+side t m n s = (t * 16777216 + m * 65536 + n) * 65536 + s
+
+side-team : (t m n s : ℕ) → t < 65536 → m < 256 → n < 65536 → s < 65536 → side t m n s / 1099511627776 % 65536 ≡ t
+side-team t m n s a b c d = omega arith
+
+side-member : (t m n s : ℕ) → t < 65536 → m < 256 → n < 65536 → s < 65536 → side t m n s / 4294967296 % 256 ≡ m
+side-member t m n s a b c d = omega arith
+
+side-number : (t m n s : ℕ) → t < 65536 → m < 256 → n < 65536 → s < 65536 → side t m n s / 65536 % 65536 ≡ n
+side-number t m n s a b c d = omega arith
+
+side-site : (t m n s : ℕ) → s < 65536 → side t m n s % 65536 ≡ s
+side-site t m n s d = omega arith
+
+pub side-packed : {a : Name} {m s : ℕ} → PackedAs a m → s < 65536 → SideOf a s (m * 65536 + s)
+side-packed {a} {m} {s} p h =
+    let f = p .fits in
+    rw (p .is)
+    record {
+      name-in = λ i.
+          record {
+            team = side-team (a .team) (a .member) (a .number) s (f .team) (f .member) (f .number) h i;
+            member = side-member (a .team) (a .member) (a .number) s (f .team) (f .member) (f .number) h i;
+            number = side-number (a .team) (a .member) (a .number) s (f .team) (f .member) (f .number) h i;
+          };
+      site-in = side-site (a .team) (a .member) (a .number) s h;
+    }

@@ -7,49 +7,25 @@ use mathlib.Core.List.{List, [], _++_}
 use mathlib.Core.Option.{Option, none, some}
 use native.Mathlib.Omega.{arith}
 use native.Mathlib.Numerals.{add-one}
-use lib.Dec.{eqb, ltb}
-use borrow.Author.Tests.{not-true, not-false, ltb-true, eqb-true}
+use lib.Dec.{eqb, ltb, leb}
+use borrow.Author.Tests.{ltb-true, leb-true, eqb-true}
 use Rattle.bundle.proofs.Tests.{false-is-true, both, and-left, and-right, or-cases, is-false, refuted, cond-elim}
-use Rattle.bundle.specs.declared.command.Range.{Range}
+use Rattle.bundle.proofs.Ranges.{range-parts, size-within}
 use Rattle.order.specs.Ranges.{sharedByte}
-use Rattle.order.specs.Pairs.{lowestOf}
+use Rattle.order.specs.Pairs.{InOrder, lowestOf}
 use Rattle.order.specs.declared.range.Lowest.{Lowest}
 use Rattle.order.specs.declared.range.Lowest.the-variants as Lo
 use Rattle.order.proofs.SharedByte.{shared-some}
-use Rattle.order.proofs.PairBytes.{touch-fits}
+use Rattle.order.proofs.PairBytes.{base-shared, touch-fits}
 use Rattle.verdict.specs.Races.{lexLess, nameKey, nameBelow, keyOf, raceKey, raceBelow}
 use Rattle.verdict.specs.Working.{accessRowAt}
-use Rattle.verdict.specs.Matrix.{Within}
-use Rattle.verdict.specs.Tallying.{
-  rowRange,
-  rowName,
-  boundsMeet,
-  kindsClash,
-  locksApart,
-  unordered,
-  rowsClash,
-  raceFrom,
-  raceBetween,
-  raceAtByte,
-  aboveKey,
-  clashRace,
-  pairRace,
-  replaces,
-  comesLater,
-  keeping,
-  counting,
-  addRace,
-  addPair,
-  tallyRow,
-  tallyAll,
-  RowFits,
-  TablesFit,
-}
+use Rattle.verdict.specs.Tallying.{rowRange, rowName, rowsMeet, rowsClash, raceFrom, raceBetween, raceAtByte, aboveKey, clashRace, pairRace, replaces, comesLater, SideOf, tallyIn, keeping, counting, addRace, addPair, tallyRow, tallyAll, RowFits, TablesFit}
 use Rattle.verdict.specs.declared.race.Name.{Name}
 use Rattle.verdict.specs.declared.race.Race.{Race}
 use Rattle.verdict.specs.declared.rows.AccessRow.{AccessRow}
 use Rattle.verdict.specs.declared.pairs.Key.{Key}
 use Rattle.verdict.specs.declared.pairs.Tally.{Tally}
+use Rattle.verdict.specs.declared.pairs.Sum.{Sum}
 use Rattle.verdict.proofs.Lexical.{less-elim, less-head, less-tail, less-asymmetric}
 
 -- one more race
@@ -148,10 +124,6 @@ module _ (t : Tally) (one other : AccessRow) (w : ℕ) where
       (key : Key) {b : Bool} → b ≡ comesLater t (rowName one) (rowName other) w → b ≡ true → counting t ≡ addRace key t (raceBetween one other w)
   later-counted key p h = race-counted key t (raceBetween one other w) (sym (not-replaced key (sym p ∙ h))) refl
 
-  pub made-added :
-      (key : Key) {r : Race} {u : Tally} → r ≡ raceBetween one other w → u ≡ addRace key t r → u ≡ addRace key t (raceBetween one other w)
-  made-added key i j = j ∙ ap (addRace key t) i
-
   pub later-told :
       {a b : Name} {p q : Bool}
       → a ≡ rowName one
@@ -165,77 +137,98 @@ module _ (t : Tally) (one other : AccessRow) (w : ℕ) where
       (h ∙ ap (nameBelow (least .first)) f)
       (i ∙ ap (nameBelow (least .first)) g)
 
--- the tests one after another
-abbrev Clash : List ℕ → AccessRow → AccessRow → Bool → Type 0
-Clash m one other x = x ≡ (boundsMeet (one .base) (one .last) (other .base) (other .last) && rowsClash m one other)
+-- a tally in five numbers
+pub sum-whole :
+    (t : Tally) {a b : ℕ}
+    → SideOf (t .race .first) (t .race .«first_site») a
+    → SideOf (t .race .second) (t .race .«second_site») b
+    → tallyIn (record { count = t .count; found = t .found; witness = t .race .witness; first = a; second = b }) ≡ t
+sum-whole t p q i =
+    record {
+      count = t .count;
+      found = t .found;
+      race =
+          record {
+            witness = t .race .witness;
+            first = p .name-in i;
+            «first_site» = p .site-in i;
+            second = q .name-in i;
+            «second_site» = q .site-in i;
+          };
+    }
 
-module _ (m : List ℕ) (one other : AccessRow) {d : Bool}
-    (bounds : d ≡ boundsMeet (one .base) (one .last) (other .base) (other .last)) where
-  pub bounds-fail : not d ≡ true → Clash m one other false
-  bounds-fail h = sym (ap (λ (x : Bool). x && rowsClash m one other) (sym bounds ∙ not-true d h))
+-- the same of a tally that stands in five numbers
+module _ (s : Sum) (one other : AccessRow) (w : ℕ) (key : Key) {t : Tally} (e : t ≡ tallyIn s) where
+  pub later-summed :
+      {b : Bool}
+      → b ≡ comesLater t (rowName one) (rowName other) w
+      → b ≡ true
+      → counting (tallyIn s) ≡ addRace key (tallyIn s) (raceBetween one other w)
+  later-summed p h =
+      later-counted (tallyIn s) one other w key (p ∙ ap (λ (u : Tally). comesLater u (rowName one) (rowName other) w) e) h
 
-  module _ (p : not d ≡ false) {k : Bool} (kinds : k ≡ kindsClash (one .kind) (other .kind)) where
-    near : (boundsMeet (one .base) (one .last) (other .base) (other .last) && rowsClash m one other) ≡ rowsClash m one other
-    near = ap (λ (x : Bool). x && rowsClash m one other) (sym bounds ∙ not-false d p)
-
-    pub kinds-fail : not k ≡ true → Clash m one other false
-    unfolding rowsClash
-    kinds-fail h =
-        sym
-        (near
-        ∙ ap
-        (λ (x : Bool). x && locksApart (one .locks) (other .locks) && unordered m (one .segment) (other .segment))
-        (sym kinds ∙ not-true k h))
-
-    module _ (q : not k ≡ false) {l : Bool} (locks : l ≡ locksApart (one .locks) (other .locks)) where
-      passed : rowsClash m one other ≡ (l && unordered m (one .segment) (other .segment))
-      unfolding rowsClash
-      passed =
-          ap₂ (λ (x y : Bool). x && y && unordered m (one .segment) (other .segment)) (sym kinds ∙ not-false k q) (sym locks)
-
-      pub locks-fail : not l ≡ true → Clash m one other false
-      locks-fail h =
-          sym (near ∙ passed ∙ ap (λ (x : Bool). x && unordered m (one .segment) (other .segment)) (not-true l h))
-
-      pub paths-decide : not l ≡ false → {u : Bool} → u ≡ unordered m (one .segment) (other .segment) → Clash m one other u
-      paths-decide h g =
-          g ∙ sym (near ∙ passed ∙ ap (λ (x : Bool). x && unordered m (one .segment) (other .segment)) (not-false l h))
+  pub made-summed :
+      {r : Race} {u : Tally} (s′ : Sum)
+      → r ≡ raceBetween one other w
+      → u ≡ addRace key t r
+      → tallyIn s′ ≡ u
+      → tallyIn s′ ≡ addRace key (tallyIn s) (raceBetween one other w)
+  made-summed s′ p q f = f ∙ q ∙ ap₂ (addRace key) e p
 
 -- the lowest shared byte of two rows
-module _ (one other : AccessRow) {a b : Range} (l : Lowest)
-    (f : a ≡ rowRange one) (g : b ≡ rowRange other) (s : lowestOf l ≡ sharedByte a b) where
-  shared-rows : sharedByte (rowRange one) (rowRange other) ≡ lowestOf l
-  shared-rows = sym (s ∙ ap₂ sharedByte f g)
+module _ (one other : AccessRow) (fits : RowFits one) (fits′ : RowFits other) where
+  ordered : one .base ≤ other .base → InOrder (rowRange one) (rowRange other)
+  ordered h =
+      let a = range-parts (rowRange one) (fits .range) in
+      let b = range-parts (rowRange other) (fits′ .range) in
+      record {
+        lower-counted = a .counted;
+        lower-sized = size-within (one .size) (a .sized) .0;
+        upper-counted = b .counted;
+        upper-sized = size-within (other .size) (b .sized) .0;
+        bases = h;
+      }
 
+  pub base-near :
+      {b : Bool}
+      → b ≡ (leb (one .base) (other .base) && ltb (other .base) (one .base + one .size))
+      → b ≡ true
+      → some (other .base) ≡ sharedByte (rowRange one) (rowRange other)
+  base-near e h =
+      let x : Bool = leb (one .base) (other .base) in
+      let y : Bool = ltb (other .base) (one .base + one .size) in
+      let up = leb-true (one .base) (other .base) (and-left x y (sym e ∙ h)) in
+      let in-it = ltb-true (other .base) (one .base + one .size) (and-right x y (sym e ∙ h)) in
+      base-shared (rowRange one) (rowRange other) (ordered up) (omega arith)
+
+module _ (one other : AccessRow) (l : Lowest) (s : lowestOf l ≡ sharedByte (rowRange one) (rowRange other)) where
   pub byte-fits : RowFits one → {w : ℕ} → l ≡ Lo.Byte w → w < 4294967296
   byte-fits fits {w} h =
-      touch-fits (rowRange one) w (fits .range)
-      (shared-some (rowRange one) (rowRange other) w (shared-rows ∙ ap lowestOf h) .one)
+      touch-fits (rowRange one) w (fits .range) (shared-some (rowRange one) (rowRange other) w (sym s ∙ ap lowestOf h) .one)
 
--- two rows that clash
-module _ (one other : AccessRow) (key : Key) (t : Tally) {a b : Range} (l : Lowest)
-    (f : a ≡ rowRange one) (g : b ≡ rowRange other) (s : lowestOf l ≡ sharedByte a b) where
-  clashing :
-      {k : Lowest}
-      → l ≡ k
-      → addPair key t (raceAtByte one other (sharedByte (rowRange one) (rowRange other))) ≡ addPair key t (raceAtByte one other (lowestOf k))
-  clashing h = ap (λ (o : Option ℕ). addPair key t (raceAtByte one other o)) (shared-rows one other l f g s ∙ ap lowestOf h)
+  -- two rows that clash
+  module _ (key : Key) (t : Tally) where
+    clashing :
+        {k : Lowest}
+        → l ≡ k
+        → addPair key t (raceAtByte one other (sharedByte (rowRange one) (rowRange other))) ≡ addPair key t (raceAtByte one other (lowestOf k))
+    clashing h = ap (λ (o : Option ℕ). addPair key t (raceAtByte one other o)) (sym s ∙ ap lowestOf h)
 
-  pub clash-added :
-      {w : ℕ} {u : Tally}
-      → l ≡ Lo.Byte w
-      → u ≡ addRace key t (raceBetween one other w)
-      → u ≡ addPair key t (raceAtByte one other (sharedByte (rowRange one) (rowRange other)))
-  unfolding addPair
-  clash-added h j = j ∙ sym (clashing h)
+    pub clash-added :
+        {w : ℕ} {u : Tally}
+        → l ≡ Lo.Byte w
+        → u ≡ addRace key t (raceBetween one other w)
+        → u ≡ addPair key t (raceAtByte one other (sharedByte (rowRange one) (rowRange other)))
+    unfolding addPair
+    clash-added h j = j ∙ sym (clashing h)
 
-  pub clash-apart : l ≡ Lo.Nothing → t ≡ addPair key t (raceAtByte one other (sharedByte (rowRange one) (rowRange other)))
-  unfolding addPair
-  clash-apart h = sym (clashing h)
+    pub clash-apart : l ≡ Lo.Nothing → t ≡ addPair key t (raceAtByte one other (sharedByte (rowRange one) (rowRange other)))
+    unfolding addPair
+    clash-apart h = sym (clashing h)
 
 -- a row and the j-th
 module _ (m rows : List ℕ) (one : AccessRow) (j : ℕ) (key : Key) (t : Tally) {c : Bool}
-    (e : c ≡ (boundsMeet (one .base) (one .last) (accessRowAt rows j .base) (accessRowAt rows j .last) && rowsClash m one (accessRowAt rows j))) where
+    (e : c ≡ (rowsMeet one (accessRowAt rows j) && rowsClash m one (accessRowAt rows j))) where
   abbrev shared : AccessRow → Option Race
   shared other = raceAtByte one other (sharedByte (rowRange one) (rowRange other))
 
@@ -246,7 +239,7 @@ module _ (m rows : List ℕ) (one : AccessRow) (j : ℕ) (key : Key) (t : Tally)
   one-test : pairRace m one (accessRowAt rows j) ≡ cond c (shared (accessRowAt rows j)) none
   unfolding pairRace clashRace
   one-test =
-      both-tests (boundsMeet (one .base) (one .last) (accessRowAt rows j .base) (accessRowAt rows j .last)) (rowsClash m one (accessRowAt rows j)) (shared (accessRowAt rows j))
+      both-tests (rowsMeet one (accessRowAt rows j)) (rowsClash m one (accessRowAt rows j)) (shared (accessRowAt rows j))
       ∙ ap (λ (x : Bool). cond x (shared (accessRowAt rows j)) none) (sym e)
 
   pub clash-fails : c ≡ false → {r : Tally} → r ≡ t → r ≡ addPair key t (pairRace m one (accessRowAt rows j))
@@ -270,10 +263,15 @@ race-count key t r = go (replaces key t r)
     go true = refl
     go false = refl
 
-pair-count : (key : Key) (t : Tally) (o : Option Race) → addPair key t o .count ≤ t .count + 1
+pub pair-count : (key : Key) (t : Tally) (o : Option Race) → addPair key t o .count ≤ t .count + 1
 unfolding addPair
 pair-count key t none = omega arith
 pair-count key t (some r) = omega (arith, race-count key t r)
+
+-- fewer rows fit too
+pub fewer-rows : {m rows : List ℕ} {n k : ℕ} → TablesFit m rows n → k ≤ n → TablesFit m rows k
+fewer-rows g h =
+    record { whole = g .whole; rows-whole = g .rows-whole; few = omega (arith, g .few); fit = λ j l. g .fit j (omega arith) }
 
 module _ (m rows : List ℕ) (key : Key) where
   pub row-count : (one : AccessRow) (t : Tally) (j : ℕ) → tallyRow m rows key one t j .count ≤ t .count + j
@@ -315,21 +313,6 @@ module _ (m rows : List ℕ) (key : Key) where
   all-all n i h l e = let q : i ≡ n = omega arith in e ∙ ap (tallyAll m rows key) q
 
   -- what a turn wants
-  pub row-within :
-      (one : AccessRow) (i j : ℕ) {n : ℕ}
-      → TablesFit m rows i × RowFits one × (n ≤ 4294967295)
-      → j < i
-      → Within m (one .segment) (accessRowAt rows j .segment)
-  row-within one i j g h = record { whole = g .0 .whole; row = g .1 .segment; column = g .0 .fit j h .segment }
-
-  pub row-fits :
-      (one : AccessRow) (t : Tally) (i j : ℕ) {u : Tally}
-      → TablesFit m rows i × RowFits one × (t .count + i ≤ 4294967295)
-      → j < i
-      → u ≡ tallyRow m rows key one t j
-      → RowFits one × (u .count < 4294967295)
-  row-fits one t i j g h e = (g .1, omega (arith, ap (λ (x : Tally). x .count) e, row-count one t j))
-
   pub all-fit :
       (n i : ℕ) {u : Tally} {one : AccessRow}
       → TablesFit m rows n
@@ -338,7 +321,7 @@ module _ (m rows : List ℕ) (key : Key) where
       → one ≡ accessRowAt rows i
       → TablesFit m rows i × RowFits one × (u .count + i ≤ 4294967295)
   all-fit n i {u} {one} g h e o = (
-    record { whole = g .whole; few = omega (arith, g .few); fit = λ j l. g .fit j (omega arith) },
+    fewer-rows g (omega arith),
     subst RowFits (sym o) (g .fit i h),
     omega (arith, g .few, ap (λ (x : Tally). x .count) e, all-count i (omega (arith, g .few))),
   )

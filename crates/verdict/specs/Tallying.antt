@@ -20,6 +20,7 @@ use Rattle.verdict.specs.declared.rows.AccessRow.{AccessRow}
 use Rattle.verdict.specs.declared.pairs.Key.{Key}
 use Rattle.verdict.specs.declared.pairs.Packed.{Packed}
 use Rattle.verdict.specs.declared.pairs.Tally.{Tally}
+use Rattle.verdict.specs.declared.pairs.Sum.{Sum}
 
 -- a name as one number, in whose order the names are
 abbrev pub packed : Name → ℕ
@@ -61,6 +62,9 @@ rowName r = record { team = r .team; member = r .member; number = r .number }
 abbrev pub boundsMeet : ℕ → ℕ → ℕ → ℕ → Bool
 boundsMeet base last other otherLast = leb base otherLast && leb other last
 
+abbrev pub rowsMeet : AccessRow → AccessRow → Bool
+rowsMeet one other = boundsMeet (one .base) (one .last) (other .base) (other .last)
+
 -- whether of two kinds at least one writes and not both are atomic
 abbrev pub kindsClash : ℕ → ℕ → Bool
 kindsClash one other = leb 1 (one % 2 + other % 2) && ltb (one / 2 + other / 2) 2
@@ -78,6 +82,10 @@ rowsClash matrix one other =
     kindsClash (one .kind) (other .kind)
     && locksApart (one .locks) (other .locks)
     && unordered matrix (one .segment) (other .segment)
+
+-- what the tests that come first ask: bounds that meet, no lock in common, and kinds that clash
+unfoldable pub rowsPass : AccessRow → AccessRow → Bool
+rowsPass one other = rowsMeet one other && (locksApart (one .locks) (other .locks) && kindsClash (one .kind) (other .kind))
 
 -- what a race carries
 abbrev pub raceFrom : AccessRow → AccessRow → ℕ → Race
@@ -104,8 +112,7 @@ clashRace matrix one other =
     cond (rowsClash matrix one other) (raceAtByte one other (sharedByte (rowRange one) (rowRange other))) none
 
 unfoldable pub pairRace : List ℕ → AccessRow → AccessRow → Option Race
-pairRace matrix one other =
-    cond (boundsMeet (one .base) (one .last) (other .base) (other .last)) (clashRace matrix one other) none
+pairRace matrix one other = cond (rowsMeet one other) (clashRace matrix one other) none
 
 -- whether a race is above the key; all are where none is given
 unfoldable pub aboveKey : Key → Race → Bool
@@ -159,6 +166,30 @@ unfoldable pub tallyAll : List ℕ → List ℕ → Key → ℕ → Tally
 tallyAll matrix rows key zero = noTally
 tallyAll matrix rows key (suc i) = tallyRow matrix rows key (accessRowAt rows i) (tallyAll matrix rows key i) i
 
+-- the name that stands in a number, and an access's name and site as a number
+abbrev pub nameIn : ℕ → Name
+nameIn side = record { team = side / 1099511627776 % 65536; member = side / 4294967296 % 256; number = side / 65536 % 65536 }
+
+pub record SideOf (name : Name) (site side : ℕ) : Type 0 where
+  pub name-in : nameIn side ≡ name
+  pub site-in : side % 65536 ≡ site
+
+-- the tally that stands in five numbers
+abbrev pub tallyIn : Sum → Tally
+tallyIn s =
+    record {
+      count = s .count;
+      found = s .found;
+      race =
+          record {
+            witness = s .witness;
+            first = nameIn (s .first);
+            «first_site» = s .first % 65536;
+            second = nameIn (s .second);
+            «second_site» = s .second % 65536;
+          };
+    }
+
 -- a row that the loops can use
 pub record RowFits (r : AccessRow) : Type 0 where
   pub segment : r .segment < 512
@@ -167,5 +198,27 @@ pub record RowFits (r : AccessRow) : Type 0 where
 -- a whole matrix, and n rows
 pub record TablesFit (matrix rows : List ℕ) (n : ℕ) : Type 0 where
   pub whole : length matrix ≡ 8192
+  pub rows-whole : 8192 ≤ length rows
   pub few : n ≤ 1024
   pub fit : (i : ℕ) → i < n → RowFits (accessRowAt rows i)
+
+-- 32 rows from a first one on
+pub record BlockIn (rows : List ℕ) (first : ℕ) : Type 0 where
+  pub below : first + 32 ≤ 1024
+  pub whole : 8192 ≤ length rows
+
+-- the bounds of the first k of them do not meet those of another
+pub record NoneMeet (one : AccessRow) (rows : List ℕ) (first k : ℕ) : Type 0 where
+  pub apart : (l : ℕ) → l < k → rowsMeet one (accessRowAt rows (first + l)) ≡ false
+
+-- an access and those from `first` to `end`, at most 32, after so many races
+pub record BlockFits (matrix rows : List ℕ) (one : AccessRow) (first end count : ℕ) : Type 0 where
+  pub tables : TablesFit matrix rows end
+  pub row : RowFits one
+  pub ordered : first ≤ end
+  pub short : end ≤ first + 32
+  pub few : count + end ≤ 4294967295 + first
+
+-- an access with those before `first`, and after it with those before `end`
+pub record BlockTallied (matrix rows : List ℕ) (key : Key) (one : AccessRow) (first end : ℕ) (before after : Tally) : Type 0 where
+  pub more : (t : Tally) → before ≡ tallyRow matrix rows key one t first → after ≡ tallyRow matrix rows key one t end

@@ -1,5 +1,5 @@
 -- What the judge's tables hold: of a segment three numbers, of an access a row of eight words.
-use Prim.Native.Nat.{ℕ, _+_, _*_, _/_, _%_, _≤_}
+use Prim.Native.Nat.{ℕ, _+_, _*_, _/_, _%_, _≤_, _<_}
 use mathlib.Core.Path.{_≡_}
 use mathlib.Core.Bool.{true}
 use mathlib.Core.List.{List}
@@ -47,23 +47,28 @@ kindCode Kind.Write = 1
 kindCode Kind.AtomicRead = 2
 kindCode Kind.AtomicWrite = 3
 
--- the row of an access in eight words
+-- the row of an access in eight words, one of each column
 unfoldable pub accessRowAt : List ℕ → ℕ → AccessRow
 accessRowAt words i =
     record {
-      base = getD words (8 * i) 0;
-      stride = getD words (8 * i + 1) 0 % 65536;
-      count = getD words (8 * i + 1) 0 / 65536;
-      team = getD words (8 * i + 2) 0 % 65536;
-      number = getD words (8 * i + 2) 0 / 65536;
-      site = getD words (8 * i + 3) 0 % 65536;
-      segment = getD words (8 * i + 3) 0 / 65536;
-      size = getD words (8 * i + 4) 0 % 256;
-      member = getD words (8 * i + 4) 0 / 256 % 256;
-      kind = getD words (8 * i + 4) 0 / 256 / 256 % 256;
-      locks = getD words (8 * i + 5) 0 + 4294967296 * getD words (8 * i + 6) 0;
-      last = getD words (8 * i + 7) 0;
+      base = getD words i 0;
+      stride = getD words (i + 5120) 0 % 65536;
+      count = getD words (i + 5120) 0 / 65536;
+      team = getD words (i + 6144) 0 % 65536;
+      number = getD words (i + 6144) 0 / 65536;
+      site = getD words (i + 7168) 0 % 65536;
+      segment = getD words (i + 7168) 0 / 65536;
+      size = getD words (i + 4096) 0 % 256;
+      member = getD words (i + 4096) 0 / 256 % 256;
+      kind = getD words (i + 4096) 0 / 256 / 256 % 256;
+      locks = getD words (i + 2048) 0 + 4294967296 * getD words (i + 3072) 0;
+      last = getD words (i + 1024) 0;
     }
+
+-- the words have a row of that number
+pub record RowIn (words : List ℕ) (i : ℕ) : Type 0 where
+  pub below : i < 1024
+  pub whole : 8192 ≤ length words
 
 -- a row is that of an access; its segment is the place of the access's segment in the list of all
 pub record RowOf (segments : List Segment) (x : NamedAccess) (r : AccessRow) : Type 0 where

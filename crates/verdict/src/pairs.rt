@@ -6,30 +6,34 @@ use crate::rows::AccessRow;
 use crate::rows::access_at;
 use crate::rows::word_at;
 use bundle::command::Range;
-use order::lock::common;
 use order::range::Lowest;
 use order::range::shared_byte;
 ghost use mathlib.Core.Path.{_≡_};
-ghost use mathlib.Core.Bool.{_&&_};
-ghost use Prim.Native.Nat.{_+_, _*_, _≤_, _<_};
+ghost use mathlib.Core.Bool.{false, _&&_};
+ghost use lib.Dec.{eqb, ltb, leb};
+ghost use Prim.Native.Nat.{_+_, _%_, _≤_, _<_, min};
 ghost use Rattle.order.specs.Ranges.{sharedByte};
+ghost use Rattle.order.specs.Pairs.{lowestOf};
 ghost use Rattle.verdict.specs.Races.{lexLess, nameBelow, keyOf, raceKey, raceBelow};
-ghost use Rattle.verdict.specs.Matrix.{Within};
-ghost use Rattle.verdict.specs.Working.{accessRowAt};
+ghost use Rattle.verdict.specs.Matrix.{Within, TestWord};
+ghost use Rattle.verdict.specs.Working.{accessRowAt, RowIn};
 ghost use Rattle.verdict.specs.Tallying.{
   PackedAs,
   packedLess,
   KeyPackedAs,
-  boundsMeet,
+  rowsMeet,
   kindsClash,
   locksApart,
+  rowsPass,
   unordered,
   rowRange,
   rowName,
-  rowsClash,
   raceFrom,
   raceBetween,
   raceAtByte,
+  nameIn,
+  SideOf,
+  tallyIn,
   aboveKey,
   replaces,
   comesLater,
@@ -40,6 +44,10 @@ ghost use Rattle.verdict.specs.Tallying.{
   tallyAll,
   RowFits,
   TablesFit,
+  BlockIn,
+  NoneMeet,
+  BlockFits,
+  BlockTallied,
 };
 
 // What the race that is looked for lies above: a witness and two names, where they are given.
@@ -62,6 +70,15 @@ pub struct Packed {
     pub witness: u32,
     pub first: u64,
     pub second: u64,
+}
+
+// A tally in five numbers, which stay in registers: each access of its race is name and site in one number.
+struct Sum {
+    count: u32,
+    found: bool,
+    witness: u32,
+    first: u64,
+    second: u64,
 }
 
 // A name as one number: the order of the numbers is that of the names.
@@ -195,20 +212,6 @@ fn range_of(row: AccessRow) -> Range
     }
 }
 
-// Whether at least one writes, and not both are atomic.
-fn kinds_clash(one: u8, other: u8) -> bool
-    ensures { λ r. ⌜ r ≡ kindsClash one other ⌝ }
-{
-    (1 <= one % 2 + other % 2) & (one / 2 + other / 2 < 2)
-}
-
-// Whether two accesses hold no lock in common.
-fn locks_apart(one: u64, other: u64) -> bool
-    ensures { λ r. ⌜ r ≡ locksApart one other ⌝ }
-{
-    !common(one, other)
-}
-
 // Whether there is no path either way between two segments.
 fn no_path(matrix: &[u32], one: u16, other: u16) -> bool
     requires { ⌜ Within (now matrix) one other ⌝ }
@@ -216,7 +219,58 @@ fn no_path(matrix: &[u32], one: u16, other: u16) -> bool
 {
     let a = one as usize;
     let b = other as usize;
-    !bit(matrix, a, b) & !bit(matrix, b, a)
+    if bit(matrix, a, b) {
+        return false;
+    }
+    !bit(matrix, b, a)
+}
+
+// An access's name and site as one number.
+fn side_of(name: Name, site: u16) -> u64
+    ensures { λ r. ⌜ SideOf name site r ⌝ }
+{
+    pack(name) * 65536 + site as u64
+}
+
+fn name_in(side: u64) -> Name
+    ensures { λ r. ⌜ r ≡ nameIn side ⌝ }
+{
+    Name {
+        team: (side / 1099511627776 % 65536) as u16,
+        member: (side / 4294967296 % 256) as u8,
+        number: (side / 65536 % 65536) as u16,
+    }
+}
+
+fn sum_of(tally: Tally) -> Sum
+    ensures { λ r. ⌜ tallyIn r ≡ tally ⌝ }
+{
+    let found = tally.found;
+    let race = tally.race;
+    Sum {
+        count: tally.count,
+        found,
+        witness: race.witness,
+        first: side_of(race.first, race.first_site),
+        second: side_of(race.second, race.second_site),
+    }
+}
+
+fn tally_of(sum: Sum) -> Tally
+    ensures { λ r. ⌜ r ≡ tallyIn sum ⌝ }
+{
+    let found = sum.found;
+    Tally {
+        count: sum.count,
+        found,
+        race: Race {
+            witness: sum.witness,
+            first: name_in(sum.first),
+            first_site: (sum.first % 65536) as u16,
+            second: name_in(sum.second),
+            second_site: (sum.second % 65536) as u16,
+        },
+    }
 }
 
 // Whether the race of two accesses comes after the least so far: told by the witness and the names, before the race is made.
@@ -233,91 +287,212 @@ fn comes_later(tally: Tally, one: AccessRow, other: AccessRow, witness: u32) -> 
 }
 
 // The race of two accesses that share a byte. Most races come later than the least, and are only counted.
-fn add_at(one: AccessRow, other: AccessRow, witness: u32, key: Key, tally: Tally) -> Tally
-    requires { ⌜ tally .count < 4294967295 ⌝ }
-    ensures { λ r. ⌜ r ≡ addRace key tally (raceBetween one other witness) ⌝ }
+fn add_at(one: AccessRow, other: AccessRow, witness: u32, key: Key, sum: Sum) -> Sum
+    requires { ⌜ sum .count < 4294967295 ⌝ }
+    ensures { λ r. ⌜ tallyIn r ≡ addRace key (tallyIn sum) (raceBetween one other witness) ⌝ }
 {
+    let tally = tally_of(sum);
     if comes_later(tally, one, other, witness) {
-        let found = tally.found;
-        let race = tally.race;
-        return Tally {
-            count: tally.count + 1,
+        let found = sum.found;
+        return Sum {
+            count: sum.count + 1,
             found,
-            race,
+            witness: sum.witness,
+            first: sum.first,
+            second: sum.second,
         };
     }
-    add_race(key, tally, race_between(one, other, witness))
+    sum_of(add_race(key, tally, race_between(one, other, witness)))
+}
+
+// Whether a base lies in the first element of a range.
+fn near(base: u32, size: u8, other: u32) -> bool
+    ensures { λ r. ⌜ r ≡ (leb base other && ltb other (base + size)) ⌝ }
+{
+    (base <= other) & ((other as u64) < base as u64 + size as u64)
+}
+
+// The lowest byte that two accesses share. One that lies in the first element of the other is told at once.
+fn lowest(one: AccessRow, other: AccessRow) -> Lowest
+    requires { ⌜ RowFits one × RowFits other ⌝ }
+    ensures { λ r. ⌜ lowestOf r ≡ sharedByte (rowRange one) (rowRange other) ⌝ }
+{
+    let base = one.base;
+    let other_base = other.base;
+    if near(base, one.size, other_base) {
+        return Lowest::Byte(other_base as u64);
+    }
+    if near(other_base, other.size, base) {
+        return Lowest::Byte(base as u64);
+    }
+    shared_byte(range_of(one), range_of(other))
 }
 
 // The race of two accesses that clash, if they share a byte.
-fn add_clash(one: AccessRow, other: AccessRow, key: Key, tally: Tally) -> Tally
-    requires { ⌜ RowFits one × (tally .count < 4294967295) ⌝ }
-    ensures { λ r. ⌜ r ≡ addPair key tally (raceAtByte one other (sharedByte (rowRange one) (rowRange other))) ⌝ }
+fn add_clash(one: AccessRow, other: AccessRow, key: Key, sum: Sum) -> Sum
+    requires { ⌜ RowFits one × RowFits other × (sum .count < 4294967295) ⌝ }
+    ensures { λ r. ⌜ tallyIn r ≡ addPair key (tallyIn sum) (raceAtByte one other (sharedByte (rowRange one) (rowRange other))) ⌝ }
 {
-    match shared_byte(range_of(one), range_of(other)) {
-        Lowest::Byte(byte) => add_at(one, other, byte as u32, key, tally),
-        Lowest::Nothing => tally,
+    match lowest(one, other) {
+        Lowest::Byte(byte) => add_at(one, other, byte as u32, key, sum),
+        Lowest::Nothing => sum,
     }
 }
 
-// Whether the bounds of the j-th access meet a range: two words of its row are read.
-fn bounds_meet(rows: &[u32], j: u32, base: u32, last: u32) -> bool
-    ensures { λ r. ⌜ r ≡ boundsMeet base last (accessRowAt (now (rows .entry)) j .base) (accessRowAt (now (rows .entry)) j .last) ⌝ }
+// Whether the bounds of an access meet those of the j-th.
+fn bounds_meet(rows: &[u32], j: usize, one: AccessRow) -> bool
+    requires { ⌜ RowIn (now rows) j ⌝ }
+    ensures { λ r. ⌜ r ≡ rowsMeet one (accessRowAt (now (rows .entry)) j) ⌝ }
 {
-    let at = 8 * (j as usize);
-    (base <= word_at(rows, at + 7)) & (word_at(rows, at) <= last)
+    (one.base <= word_at(rows, j + 1024)) & (word_at(rows, j) <= one.last)
 }
 
-fn kind_at(rows: &[u32], j: u32) -> u8
-    ensures { λ r. ⌜ r ≡ accessRowAt (now (rows .entry)) j .kind ⌝ }
+// Whether locks and those of the j-th access have none in common.
+fn locks_apart(rows: &[u32], j: usize, locks: u64) -> bool
+    requires { ⌜ RowIn (now rows) j ⌝ }
+    ensures { λ r. ⌜ r ≡ locksApart locks (accessRowAt (now (rows .entry)) j .locks) ⌝ }
 {
-    (word_at(rows, 8 * (j as usize) + 4) / 256 / 256 % 256) as u8
+    let low = (locks % 4294967296) as u32;
+    let high = (locks / 4294967296) as u32;
+    ((low & word_at(rows, j + 2048)) | (high & word_at(rows, j + 3072))) == 0
 }
 
-fn locks_at(rows: &[u32], j: u32) -> u64
-    ensures { λ r. ⌜ r ≡ accessRowAt (now (rows .entry)) j .locks ⌝ }
+// Whether at least one of a kind and that of the j-th access writes, and not both are atomic.
+fn kinds_clash(rows: &[u32], j: usize, kind: u8) -> bool
+    requires { ⌜ RowIn (now rows) j ⌝ }
+    ensures { λ r. ⌜ r ≡ kindsClash kind (accessRowAt (now (rows .entry)) j .kind) ⌝ }
 {
-    let at = 8 * (j as usize);
-    word_at(rows, at + 5) as u64 + 4294967296 * (word_at(rows, at + 6) as u64)
+    let one = kind as u32;
+    let other = word_at(rows, j + 4096) / 256 / 256 % 256;
+    (1 <= one % 2 + other % 2) & (one / 2 + other / 2 < 2)
+}
+
+// Whether an access and the j-th race if they are not ordered and share a byte.
+fn passes(rows: &[u32], j: usize, one: AccessRow) -> bool
+    requires { ⌜ RowIn (now rows) j ⌝ }
+    ensures { λ r. ⌜ r ≡ rowsPass one (accessRowAt (now (rows .entry)) j) ⌝ }
+{
+    bounds_meet(rows, j, one) & (locks_apart(rows, j, one.locks) & kinds_clash(rows, j, one.kind))
+}
+
+// Which of 32 accesses pass with one, the first of them lowest. No branch and no call: the words are tested side by side.
+fn passing(rows: &[u32], first: usize, one: AccessRow) -> u32
+    requires { ⌜ BlockIn (now rows) first ⌝ }
+    ensures { λ r. ⌜ TestWord (λ j. rowsPass one (accessRowAt (now (rows .entry)) j)) first r ⌝ }
+{
+    let mut word: u32 = 0;
+    let mut k: usize = 0;
+    while k < 32 {
+        word = word | ((passes(rows, first + k, one) as u32) << k);
+        k += 1;
+    }
+    word
+}
+
+// Whether the bounds of one of 32 accesses meet those of another.
+fn some_meet(rows: &[u32], first: usize, one: AccessRow) -> bool
+    requires { ⌜ BlockIn (now rows) first ⌝ }
+    ensures { λ r. ⌜ (r ≡ false → NoneMeet one (now (rows .entry)) first 32) ⌝ }
+{
+    let mut some = false;
+    let mut k: usize = 0;
+    while k < 32 {
+        some = some | bounds_meet(rows, first + k, one);
+        k += 1;
+    }
+    some
 }
 
 fn segment_at(rows: &[u32], j: u32) -> u16
+    requires { ⌜ RowIn (now rows) j ⌝ }
     ensures { λ r. ⌜ r ≡ accessRowAt (now (rows .entry)) j .segment ⌝ }
 {
-    (word_at(rows, 8 * (j as usize) + 3) / 65536) as u16
+    (word_at(rows, j as usize + 7168) / 65536) as u16
 }
 
-// Whether an access and the j-th race if they share a byte. The cheap tests come first, and only their words are read.
-fn clash(matrix: &[u32], rows: &[u32], one: AccessRow, j: u32) -> bool
-    requires { ⌜ Within (now matrix) (one .segment) (accessRowAt (now rows) j .segment) ⌝ }
-    ensures { λ r. ⌜ r ≡ (boundsMeet (one .base) (one .last) (accessRowAt (now (rows .entry)) j .base) (accessRowAt (now (rows .entry)) j .last) && rowsClash (now (matrix .entry)) one (accessRowAt (now (rows .entry)) j)) ⌝ }
+// Whether an access and the j-th race if they share a byte; the lowest bit of `left` says whether they pass.
+fn clash(matrix: &[u32], rows: &[u32], one: AccessRow, left: u32, j: u32) -> bool
+    requires { ⌜ RowIn (now rows) j × Within (now matrix) (one .segment) (accessRowAt (now rows) j .segment) ⌝ }
+    ensures { λ r. ⌜ r ≡ (eqb (left % 2) 1 && unordered (now (matrix .entry)) (one .segment) (accessRowAt (now (rows .entry)) j .segment)) ⌝ }
 {
-    if !bounds_meet(rows, j, one.base, one.last) {
-        return false;
-    }
-    if !kinds_clash(one.kind, kind_at(rows, j)) {
-        return false;
-    }
-    if !locks_apart(one.locks, locks_at(rows, j)) {
+    if left % 2 == 0 {
         return false;
     }
     no_path(matrix, one.segment, segment_at(rows, j))
 }
 
-// Adds the races of an access with those before it. A pair that cannot race costs a few words and no call.
+// Adds the races of an access with those from `first` to `end` that pass with it.
+fn add_passing(
+    matrix: &[u32],
+    rows: &[u32],
+    one: AccessRow,
+    word: u32,
+    first: u32,
+    end: u32,
+    key: Key,
+    before: Sum,
+) -> Sum
+    requires { ⌜ BlockFits (now matrix) (now rows) one first end (before .count) × TestWord (λ j. rowsPass one (accessRowAt (now rows) j)) first word ⌝ }
+    ensures { λ r. ⌜ BlockTallied (now (matrix .entry)) (now (rows .entry)) key one first end (tallyIn before) (tallyIn r) ⌝ }
+{
+    let mut sum = before;
+    let mut left = word;
+    let mut j = first;
+    while j < end {
+        if left == 0 {
+            return sum;
+        }
+        if clash(matrix, rows, one, left, j) {
+            sum = add_clash(one, access_at(rows, j), key, sum);
+        }
+        left = left / 2;
+        j += 1;
+    }
+    sum
+}
+
+// Adds the races of an access with those from `first` to `end`, at most 32. Most often no bounds meet, and that is quick to tell.
+fn add_block(
+    matrix: &[u32],
+    rows: &[u32],
+    one: AccessRow,
+    first: u32,
+    end: u32,
+    key: Key,
+    sum: Sum,
+) -> Sum
+    requires { ⌜ BlockFits (now matrix) (now rows) one first end (sum .count) × BlockIn (now rows) first ⌝ }
+    ensures { λ r. ⌜ BlockTallied (now (matrix .entry)) (now (rows .entry)) key one first end (tallyIn sum) (tallyIn r) ⌝ }
+{
+    if !some_meet(rows, first as usize, one) {
+        return sum;
+    }
+    let word = passing(rows, first as usize, one);
+    add_passing(matrix, rows, one, word, first, end, key, sum)
+}
+
+// The end of the block of 32 that begins at `first`, of i accesses.
+fn block_end(first: u32, i: u32) -> u32
+    requires { ⌜ first < 1024 ⌝ }
+    ensures { λ r. ⌜ r ≡ min (first + 32) i ⌝ }
+{
+    let end = first + 32;
+    if end <= i { end } else { i }
+}
+
+// Adds the races of an access with the i before it, in blocks of 32.
 fn add_row(matrix: &[u32], rows: &[u32], one: AccessRow, i: u32, key: Key, tally: Tally) -> Tally
     requires { ⌜ TablesFit (now matrix) (now rows) i × RowFits one × (tally .count + i ≤ 4294967295) ⌝ }
     ensures { λ r. ⌜ r ≡ tallyRow (now (matrix .entry)) (now (rows .entry)) key one tally i ⌝ }
 {
-    let mut sum = tally;
-    let mut j = 0;
-    while j < i {
-        if clash(matrix, rows, one, j) {
-            sum = add_clash(one, access_at(rows, j), key, sum);
-        }
-        j += 1;
+    let mut sum = sum_of(tally);
+    let mut block = 0;
+    while 32 * block < i {
+        let first = 32 * block;
+        sum = add_block(matrix, rows, one, first, block_end(first, i), key, sum);
+        block += 1;
     }
-    sum
+    tally_of(sum)
 }
 
 fn no_tally() -> Tally

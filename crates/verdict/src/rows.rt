@@ -1,9 +1,10 @@
-// The row of an access in eight words of the work area.
+// The rows of the accesses in the second half of the work area: eight columns of 1,024 words, so that the words that many rows are tested
+// by lie side by side.
 ghost use mathlib.Core.Path.{_≡_};
 ghost use Prim.Native.Nat.{_+_, _*_, _<_};
 ghost use lib.ListN.{length, getD};
 ghost use Rattle.bundle.specs.Index.{Added};
-ghost use Rattle.verdict.specs.Working.{accessRowAt};
+ghost use Rattle.verdict.specs.Working.{accessRowAt, RowIn};
 
 // An access: its range and last byte, its name and site, the place of its segment among all, its kind (1 added where it writes, 2 where
 // it is atomic) and the locks that it holds.
@@ -22,27 +23,26 @@ pub struct AccessRow {
     pub last: u32,
 }
 
-// The word at an index; 0 past the end.
+// The word at an index.
 pub fn word_at(words: &[u32], i: usize) -> u32
+    requires { ⌜ i < length (now words) ⌝ }
     ensures { λ r. ⌜ r ≡ getD (now (words .entry)) i 0 ⌝ }
 {
-    if i < words.len() {
-        return words[i];
-    }
-    0
+    words[i]
 }
 
 // The row of the i-th access.
 pub fn access_at(rows: &[u32], i: u32) -> AccessRow
+    requires { ⌜ RowIn (now rows) i ⌝ }
     ensures { λ r. ⌜ r ≡ accessRowAt (now (rows .entry)) i ⌝ }
 {
-    let at = 8 * (i as usize);
-    let range = word_at(rows, at + 1);
-    let name = word_at(rows, at + 2);
-    let place = word_at(rows, at + 3);
-    let small = word_at(rows, at + 4);
-    let low = word_at(rows, at + 5) as u64;
-    let high = word_at(rows, at + 6) as u64;
+    let at = i as usize;
+    let low = word_at(rows, at + 2048) as u64;
+    let high = word_at(rows, at + 3072) as u64;
+    let small = word_at(rows, at + 4096);
+    let range = word_at(rows, at + 5120);
+    let name = word_at(rows, at + 6144);
+    let place = word_at(rows, at + 7168);
     AccessRow {
         base: word_at(rows, at),
         stride: (range % 65536) as u16,
@@ -55,7 +55,7 @@ pub fn access_at(rows: &[u32], i: u32) -> AccessRow
         member: (small / 256 % 256) as u8,
         kind: (small / 256 / 256 % 256) as u8,
         locks: low + 4294967296 * high,
-        last: word_at(rows, at + 7),
+        last: word_at(rows, at + 1024),
     }
 }
 
@@ -68,17 +68,17 @@ fn two(low: u16, high: u16) -> u32
 
 // Writes the row of the i-th access.
 pub fn add_access(rows: &mut [u32], i: u32, row: AccessRow)
-    requires { ⌜ 8 * i + 7 < length (now rows) ⌝ }
+    requires { ⌜ RowIn (now rows) i ⌝ }
     ensures { λ _. ⌜ Added accessRowAt (now (rows .entry)) (now (rows .exit)) i row ⌝ }
 {
-    let at = 8 * (i as usize);
+    let at = i as usize;
     let locks = row.locks;
     rows[at] = row.base;
-    rows[at + 1] = two(row.stride, row.count);
-    rows[at + 2] = two(row.team, row.number);
-    rows[at + 3] = two(row.site, row.segment);
-    rows[at + 4] = row.size as u32 + 256 * (row.member as u32 + 256 * (row.kind as u32));
-    rows[at + 5] = (locks % 4294967296) as u32;
-    rows[at + 6] = (locks / 4294967296) as u32;
-    rows[at + 7] = row.last;
+    rows[at + 1024] = row.last;
+    rows[at + 2048] = (locks % 4294967296) as u32;
+    rows[at + 3072] = (locks / 4294967296) as u32;
+    rows[at + 4096] = row.size as u32 + 256 * (row.member as u32 + 256 * (row.kind as u32));
+    rows[at + 5120] = two(row.stride, row.count);
+    rows[at + 6144] = two(row.team, row.number);
+    rows[at + 7168] = two(row.site, row.segment);
 }

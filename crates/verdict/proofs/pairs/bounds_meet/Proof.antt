@@ -1,6 +1,6 @@
 -- `verdict::pairs::bounds_meet` meets its contract. Assumes nothing.
-use Rattle.verdict.specs.Working.{accessRowAt}
 use borrow.Author.Needs.{needs}
+use Rattle.verdict.specs.Working.{accessRowAt}
 use Rattle.verdict.proofs.pairs.bounds_meet.Statement.{statement}
 use Rattle.verdict.proofs.pairs.bounds_meet.Tie as tie
 
@@ -12,7 +12,6 @@ pub bounds-meet-spec : {M : Type 1} → statement M
 bounds-meet-spec =
     tie.close
     (tie.spec
-    (λ c. search needs)
     (λ c. search needs)
     (λ c κs. search needs)
     (λ c κs. search needs)

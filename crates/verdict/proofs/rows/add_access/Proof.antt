@@ -1,37 +1,40 @@
 -- `verdict::rows::add_access` meets its contract. Assumes nothing.
 use native.Mathlib.Omega.{arith}
 use lib.ListN.{length-set}
-use Rattle.verdict.proofs.AccessRows.{row-added}
 use borrow.Author.Needs.{needs}
+use Rattle.verdict.proofs.AccessRows.{row-added}
 use Rattle.verdict.proofs.rows.add_access.Statement.{statement}
 use Rattle.verdict.proofs.rows.add_access.Tie as tie
 
 slice-write-rows-2 : tie.Need-slice-write-rows-2
-slice-write-rows-2 c = simp length-set (omega (arith, c .before .before .pre))
+slice-write-rows-2 c = simp length-set (omega (arith, c .before .pre .below, c .before .pre .whole))
 
 slice-write-rows-3 : tie.Need-slice-write-rows-3
-slice-write-rows-3 c = simp length-set (omega (arith, c .before .before .before .pre))
+slice-write-rows-3 c = simp length-set (omega (arith, c .before .pre .below, c .before .pre .whole))
 
 slice-write-rows-4 : tie.Need-slice-write-rows-4
-slice-write-rows-4 c = simp length-set (omega (arith, c .before .before .before .before .pre))
+slice-write-rows-4 c = simp length-set (omega (arith, c .before .pre .below, c .before .pre .whole))
 
 slice-write-rows-5 : tie.Need-slice-write-rows-5
-slice-write-rows-5 c = simp length-set (omega (arith, c .before .before .before .before .before .before .before .pre))
+slice-write-rows-5 c = simp length-set (omega (arith, c .before .before .before .before .pre .below, c .before .before .before .before .pre .whole))
 
 slice-write-rows-6 : tie.Need-slice-write-rows-6
-slice-write-rows-6 c = simp length-set (omega (arith, c .before .before .before .before .before .before .before .pre))
+slice-write-rows-6 c = simp length-set (omega (arith, c .before .before .before .before .before .pre .below, c .before .before .before .before .before .pre .whole))
 
 slice-write-rows-7 : tie.Need-slice-write-rows-7
-slice-write-rows-7 c = simp length-set (omega (arith, c .before .before .before .before .before .before .before .pre))
+slice-write-rows-7 c = simp length-set (omega (arith, c .before .before .before .before .before .before .pre .below, c .before .before .before .before .before .before .pre .whole))
 
 slice-write-rows-8 : tie.Need-slice-write-rows-8
-slice-write-rows-8 c = simp length-set (omega (arith, c .before .before .before .before .before .before .before .pre))
+slice-write-rows-8 c = simp length-set (omega (arith, c .before .before .before .before .before .before .before .pre .below, c .before .before .before .before .before .before .before .pre .whole))
 
 same-length : tie.Need-same-length
 same-length c = simp length-set
 
 returns : tie.Need-returns
-returns c = row-added _ _ _ _ _ _ (c .before .before .before .before .before .before .before .pre) (record { stride = search needs; team = search needs; site = search needs; size = search needs; member = search needs; kind = search needs }) (c .before .before .before .before .before .two .ensures) (c .before .before .before .before .two2 .ensures) (c .before .before .before .two3 .ensures)
+returns c =
+    row-added _ _ _ _ _ _ (c .before .before .before .before .before .before .before .pre)
+    (record { stride = search needs; team = search needs; site = search needs; size = search needs; member = search needs; kind = search needs })
+    (c .before .before .two .ensures) (c .before .two2 .ensures) (c .two3 .ensures)
 
 pub add-access-spec : {M : Type 1} → statement M
 add-access-spec =
@@ -40,15 +43,13 @@ add-access-spec =
     (λ c. search needs)
     (λ c. search needs)
     (λ c. search needs)
-    (λ c κs. search needs)
-    (λ c. search needs)
     (λ c. search needs)
     slice-write-rows-2
-    (λ c κs. search needs)
+    (λ c. search needs)
     (λ c. search needs)
     (λ c. search needs)
     slice-write-rows-3
-    (λ c κs. search needs)
+    (λ c. search needs)
     (λ c. search needs)
     (λ c. search needs)
     slice-write-rows-4
@@ -62,14 +63,15 @@ add-access-spec =
     (λ c. search needs)
     (λ c. search needs)
     slice-write-rows-5
-    (λ c. search needs)
+    (λ c κs. search needs)
     (λ c. search needs)
     (λ c. search needs)
     slice-write-rows-6
-    (λ c. search needs)
+    (λ c κs. search needs)
     (λ c. search needs)
     (λ c. search needs)
     slice-write-rows-7
+    (λ c κs. search needs)
     (λ c. search needs)
     (λ c. search needs)
     slice-write-rows-8
