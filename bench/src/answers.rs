@@ -1,11 +1,13 @@
 //! Answers of the plain Rust code, one for each line of standard input:
-//! `check HEX` gives `accepted` or `refused N at P`; `shared` and the two ranges' eight numbers give a number;
+//! `check HEX` gives `accepted` or `refused N at P`; `label TEAM MEMBER SEGMENT HEX` gives the numbers of the triples;
+//! `shared` and the two ranges' eight numbers give a number;
 //! `judge WORDS HEX`, `next WORDS KEY HEX` and `list HEX` give a judgement, a race or `none`, and a listing whose lines
 //! end in `;`. WORDS is the length of the work area, which is not clean before and must be left as document 01 says; KEY
 //! is a witness and two names, seven numbers.
 //! bench/compare_reader holds them to the second reader's.
 
 mod judge;
+mod label;
 mod ranges;
 mod reader;
 
@@ -24,6 +26,7 @@ fn main() {
                 Ok(()) => "accepted".to_string(),
                 Err(refusal) => refusal_text(refusal),
             },
+            "label" => label(&numbers(&words[..3]), &bytes_of(words[3])),
             "shared" => shared(&numbers(&words)),
             "judge" => judge(numbers(&words[..1])[0], &bytes_of(words[1])),
             "next" => next(&numbers(&words[..8]), &bytes_of(words[8])),
@@ -45,6 +48,13 @@ fn bytes_of(text: &str) -> Vec<u8> {
 
 fn refusal_text(refusal: Refusal) -> String {
     format!("refused {} at {}", refusal.number, refusal.place)
+}
+
+fn label(n: &[u32], bytes: &[u8]) -> String {
+    match label::label(bytes, n[0] as u16, n[1] as u8, n[2]) {
+        Ok(label) => label.concat().iter().map(u32::to_string).collect::<Vec<_>>().join(" "),
+        Err(refusal) => refusal_text(refusal),
+    }
 }
 
 fn shared(n: &[u32]) -> String {

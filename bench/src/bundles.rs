@@ -97,6 +97,15 @@ fn one_chunk(lock_bytes: usize) -> Vec<u8> {
     chunk
 }
 
+/// A root whose last segment is opened behind as many locks as there is room for.
+pub fn locks_before_barrier() -> Vec<u8> {
+    let mut chunk = member(0, 0);
+    chunk.extend(lock_pairs(65_528));
+    chunk.push(0x11);
+    end(&mut chunk);
+    chunk
+}
+
 /// The root forks teams 1 to 7 of 64 members, and team 8 of so many; with 55, 512 segments.
 fn wide_teams(last: u8) -> Vec<Chunk> {
     let size_of = |team| if team == 8 { last } else { 64 };

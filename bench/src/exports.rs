@@ -1,6 +1,7 @@
 //! The proved functions of the crate `exports`. Nothing checks these declarations against crates/exports/src.
 
 use crate::judge::{Judgement, Name, Race};
+use crate::label::Triple;
 use crate::reader::Refusal;
 
 extern "C" {
@@ -17,6 +18,15 @@ extern "C" {
 
     // A Rattle `&[u8]` is passed as a pointer and a length.
     fn dezhakom_check(bytes: *const u8, length: usize) -> u64;
+
+    fn dezhakom_label_of_segment(
+        bytes: *const u8,
+        length: usize,
+        team: u16,
+        member: u8,
+        segment: u32,
+        words: &mut [u32; 15],
+    ) -> u64;
 }
 
 /// A whole judgement.
@@ -42,6 +52,23 @@ pub const REFUSED: u64 = 1 << 40;
 /// 0 where the bytes are a bundle, or a refusal. The function has no `requires`, so any slice may be passed.
 pub fn check(bytes: &[u8]) -> u64 {
     unsafe { dezhakom_check(bytes.as_ptr(), bytes.len()) }
+}
+
+fn refusal_of(answer: u64) -> Refusal {
+    Refusal { number: (answer / REFUSED) as u32, place: (answer % REFUSED) as usize }
+}
+
+/// The triples of a label. The function sets all words, and has no `requires`.
+pub fn label(bytes: &[u8], team: u16, member: u8, segment: u32) -> Result<Vec<Triple>, Refusal> {
+    let mut words = [1; 15];
+    let answer =
+        unsafe { dezhakom_label_of_segment(bytes.as_ptr(), bytes.len(), team, member, segment, &mut words) };
+    let count = if answer < REFUSED { answer as usize } else { 0 };
+    assert!(words[3 * count..].iter().all(|&word| word == 0), "words past the label");
+    if answer >= REFUSED {
+        return Err(refusal_of(answer));
+    }
+    Ok(words[..3 * count].chunks(3).map(|triple| [triple[0], triple[1], triple[2]]).collect())
 }
 
 #[cfg(proved_judge)]
@@ -89,7 +116,7 @@ mod proved {
         };
         match answer {
             0 => Ok(None),
-            REFUSED.. => Err(Refusal { number: (answer / REFUSED) as u32, place: (answer % REFUSED) as usize }),
+            REFUSED.. => Err(refusal_of(answer)),
             _ => Ok(Some(Race {
                 witness: (answer - 1) as u32,
                 first: name(first),

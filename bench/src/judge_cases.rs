@@ -205,7 +205,7 @@ fn small(random: &mut Random) -> Vec<Chunk> {
 }
 
 /// Document 01's example, whose chunks stay in their order.
-fn example_e() -> Vec<Chunk> {
+pub fn example_e() -> Vec<Chunk> {
     let root = [0x01, 0, 0, 0, 0x10, 1, 0, 2, 0x02];
     let writer = [0x01, 1, 0, 0, 0x31, 0x0a, 0, 0, 0x10, 0, 0, 8, 0, 2, 0, 4, 0x11, 0x02];
     let reader = [0x01, 1, 0, 1, 0x30, 0x14, 0, 0x0a, 0x10, 0, 0, 0, 0, 1, 0, 4, 0x11, 0x02];

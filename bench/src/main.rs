@@ -6,6 +6,8 @@ mod generate;
 mod judge;
 mod judge_cases;
 mod judgements;
+mod label;
+mod labels;
 mod ranges;
 mod reader;
 
@@ -44,6 +46,8 @@ fn main() {
         all_equal &= time_check(case);
     }
     all_equal &= check_damaged(&cases, &mut random);
+    println!();
+    all_equal &= labels::compare(&cases, &mut Random::new(SEED));
     println!();
     all_equal &= judgements::compare(&mut random);
     println!();

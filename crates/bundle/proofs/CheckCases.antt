@@ -125,36 +125,6 @@ pub find-rows :
 unfolding endsOf
 find-rows s n m chunks forks team member x = rw (x .chunk-rows, x .accepted) (ends-chunks team member (chunksOf s))
 
--- a member's chunk by the index of its row
-pub record RowOf (cs : List Chunk) (t m : ℕ) (r : ChunkRow) : Type 0 where
-  pub chunk : Chunk
-  pub found : chunkOf cs t m ≡ some chunk
-  pub placed : chunk .place ≡ r .place
-
-module _
-    (cs : List Chunk) (f : ℕ → ChunkRow) (n t m i : ℕ)
-    (rows : table f n ≡ chunkRows cs)
-    (e : i ≡ indexOf (isRow t m) (table f n))
-  where
-    by-chunks : endsByRows (table f n) t m ≡ endsIn (chunkOf cs t m)
-    by-chunks = rw rows (ends-chunks t m cs)
-
-    pub row-none : n ≤ i → chunkOf cs t m ≡ none
-    row-none h = go (chunkOf cs t m) (ends-none f n t m i e h ∙ by-chunks)
-      where
-        go : (o : Option Chunk) → refuses 14 0 ≡ endsIn o → o ≡ none
-        go none q = refl
-        go (some c) q = let z : _≡_ {A = ℕ} 0 1 = cc in absurd (omega arith)
-
-    pub row-some : i < n → {r : ChunkRow} → r ≡ f i → RowOf cs t m r
-    row-some h {r} q = go (chunkOf cs t m) refl (ends-some f n t m i e h q ∙ by-chunks)
-      where
-        go : (o : Option Chunk) → chunkOf cs t m ≡ o → gives (record { start = r .place; end = r .past }) ≡ endsIn o → RowOf cs t m r
-        go none w x = let z : _≡_ {A = ℕ} 0 1 = cc in absurd (omega arith)
-        go (some c) w x =
-            let ends : _≡_ {A = Ends} (record { start = c .place; end = c .past }) (record { start = r .place; end = r .past }) = cc in
-            record { chunk = c; found = w; placed = ap (λ (d : Ends). d .start) ends }
-
 pub find-refused : (s : List ℕ) (t m n p : ℕ) → checkOf s ≡ refuses n p → refuses n p ≡ endsOf s t m
 unfolding endsOf
 find-refused s t m n p e = rw e

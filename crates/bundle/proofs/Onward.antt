@@ -3,7 +3,7 @@ use Prim.Native.Nat.{ℕ, zero, suc, _+_, _≤_, _<_}
 use mathlib.Core.Path.{_≡_, refl, sym, _∙_, ap, subst}
 use mathlib.Core.Logic.{_⊎_, inl, inr, ⊎-elim}
 use mathlib.Core.Bool.{true, false}
-use mathlib.Core.List.{List, [], _∷_, _++_, map, nil≢cons, head-eq-of-cons-eq, tail-eq-of-cons-eq, List·Memᴰ, List·Memᴰ·head, List·Memᴰ·tail, List·Memᴰ·not-nil, List·Memᴰ·cases-cons}
+use mathlib.Core.List.{List, [], _∷_, map, List·Memᴰ, List·Memᴰ·head, List·Memᴰ·tail, List·Memᴰ·not-nil, List·Memᴰ·cases-cons}
 use native.Mathlib.Omega.{arith}
 use native.Mathlib.Nat.{add-zero}
 use lib.ListN.{length}
@@ -22,14 +22,14 @@ use Rattle.bundle.specs.declared.chunk.ChunkState.{ChunkState}
 use Rattle.bundle.specs.declared.chunk.Scan.{Scan}
 use Rattle.bundle.specs.declared.command.Command.{Command}
 use Rattle.bundle.specs.declared.command.Command.the-variants as Com
-use Rattle.bundle.proofs.Tests.{decide, and-right}
+use Rattle.bundle.proofs.Tests.{decide}
 use Rattle.bundle.proofs.Delimiters.{on-plain, on-other, Forking, forks-team, forks-none, forkings}
 use Rattle.bundle.proofs.ListLaws.{all-elim, concatMap-elim}
 use Rattle.bundle.proofs.Decoding.{decode-reads, read-next}
 use Rattle.bundle.proofs.Printing.{front-stops, front-goes}
 use Rattle.bundle.proofs.Scanning.{total, uncounted, orderly, orderly-head, orderly-tail, Room, Passed, walk-elim}
 use Rattle.bundle.proofs.Gathering.{plain, Body, ends, goes, Formed, placedOf, logOf, all-in-chunks}
-use Rattle.bundle.proofs.ScanChunks.{scan-chunk, scan-chunks, commands-of-chunks}
+use Rattle.bundle.proofs.ScanChunks.{scan-chunks, commands-of-chunks}
 use Rattle.bundle.proofs.Shaped.{Shaped, shaped-elim}
 use Rattle.bundle.proofs.Reorder.{Checked, checked, orderly-range, scan-passed}
 
@@ -126,61 +126,6 @@ legible s a = go (scan-passed s (k .scan) (k .scan-ok))
               order = rw (ap (map (λ (q : Placed). q .command)) parts ∙ commands-of-chunks (chunksOf s)) at (p .order);
               shaped = shaped-elim (chunksOf s) (k .shape);
             }
-
--- the commands behind the first ones
-onward-tail : {s : List ℕ} {at : ℕ} {p : Placed} {ps : List Placed} → Onward s at (p ∷ ps) → (at′ : ℕ) × Onward s at′ ps
-onward-tail {p = p} {ps = ps} o = go o refl
-  where
-    go : {s : List ℕ} {at : ℕ} {qs : List Placed} → Onward s at qs → qs ≡ p ∷ ps → (at′ : ℕ) × Onward s at′ ps
-    go (at-end l) e = absurd (nil≢cons e)
-    go {s = s} (goes-on {t = t} q o′) e = (t .next, subst (Onward s (t .next)) (tail-eq-of-cons-eq e) o′)
-
-onward-behind : {s : List ℕ} {at : ℕ} (xs ys : List Placed) → Onward s at (xs ++ ys) → (at′ : ℕ) × Onward s at′ ys
-onward-behind {at = at} [] ys o = (at, o)
-onward-behind (x ∷ xs) ys o = onward-behind xs ys (onward-tail o .1)
-
-onward-head : {s : List ℕ} {at : ℕ} {p : Placed} {ps : List Placed} → Onward s at (p ∷ ps) → at ≡ p .at
-onward-head {p = p} {ps = ps} o = go o refl
-  where
-    go : {s : List ℕ} {at : ℕ} {qs : List Placed} → Onward s at qs → qs ≡ p ∷ ps → at ≡ p .at
-    go (at-end l) e = absurd (nil≢cons e)
-    go (goes-on q o′) e = ap (λ (x : Placed). x .at) (head-eq-of-cons-eq e)
-
--- a chunk's commands are read from its MEMBER on, and pass the scan's tests
-pub record ChunkRead (s : List ℕ) (c : Chunk) : Type 0 where
-  pub behind : List Placed
-  pub onwards : Onward s (c .place) (placedOf c ++ behind)
-  pub order : orderly start (map (λ (p : Placed). p .command) (placedOf c ++ behind)) ≡ true
-
-chunks-read :
-    (s : List ℕ) (at : ℕ) (cs : List Chunk) (c : Chunk)
-    → ((d : Chunk) → List·Memᴰ d cs → Formed d)
-    → Onward s at (concatMap placedOf cs)
-    → orderly start (concatMap logOf cs) ≡ true
-    → List·Memᴰ c cs
-    → ChunkRead s c
-chunks-read s at [] c f o r m = absurd (List·Memᴰ·not-nil m)
-chunks-read s at (d ∷ ds) c f o r m =
-    ⊎-elim
-    (λ (e : c ≡ d).
-    let here : at ≡ d .place = unfold placedOf in (onward-head o) in
-    rw e
-    (record {
-      behind = concatMap placedOf ds;
-      onwards = subst (λ (n : ℕ). Onward s n (placedOf d ++ concatMap placedOf ds)) here o;
-      order = ap (orderly start) (commands-of-chunks (d ∷ ds)) ∙ r;
-    }))
-    (λ l.
-    let w = onward-behind (placedOf d) (concatMap placedOf ds) o in
-    let apart = sym (scan-chunk d (concatMap logOf ds) (f d (List·Memᴰ·head refl))) ∙ r in
-    let rest = and-right (orderly start (logOf d)) (orderly start (concatMap logOf ds)) apart in
-    chunks-read s (w .0) ds c (λ x k. f x (List·Memᴰ·tail k)) (w .1) rest l)
-    (List·Memᴰ·cases-cons m)
-
-pub chunk-read : (s : List ℕ) → Accepted s → (c : Chunk) → List·Memᴰ c (chunksOf s) → ChunkRead s c
-chunk-read s a c m =
-    let k = legible s a in
-    chunks-read s 0 (chunksOf s) c (k .formed) (rw (k .parts) at (k .onwards)) (k .order) m
 
 -- "A REGION's team number is greater than that of the chunk it stands in"
 scanned-plain : (k : Scan) (c : Command) → plain c ≡ true → uncounted (scanned k c) .team ≡ k .team

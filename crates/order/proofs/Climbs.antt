@@ -9,25 +9,26 @@ use native.Mathlib.Numerals.{add-one}
 use lib.ListN.{length, replicate, set, getElem?, getD, length-append}
 use lib.Seq.{take-append-seam}
 use lib.Dec.{eqb}
-use borrow.Author.Tests.{eqb-true, ne-eqb, ltb-false}
+use borrow.Author.Tests.{eqb-true, ne-eqb, ltb-false, lt-ltb, le-ltb}
 use Rattle.bundle.specs.Answer.{Answer, gives, refuses}
 use Rattle.bundle.specs.Lists.{fromOption}
 use Rattle.bundle.specs.Chunks.{Chunk, chunksOf, chunkOf}
 use Rattle.bundle.specs.Walk.{Segment, segmentsIn, forksOf}
 use Rattle.bundle.specs.Check.{forkOf, sizeOf, depthFrom, depthOf, checkOf, Accepted}
-use Rattle.bundle.specs.Index.{forkRowOf, forkRowAt, table, indexOf, Indexed}
+use Rattle.bundle.specs.Index.{isRow, chunkRowAt, forkRowOf, forkRowAt, table, indexOf, Indexed}
 use Rattle.bundle.specs.declared.chunk.ChunkState.{ChunkState}
+use Rattle.bundle.specs.declared.index.ChunkRow.{ChunkRow}
 use Rattle.bundle.specs.declared.index.Fork.{Fork}
 use Rattle.bundle.proofs.ListLaws.{first-some}
 use Rattle.bundle.proofs.Tables.{first-at, first-past}
 use Rattle.bundle.proofs.Onward.{legible, team-falls}
 use Rattle.order.specs.Labels.{lastTriple, forkLabel, segmentLabel, labelOf, counted, blank, holding, Labelled}
-use Rattle.order.specs.Climbing.{stateIn, stateOf, stateReached, SegmentFound, Climbable, tripleOf, extended, chunkLabelOf, labelIn}
+use Rattle.order.specs.Climbing.{joinedBefore, openedIn, stateByRows, Climbable, Joinable, tripleOf, extended, chunkLabelOf, labelIn, labelByRows}
 use Rattle.order.specs.declared.label.Triple.{Triple}
 use Rattle.order.specs.declared.label.Label.{Label}
-use Rattle.order.specs.declared.climb.Walking.{Walking}
 use Rattle.order.specs.declared.climb.ChunkLabel.{ChunkLabel}
 use Rattle.order.specs.declared.climb.LabelAnswer.the-variants as Ans
+use Rattle.order.proofs.SegmentRows.{unlocked, stateIn, stateOf, joined-few, joined-earlier, state-by-rows}
 
 pub span-fits : (size regions : ℕ) → size < 256 → regions ≤ 65536 → size * regions ≤ 16711680
 span-fits size regions h l = let most : size ≤ 255 = omega arith in mul-le-mul most l
@@ -164,12 +165,13 @@ module _ (row : ℕ → Fork) (n t i : ℕ) (e : i ≡ indexOf (λ (f : Fork). e
   unfolding forkOf
   fork-some h q = first-at (λ (f : Fork). eqb (f .team) t) row n i e h ∙ ap some (sym q)
 
-pub row-few : (words : List ℕ) (i : ℕ) {f : Fork} → f ≡ forkRowAt words i → f .state .regions ≤ 65536
+pub row-few : (words : List ℕ) (i : ℕ) {f : Fork} → f ≡ forkRowAt words i → (f .state .barriers ≤ 65536) × (f .state .regions ≤ 65536)
 unfolding forkRowAt forkRowOf
 row-few words i e =
-    let few : getD words (3 * i + 1) 0 / 65536 % 65536 < 65536 = mod-lt (getD words (3 * i + 1) 0 / 65536) (omega arith) in
-    let most : getD words (3 * i + 1) 0 / 65536 % 65536 ≤ 65536 = omega arith in
-    rw e most
+    let w = getD words (3 * i + 1) 0 in
+    let b : w % 65536 < 65536 = mod-lt w (omega arith) in
+    let r : w / 65536 % 65536 < 65536 = mod-lt (w / 65536) (omega arith) in
+    rw e (omega arith, omega arith)
 
 holding-counted : (ts : List Triple) → counted (holding ts) ≡ ts
 unfolding counted holding
@@ -182,8 +184,29 @@ pub labelled :
     → Labelled (record { answer = Ans.Found; label = l }) (labelIn fs t m (some k))
 labelled fs t m k l e = rw e (record { answer = ap gives (holding-counted (segmentLabel fs t m k)); label = refl })
 
-labels : (s : List ℕ) (t m number : ℕ) → Accepted s → labelIn (forksOf (chunksOf s)) t m (stateOf s t m number) ≡ labelOf s t m number
-unfolding labelOf stateOf stateIn
+-- by the index of the chunk's row
+module _ (row : ℕ → ChunkRow) (fs : List Fork) (n t m number i : ℕ) (e : i ≡ indexOf (isRow t m) (table row n)) where
+  pub chunk-missing : n ≤ i → refuses 14 0 ≡ labelByRows (table row n) fs t m number
+  unfolding stateByRows
+  chunk-missing h = rw (first-past (isRow t m) row n i e h)
+
+  module _ (h : i < n) {r : ChunkRow} (q : r ≡ row i) {joined : ℕ} (w : joined ≡ joinedBefore fs t m number) where
+    in-row : openedIn (r .barriers) joined number ≡ stateByRows (table row n) fs t m number
+    unfolding stateByRows
+    in-row = rw (first-at (isRow t m) row n i e h, q, w)
+
+    pub segment-missing : r .barriers < number - joined → refuses 14 0 ≡ labelByRows (table row n) fs t m number
+    unfolding openedIn
+    segment-missing l = rw (← in-row, lt-ltb (r .barriers) (number - joined) l)
+
+    pub segment-there :
+        number - joined ≤ r .barriers
+        → labelIn fs t m (some (record { barriers = number - joined; regions = joined; locks = 0 })) ≡ labelByRows (table row n) fs t m number
+    unfolding openedIn
+    segment-there l = rw (← in-row, le-ltb (r .barriers) (number - joined) l)
+
+labels : (s : List ℕ) (t m number : ℕ) → Accepted s → labelIn (forksOf (chunksOf s)) t m (unlocked (stateOf s t m number)) ≡ labelOf s t m number
+unfolding labelOf stateOf stateIn segmentLabel lastTriple
 labels s t m number a = rw a (go (chunkOf (chunksOf s) t m))
   where
     fs : List Fork
@@ -195,13 +218,13 @@ labels s t m number a = rw a (go (chunkOf (chunksOf s) t m))
     inChunk : Option Segment → Answer (List Triple)
     inChunk o = fromOption (refuses 14 0) (λ (g : Segment). gives (segmentLabel fs t m (g .state))) o
 
-    one : (o : Option Segment) → labelIn fs t m (fromOption none inSegment o) ≡ inChunk o
+    one : (o : Option Segment) → labelIn fs t m (unlocked (fromOption none inSegment o)) ≡ inChunk o
     one none = refl
     one (some g) = refl
 
     go :
         (o : Option Chunk)
-        → labelIn fs t m (fromOption none (λ (c : Chunk). fromOption none inSegment (getElem? (segmentsIn c) number)) o)
+        → labelIn fs t m (unlocked (fromOption none (λ (c : Chunk). fromOption none inSegment (getElem? (segmentsIn c) number)) o))
         ≡ fromOption (refuses 14 0) (λ (c : Chunk). inChunk (getElem? (segmentsIn c) number)) o
     go none = refl
     go (some c) = one (getElem? (segmentsIn c) number)
@@ -210,12 +233,18 @@ module _ {s : List ℕ} {n m : ℕ} {chunks forks : List ℕ} (x : Indexed s n m
   pub climbable-rows : Climbable (table (forkRowAt forks) m)
   climbable-rows = rw (x .fork-rows) (climbable s (x .accepted))
 
+  pub joinable-rows : (team member number : ℕ) → Joinable (table (forkRowAt forks) m) team member number
+  joinable-rows team member number =
+      record {
+        few = omega (arith, joined-few team member number (forkRowAt forks) m, x .few);
+        earlier = rw (x .fork-rows) (joined-earlier s (x .accepted) team member number);
+      }
+
   pub found-label :
-      (team member number : ℕ) {w : Walking}
-      → SegmentFound s team member number w
-      → labelIn (table (forkRowAt forks) m) team member (stateReached w) ≡ labelOf s team member number
-  found-label team member number f =
-      ap₂ (λ (fs : List Fork) (o : Option ChunkState). labelIn fs team member o) (x .fork-rows) (f .state)
+      (team member number : ℕ) → labelByRows (table (chunkRowAt chunks) n) (table (forkRowAt forks) m) team member number ≡ labelOf s team member number
+  found-label team member number =
+      ap₂ (λ (rs : List ChunkRow) (fs : List Fork). labelByRows rs fs team member number) (x .chunk-rows) (x .fork-rows)
+      ∙ ap (labelIn (forksOf (chunksOf s)) team member) (state-by-rows s (x .accepted) team member number)
       ∙ labels s team member number (x .accepted)
 
 pub check-refuses : (s : List ℕ) (t m number : ℕ) {n p : ℕ} → checkOf s ≡ refuses n p → refuses n p ≡ labelOf s t m number

@@ -5,5 +5,5 @@ pub mod Computing
 pub mod SharedByte
 pub mod Euclid
 pub mod PairBytes
-pub mod Walks
+pub mod SegmentRows
 pub mod Climbs

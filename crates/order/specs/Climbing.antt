@@ -1,101 +1,50 @@
 -- What the inner functions of a segment's label ask and promise.
-use Prim.Native.Nat.{ℕ, suc, _+_, _*_, _≤_, _<_}
-use mathlib.Core.Path.{_≡_}
-use mathlib.Core.Bool.{true, false}
+use Prim.Native.Nat.{ℕ, suc, _+_, _-_, _*_, _≤_, _<_}
+use mathlib.Core.Bool.{cond, _&&_}
 use mathlib.Core.List.{List, List·Memᴰ}
 use mathlib.Core.Option.{Option, none, some}
-use lib.ListN.{getElem?, set}
+use lib.Dec.{eqb, ltb}
+use lib.ListN.{set}
 use Rattle.bundle.specs.Answer.{Answer, gives, refuses}
-use Rattle.bundle.specs.Lists.{fromOption}
-use Rattle.bundle.specs.Cases.{onDelimiter}
-use Rattle.bundle.specs.Commands.{Taken, inRange, readAt}
-use Rattle.bundle.specs.Chunks.{Chunk, fresh, afterCommand, chunksOf, chunkOf}
-use Rattle.bundle.specs.Walk.{Segment, segmentsIn}
-use Rattle.bundle.specs.Scan.{misusesLock}
-use Rattle.bundle.specs.Check.{sizeOf, depthOf, Accepted}
-use Rattle.bundle.specs.Index.{table, chunkRowAt, chunkRows}
+use Rattle.bundle.specs.Lists.{first, fromOption}
+use Rattle.bundle.specs.Check.{sizeOf, depthOf}
+use Rattle.bundle.specs.Index.{isRow, total}
 use Rattle.bundle.specs.declared.chunk.ChunkState.{ChunkState}
-use Rattle.bundle.specs.declared.command.Command.{Command}
+use Rattle.bundle.specs.declared.index.ChunkRow.{ChunkRow}
 use Rattle.bundle.specs.declared.index.Fork.{Fork}
 use Rattle.order.specs.Labels.{forkLabel, segmentLabel, holding}
 use Rattle.order.specs.declared.label.Triple.{Triple}
 use Rattle.order.specs.declared.label.Label.{Label}
-use Rattle.order.specs.declared.climb.Walk.{Walk}
-use Rattle.order.specs.declared.climb.Walking.{Walking}
-use Rattle.order.specs.declared.climb.Walking.the-variants as Walks
 use Rattle.order.specs.declared.climb.ChunkLabel.{ChunkLabel}
 
--- a walk over a chunk's commands, if it goes on
-abbrev pub walkingOf : Walking → Option Walk
-walkingOf (Walks.Onward w) = some w
-walkingOf Walks.Ended = none
+-- whether a REGION is of a member's chunk and stands before the segment of a number is opened, 1 or 0: each barrier and each region opens
+-- a segment; and how many there are
+unfoldable pub joinsBefore : ℕ → ℕ → ℕ → Fork → ℕ
+joinsBefore t m number f =
+    cond ((eqb (f .parent) t && eqb (f .member) m) && ltb (f .state .barriers + f .state .regions) number) 1 0
 
--- the walk after a command: MEMBER begins the chunk's state, and END ends the chunk
-unfoldable pub walkedOn : ChunkState → Command → ℕ → Option Walk
-walkedOn k c next =
-    onDelimiter (some (record { at = next; state = afterCommand k c })) (λ t m. some (record { at = next; state = fresh })) none c
+unfoldable pub joinedBefore : List Fork → ℕ → ℕ → ℕ → ℕ
+joinedBefore fs t m number = total (joinsBefore t m number) fs
 
-abbrev pub walkedRead : ChunkState → Answer Taken → Option Walk
-walkedRead k (gives t) = walkedOn k (t .command) (t .next)
-walkedRead k (refuses n p) = none
+-- the state in which the segment of a number is opened, without the locks, in a chunk that passes so many barriers and joins so many
+-- regions before it; and by the rows of a bundle
+unfoldable pub openedIn : ℕ → ℕ → ℕ → Option ChunkState
+openedIn barriers regions number =
+    cond (ltb barriers (number - regions)) none (some (record { barriers = number - regions; regions = regions; locks = 0 }))
 
-unfoldable pub walkNext : List ℕ → Walk → Option Walk
-walkNext s w = walkedRead (w .state) (readAt s (w .at))
-
--- each barrier and each region opens a segment
-abbrev pub segmentNumber : ChunkState → ℕ
-segmentNumber k = k .barriers + k .regions
-
--- a command that passes in a chunk's state, and a walk at such a command
-pub record Passable (k : ChunkState) (c : Command) : Type 0 where
-  pub few : segmentNumber k ≤ 65536
-  pub ranged : inRange c ≡ true
-  pub locks : misusesLock (k .locks) c ≡ false
-
-pub record Steady (s : List ℕ) (w : Walk) : Type 0 where
-  pub few : segmentNumber (w .state) ≤ 65536
-  pub locks : (t : Taken) → readAt s (w .at) ≡ gives t → misusesLock (w .state .locks) (t .command) ≡ false
-
--- the state in which the segment of a number is opened, in a chunk and in a bundle
-unfoldable pub stateIn : Chunk → ℕ → Option ChunkState
-stateIn c number = fromOption none (λ (g : Segment). some (g .state)) (getElem? (segmentsIn c) number)
-
-unfoldable pub stateOf : List ℕ → ℕ → ℕ → ℕ → Option ChunkState
-stateOf s t m number = fromOption none (λ (c : Chunk). stateIn c number) (chunkOf (chunksOf s) t m)
-
--- the state that a walk has reached, in which few regions are joined
-abbrev pub stateReached : Walking → Option ChunkState
-stateReached (Walks.Onward w) = some (w .state)
-stateReached Walks.Ended = none
-
-abbrev pub FewJoined : Walking → Type 0
-FewJoined (Walks.Onward w) = w .state .regions ≤ 65536
-FewJoined Walks.Ended = Unit
-
--- a chunk of an accepted bundle stands at an offset
-pub record ChunkAt (s : List ℕ) (place : ℕ) : Type 0 where
-  pub accepted : Accepted s
-  pub chunk : Chunk
-  pub present : List·Memᴰ chunk (chunksOf s)
-  pub placed : chunk .place ≡ place
-
-pub record Reached (s : List ℕ) (place number : ℕ) (r : Walking) : Type 0 where
-  pub state : (c : Chunk) → List·Memᴰ c (chunksOf s) → c .place ≡ place → stateReached r ≡ stateIn c number
-  pub few : FewJoined r
-
--- the words hold the rows of an accepted bundle's chunks
-pub record ChunksIn (s chunks : List ℕ) (n : ℕ) : Type 0 where
-  pub accepted : Accepted s
-  pub rows : table (chunkRowAt chunks) n ≡ chunkRows (chunksOf s)
-
-pub record SegmentFound (s : List ℕ) (t m number : ℕ) (r : Walking) : Type 0 where
-  pub state : stateReached r ≡ stateOf s t m number
-  pub few : FewJoined r
+unfoldable pub stateByRows : List ChunkRow → List Fork → ℕ → ℕ → ℕ → Option ChunkState
+stateByRows rs fs t m number =
+    fromOption none (λ (r : ChunkRow). openedIn (r .barriers) (joinedBefore fs t m number) number) (first (isRow t m) rs)
 
 -- REGIONs that lead to the root: team numbers fall, "Teams nest at most 4 deep below the root"
 pub record Climbable (fs : List Fork) : Type 0 where
   pub falls : (f : Fork) → List·Memᴰ f fs → f .parent < f .team
   pub shallow : (f : Fork) → List·Memᴰ f fs → depthOf fs (f .team) ≤ 4
+
+-- the regions that a member joins before a segment are few, and each opens a segment before it
+pub record Joinable (fs : List Fork) (t m number : ℕ) : Type 0 where
+  pub few : joinedBefore fs t m number ≤ 65536
+  pub earlier : joinedBefore fs t m number ≤ number
 
 -- the last triple of a segment's label, and a label with one triple more
 unfoldable pub tripleOf : ℕ → ChunkState → ℕ → Triple
@@ -111,3 +60,6 @@ chunkLabelOf fs team = record { label = holding (forkLabel (suc team) fs team); 
 -- the label of the segment that is opened in a state, or 14
 abbrev pub labelIn : List Fork → ℕ → ℕ → Option ChunkState → Answer (List Triple)
 labelIn fs t m = fromOption (refuses 14 0) (λ (k : ChunkState). gives (segmentLabel fs t m k))
+
+abbrev pub labelByRows : List ChunkRow → List Fork → ℕ → ℕ → ℕ → Answer (List Triple)
+labelByRows rs fs t m number = labelIn fs t m (stateByRows rs fs t m number)

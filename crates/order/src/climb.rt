@@ -4,9 +4,6 @@ use crate::label::Triple;
 use bundle::check::Indexing;
 use bundle::check::index_bundle;
 use bundle::chunk::ChunkState;
-use bundle::command::Command;
-use bundle::command::Reading;
-use bundle::command::read_command;
 use bundle::index::chunk_at;
 use bundle::index::chunk_of;
 use bundle::index::fork_at;
@@ -14,30 +11,11 @@ use bundle::index::fork_of;
 use bundle::refusal::Cause;
 ghost use mathlib.Core.Path.{_≡_};
 ghost use mathlib.Core.List.{[]};
-ghost use mathlib.Core.Option.{some};
 ghost use Prim.Native.Nat.{_≤_, _<_};
 ghost use Rattle.bundle.specs.Answer.{refuses, numberOf};
-ghost use Rattle.bundle.specs.Index.{table, forkRowAt};
+ghost use Rattle.bundle.specs.Index.{table, chunkRowAt, forkRowAt};
 ghost use Rattle.order.specs.Labels.{holding, segmentLabel, labelOf, Labelled};
-ghost use Rattle.order.specs.Climbing.{
-  walkingOf,
-  walkedOn,
-  walkNext,
-  segmentNumber,
-  Passable,
-  Steady,
-  ChunkAt,
-  Reached,
-  FewJoined,
-  stateReached,
-  ChunksIn,
-  SegmentFound,
-  Climbable,
-  tripleOf,
-  extended,
-  chunkLabelOf,
-  labelIn,
-};
+ghost use Rattle.order.specs.Climbing.{joinsBefore, joinedBefore, labelByRows, Climbable, Joinable, tripleOf, extended, chunkLabelOf};
 
 // What is answered for a segment's label: that it is found, and stands beside this, or a refusal.
 pub enum LabelAnswer {
@@ -51,18 +29,6 @@ pub struct Labelling {
     pub label: Label,
 }
 
-// How far a walk over a chunk's commands is: the position, and the chunk's state there.
-struct Walk {
-    at: usize,
-    state: ChunkState,
-}
-
-// A walk that goes on from here, or whose chunk has ended.
-enum Walking {
-    Onward(Walk),
-    Ended,
-}
-
 // What the labels of a chunk's segments have in common: the label of the segment that forked the team, empty for the root,
 // and the team's size.
 struct ChunkLabel {
@@ -70,89 +36,30 @@ struct ChunkLabel {
     size: u8,
 }
 
-fn go_on(next: usize, state: ChunkState) -> Walking
-    ensures { λ r. ⌜ walkingOf r ≡ some (record { at = next; state = state }) ⌝ }
+// 1 for the i-th REGION where it is of a member's chunk and stands before the segment of a number is opened; else 0.
+fn joins(forks: &[u64], i: u32, team: u16, member: u8, number: u32) -> u32
+    ensures { λ r. ⌜ r ≡ joinsBefore team member number (forkRowAt (now (forks .entry)) i) ⌝ }
 {
-    Walking::Onward(Walk { at: next, state })
-}
-
-// The walk after a command: MEMBER begins the chunk's state, and END ends the chunk.
-fn after(state: ChunkState, command: Command, next: usize) -> Walking
-    requires { ⌜ Passable state command ⌝ }
-    ensures { λ r. ⌜ walkingOf r ≡ walkedOn state command next ⌝ }
-{
-    match command {
-        Command::Member { team: _, member: _ } => go_on(next, ChunkState::fresh()),
-        Command::End => Walking::Ended,
-        Command::Region { team: _, size: _ } => go_on(next, state.after_join()),
-        Command::Barrier => go_on(next, state.after_barrier()),
-        Command::Acquire(lock) => go_on(next, state.after_acquire(lock)),
-        Command::Release(lock) => go_on(next, state.after_release(lock)),
-        Command::Access(_) => go_on(next, state),
+    let fork = fork_at(forks, i);
+    let state = fork.state;
+    let open = state.barriers + state.regions;
+    if (fork.parent == team) & (fork.member == member) & (open < number) {
+        return 1;
     }
+    0
 }
 
-// The walk after the command at its position.
-fn walk_on(bytes: &[u8], walk: Walk) -> Walking
-    requires { ⌜ Steady (now bytes) walk ⌝ }
-    ensures { λ r. ⌜ walkingOf r ≡ walkNext (now (bytes .entry)) walk ⌝ }
+// How many regions a member has joined where its segment of a number is opened.
+fn joined_before(forks: &[u64], count: u32, team: u16, member: u8, number: u32) -> u32
+    ensures { λ r. ⌜ r ≡ joinedBefore (table (forkRowAt (now (forks .entry))) count) team member number ⌝ }
 {
-    let reading = read_command(bytes, walk.at);
-    let Reading::Taken { next, command } = reading else {
-        return Walking::Ended;
-    };
-    after(walk.state, command, next)
-}
-
-// The number of the segment that a walk is in: each barrier and each region opens one.
-fn segment_of(walk: Walk) -> u32
-    requires { ⌜ segmentNumber (walk .state) ≤ 65536 ⌝ }
-    ensures { λ r. ⌜ r ≡ segmentNumber (walk .state) ⌝ }
-{
-    let state = walk.state;
-    state.barriers + state.regions
-}
-
-// Walks from a chunk's MEMBER, at `place`, to where the segment of a number is opened.
-fn walk_to(bytes: &[u8], place: usize, number: u32) -> Walking
-    requires { ⌜ ChunkAt (now bytes) place ⌝ }
-    ensures { λ r. ⌜ Reached (now (bytes .entry)) place number r ⌝ }
-{
-    let mut walk = Walk {
-        at: place,
-        state: ChunkState::fresh(),
-    };
-    while segment_of(walk) < number {
-        match walk_on(bytes, walk) {
-            Walking::Onward(next) => {
-                walk = next;
-            }
-            Walking::Ended => {
-                return Walking::Ended;
-            }
-        }
+    let mut joined = 0;
+    let mut i = 0;
+    while i < count {
+        joined += joins(forks, i, team, member, number);
+        i += 1;
     }
-    Walking::Onward(walk)
-}
-
-// The walk to where a member's segment is opened, by the rows of the chunks.
-fn find_segment(
-    bytes: &[u8],
-    chunks: &[u64],
-    count: u32,
-    team: u16,
-    member: u8,
-    number: u32,
-) -> Walking
-    requires { ⌜ ChunksIn (now bytes) (now chunks) count ⌝ }
-    ensures { λ r. ⌜ SegmentFound (now (bytes .entry)) team member number r ⌝ }
-{
-    let i = chunk_of(chunks, count, team, member);
-    if count <= i {
-        return Walking::Ended;
-    }
-    let row = chunk_at(chunks, i);
-    walk_to(bytes, row.place, number)
+    joined
 }
 
 // The last triple of a segment's label.
@@ -241,17 +148,39 @@ fn refused(place: usize, cause: Cause) -> Labelling
     }
 }
 
-// The label of the segment that a walk has reached; 14 where there is none such.
-fn label_reached(forks: &[u64], count: u32, team: u16, member: u8, walking: Walking) -> Labelling
-    requires { ⌜ Climbable (table (forkRowAt (now forks)) count) × FewJoined walking ⌝ }
-    ensures { λ r. ⌜ Labelled r (labelIn (table (forkRowAt (now (forks .entry))) count) team member (stateReached walking)) ⌝ }
+// The label of a member's segment by the rows of the chunks and REGIONs: it is there if the chunk passes its barriers, else 14. A label does
+// not read the locks.
+fn label_by_rows(
+    chunks: &[u64],
+    count: u32,
+    forks: &[u64],
+    regions: u32,
+    team: u16,
+    member: u8,
+    number: u32,
+) -> Labelling
+    requires { ⌜ Climbable (table (forkRowAt (now forks)) regions)
+        × Joinable (table (forkRowAt (now forks)) regions) team member number ⌝ }
+    ensures { λ r. ⌜ Labelled r (labelByRows (table (chunkRowAt (now (chunks .entry))) count) (table (forkRowAt (now (forks .entry))) regions) team member number) ⌝ }
 {
-    let Walking::Onward(walk) = walking else {
+    let i = chunk_of(chunks, count, team, member);
+    if count <= i {
         return refused(0, Cause::NoneSuch);
+    }
+    let row = chunk_at(chunks, i);
+    let joined = joined_before(forks, regions, team, member, number);
+    let barriers = number - joined;
+    if row.barriers < barriers {
+        return refused(0, Cause::NoneSuch);
+    }
+    let state = ChunkState {
+        barriers,
+        regions: joined,
+        locks: 0,
     };
     Labelling {
         answer: LabelAnswer::Found,
-        label: label_at(forks, count, team, member, walk.state),
+        label: label_at(forks, regions, team, member, state),
     }
 }
 
@@ -264,12 +193,9 @@ pub fn label_of_segment(bytes: &[u8], team: u16, member: u8, segment: u32) -> La
     let indexing = index_bundle(bytes, &mut chunks, &mut forks);
     match indexing {
         Indexing::Accepted {
-            chunks: chunk_count,
-            forks: fork_count,
-        } => {
-            let walking = find_segment(bytes, &chunks, chunk_count, team, member, segment);
-            label_reached(&forks, fork_count, team, member, walking)
-        }
+            chunks: count,
+            forks: regions,
+        } => label_by_rows(&chunks, count, &forks, regions, team, member, segment),
         Indexing::Refused { place, cause } => refused(place, cause),
     }
 }

@@ -74,5 +74,5 @@ pub +label-at+label-of-chunk-spec : {M : Type 1} → statement M
     (λ c κs. search needs)
     (λ c. let start = c .before .before .before .before .before in unforked-chunk _ (start .pre .1) (start .args .team) (c .empty-label2 .result) (c .before .before .before .if1 .left) (c .empty-label2 .ensures) (fork-none _ _ _ _ (c .before .before .fork-of .ensures) (c .before .if2 .taken)))
     (λ c κs. search needs)
-    (λ c κs. let start = c .before .before .before .before .before in let lower = fork-team _ (start .pre .1 .falls) (fork-some _ _ _ _ (c .before .before .fork-of .ensures) (c .before .if2 .left) (c .fork-at .ensures)) in (omega (arith, start .pre .0, lower), (start .pre .1, row-few (start .args .forks .now) (c .before .before .fork-of .result) (c .fork-at .ensures))))
+    (λ c κs. let start = c .before .before .before .before .before in let lower = fork-team _ (start .pre .1 .falls) (fork-some _ _ _ _ (c .before .before .fork-of .ensures) (c .before .if2 .left) (c .fork-at .ensures)) in (omega (arith, start .pre .0, lower), (start .pre .1, row-few (start .args .forks .now) (c .before .before .fork-of .result) (c .fork-at .ensures) .1)))
     (λ c. let start = c .before .before .before .before .before .before in forked-chunk _ (start .pre .1) (start .args .team) (c .before .fork-at .result) (c .label-at .result) (c .before .before .before .before .if1 .left) (fork-some _ _ _ _ (c .before .before .before .fork-of .ensures) (c .before .before .if2 .left) (c .before .fork-at .ensures)) (c .label-at .ensures))

@@ -3,34 +3,29 @@ use mathlib.Core.Path.{sym, subst}
 use borrow.Author.Needs.{needs}
 use Rattle.bundle.proofs.CheckCases.{indexed-accepted, indexed-refused}
 use Rattle.order.specs.Labels.{Labelled}
-use Rattle.order.proofs.Climbs.{climbable-rows, found-label, check-refuses}
+use Rattle.order.proofs.Climbs.{climbable-rows, joinable-rows, found-label, check-refuses}
 use Rattle.order.proofs.climb.label_of_segment.Statement.{statement}
 use Rattle.order.proofs.climb.label_of_segment.Tie as tie
 
-slice-aggregate-find-segment : tie.Need-slice-aggregate-find-segment
-slice-aggregate-find-segment c =
+slice-aggregate-label-by-rows : tie.Need-slice-aggregate-label-by-rows
+slice-aggregate-label-by-rows c =
     sym (indexed-accepted _ _ _ (c .before .before .before .before .index-bundle .ensures) (c .before .before .indexing .given .1) .chunk-table)
 
-find-segment-requires : tie.Need-find-segment-requires
-find-segment-requires c κs =
-    let k = indexed-accepted _ _ _ (c .before .before .before .before .index-bundle .ensures) (c .before .before .indexing .given .1) in
-    record { accepted = k .accepted; rows = k .chunk-rows }
-
-slice-aggregate-label-reached : tie.Need-slice-aggregate-label-reached
-slice-aggregate-label-reached c =
+slice-aggregate-label-by-rows-2 : tie.Need-slice-aggregate-label-by-rows-2
+slice-aggregate-label-by-rows-2 c =
     sym
-    (indexed-accepted _ _ _ (c .before .before .before .before .before .before .index-bundle .ensures) (c .before .before .before .before .indexing .given .1) .fork-table)
+    (indexed-accepted _ _ _ (c .before .before .before .before .before .index-bundle .ensures) (c .before .before .before .indexing .given .1) .fork-table)
 
-label-reached-requires : tie.Need-label-reached-requires
-label-reached-requires c κs =
-    let k = indexed-accepted _ _ _ (c .before .before .before .before .before .before .index-bundle .ensures) (c .before .before .before .before .indexing .given .1) in
-    (climbable-rows k, c .before .find-segment .ensures .few)
+label-by-rows-requires : tie.Need-label-by-rows-requires
+label-by-rows-requires c κs =
+    let k = indexed-accepted _ _ _ (c .before .before .before .before .before .index-bundle .ensures) (c .before .before .before .indexing .given .1) in
+    (climbable-rows k, joinable-rows k _ _ _)
 
 returns : tie.Need-returns
 returns c =
-    let a = c .before .before .before .before .before .before .before .before .before .before .before .args in
-    let k = indexed-accepted _ _ _ (c .before .before .before .before .before .before .before .index-bundle .ensures) (c .before .before .before .before .before .indexing .given .1) in
-    subst (Labelled (c .label-reached .result)) (found-label k (a .team) (a .member) (a .segment) (c .before .before .find-segment .ensures)) (c .label-reached .ensures)
+    let a = c .before .before .before .before .before .before .before .before .before .before .args in
+    let k = indexed-accepted _ _ _ (c .before .before .before .before .before .before .index-bundle .ensures) (c .before .before .before .before .indexing .given .1) in
+    subst (Labelled (c .label-by-rows .result)) (found-label k (a .team) (a .member) (a .segment)) (c .label-by-rows .ensures)
 
 returns-2 : tie.Need-returns-2
 returns-2 c =
@@ -45,10 +40,9 @@ label-of-segment-spec =
     (tie.spec
     (λ c κs. search needs)
     (λ c. search needs)
-    slice-aggregate-find-segment
-    find-segment-requires
-    slice-aggregate-label-reached
-    label-reached-requires
+    slice-aggregate-label-by-rows
+    slice-aggregate-label-by-rows-2
+    label-by-rows-requires
     (λ c. search needs)
     (λ c κs. search needs)
     returns
