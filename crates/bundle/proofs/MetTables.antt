@@ -1,6 +1,6 @@
 -- The tables of a pass over the chunks: a bit for each member that was met, and the barriers of member 0.
 use Prim.Native.Nat.{ℕ, zero, suc, _+_, _-_, _*_, _/_, _%_, _^_, _≤_, _<_}
-use mathlib.Core.Path.{_≡_, refl, sym, _∙_, ap}
+use mathlib.Core.Path.{_≡_, refl, sym, _∙_, ap, subst}
 use mathlib.Core.Logic.{_⊎_, inl, inr}
 use mathlib.Core.Bool.{Bool, true, false, cond, not, _||_}
 use mathlib.Core.List.{List, [], _∷_, _++_}
@@ -16,7 +16,7 @@ use lib.Seq.{getD-set-same, getD-set-other}
 use borrow.Author.Tests.{eqb-true, eq-eqb}
 use Rattle.bundle.specs.Lists.{upTo, any, all, first, fromOption}
 use Rattle.bundle.specs.Index.{table, isRow}
-use Rattle.bundle.specs.Shape.{firstBarriers, slotOf, metAt, markedAt, Known, Met, lacksBy}
+use Rattle.bundle.specs.Shape.{firstBarriers, slotOf, metAt, markedAt, Known, Met, Blank, lacksBy}
 use Rattle.bundle.specs.declared.index.ChunkRow.{ChunkRow}
 use Rattle.bundle.specs.declared.index.Fork.{Fork}
 use Rattle.bundle.proofs.Tests.{both, and-left, and-right, or-false, not-both, is-false, decide}
@@ -144,10 +144,12 @@ met-nothing fs a b h l e =
       barriers = λ t k. rw e (zeros b (slotOf fs t));
     }
 
-pub nothing-met : (f : ℕ → Fork) (n : ℕ) (rs : List ChunkRow) → n ≤ 512 → rs ≡ [] → Met (table f n) rs (replicate 2052 0) (replicate 513 0)
-nothing-met f n rs h e =
+pub nothing-met : {order masks firsts : List ℕ} (f : ℕ → Fork) (n : ℕ) (rs : List ChunkRow) → Blank order masks firsts n → rs ≡ [] → Met (table f n) rs masks firsts
+nothing-met {masks = masks} {firsts = firsts} f n rs b e =
     let l = table-length f n in
-    met-nothing (table f n) 2052 513 (omega arith) (omega arith) e
+    subst (λ (ms : List ℕ). Met (table f n) rs ms firsts) (sym (b .masks-clear))
+    (subst (λ (bs : List ℕ). Met (table f n) rs (replicate (length masks) 0) bs) (sym (b .firsts-clear))
+    (met-nothing (table f n) (length masks) (length firsts) (omega (arith, b .masks-long)) (omega (arith, b .firsts-long)) e))
 
 -- one chunk more, of a member that was not met
 module _ (f : ℕ → Fork) (n : ℕ) (rs : List ChunkRow) (r : ChunkRow) (masks firsts : List ℕ)

@@ -1,20 +1,20 @@
 -- The REGIONs in the order of their teams: in the sorted words a team's slot is found by its number.
 use Prim.Native.Nat.{ℕ, zero, suc, _+_, _*_, _/_, _≤_, _<_}
-use mathlib.Core.Path.{_≡_, refl, sym, _∙_, ap}
+use mathlib.Core.Path.{_≡_, refl, sym, _∙_, ap, subst}
 use mathlib.Core.Bool.{Bool, true}
-use mathlib.Core.List.{List, [], _∷_, _++_, map}
+use mathlib.Core.List.{List, [], _∷_, map}
 use native.Mathlib.Omega.{arith}
 use native.Mathlib.Numerals.{add-one}
 use lib.Dec.{eqb}
-use lib.ListN.{length, getD, take, set, replicate, length-map, length-append, length-replicate}
-use lib.Seq.{take-suc-set, take-all, take-at, length-take-le}
+use lib.ListN.{length, getD, take, set, replicate, length-map, length-replicate}
+use lib.Seq.{take-suc-set, take-all, length-take-le}
 use borrow.Author.Tests.{le-leb, eqb-true, eq-eqb}
 use Rattle.sorting.specs.Order.{sorted, sorting}
 use Rattle.sorting.specs.Searching.{keyedFrom, Keyed}
 use Rattle.sorting.proofs.Insertion.{sorted-length}
 use Rattle.sorting.proofs.KeyOrder.{first-with-key}
 use Rattle.bundle.specs.Index.{forkRowOf, forkRowAt, tableFrom, table, indexOf}
-use Rattle.bundle.specs.Shape.{slotOf, ByTeam}
+use Rattle.bundle.specs.Shape.{slotOf, ByTeam, Blank}
 use Rattle.bundle.specs.declared.index.Fork.{Fork}
 use Rattle.bundle.proofs.Tests.{same-test}
 use Rattle.bundle.proofs.Tables.{table-more, table-length}
@@ -104,10 +104,14 @@ teams-sorted forks {words} {order} n room {r} few fits e q enough =
     let long : length words ≡ n = rw e (table-length (λ i. forkRowAt forks i .team * 65536 + i) n) in
     teams-ordered forks order n few fits (sorting-sorts r words order room q (omega arith) ∙ ap sorted e)
 
-pub few : (count n : ℕ) → count + n ≤ 512 → n ≤ 512
-few count n h = omega arith
+pub ordered-for :
+    (forks words : List ℕ) {order : List ℕ} {n : ℕ}
+    → length words ≡ n
+    → ByTeam order (table (forkRowAt forks) (length words))
+    → ByTeam order (table (forkRowAt forks) n)
+ordered-for forks words {order = order} e by = subst (λ (k : ℕ). ByTeam order (table (forkRowAt forks) k)) e by
 
--- the first k of n words, written over
+-- the tables, all 0, the order's with the first k of n words
 module _ (n k : ℕ) (h : k ≤ n) where
   front-length : length (take k (replicate {A = ℕ} n 0)) ≡ k
   front-length = length-take-le k (replicate {A = ℕ} n 0) (rw (length-replicate {A = ℕ} n 0) h)
@@ -115,19 +119,13 @@ module _ (n k : ℕ) (h : k ≤ n) where
   pub front-is : k ≡ length (take k (replicate {A = ℕ} n 0))
   front-is = sym front-length
 
-  pub front-few : length (take k (replicate {A = ℕ} n 0)) ≤ n
-  front-few = rw front-length h
-
-  module _ (part rest : List ℕ) (e : length part ≡ length (take k (replicate {A = ℕ} n 0))) where
-    pub front-within : k ≤ length (part ++ rest)
-    front-within = let l = e ∙ front-length in rw (length-append part rest) (omega arith)
-
-    front-part : take k (part ++ rest) ≡ part
-    front-part = take-at part rest k (e ∙ front-length)
-
-    pub front-same : k ≡ length (take k (part ++ rest))
-    front-same = sym (ap length front-part ∙ e ∙ front-length)
-
-    pub front-ordered :
-        (f : ℕ → Fork) → ByTeam part (table f (length (take k (replicate {A = ℕ} n 0)))) → ByTeam (take k (part ++ rest)) (table f k)
-    front-ordered f by = rw front-part (rw front-length at by)
+  pub blank : (a b : ℕ) → n ≤ 512 → 4 * n + 3 < a → n < b → Blank (take k (replicate {A = ℕ} n 0)) (replicate a 0) (replicate b 0) k
+  blank a b few l m =
+      record {
+        few = omega arith;
+        order-long = front-length;
+        masks-long = rw (length-replicate {A = ℕ} a 0) (omega arith);
+        masks-clear = ap (λ (x : ℕ). replicate {A = ℕ} x 0) (sym (length-replicate {A = ℕ} a 0));
+        firsts-long = rw (length-replicate {A = ℕ} b 0) (omega arith);
+        firsts-clear = ap (λ (x : ℕ). replicate {A = ℕ} x 0) (sym (length-replicate {A = ℕ} b 0));
+      }

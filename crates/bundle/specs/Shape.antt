@@ -5,7 +5,7 @@ use mathlib.Core.Bool.{Bool, true, false, cond, not, _||_}
 use mathlib.Core.List.{List, [], _∷_}
 use lib.Dec.{eqb, ltb, leb}
 use lib.Bits.{bitOr}
-use lib.ListN.{length, getD, set}
+use lib.ListN.{length, getD, set, replicate}
 use Rattle.sorting.specs.Searching.{firstWithKey}
 use Rattle.bundle.specs.Answer.{Answer, gives}
 use Rattle.bundle.specs.Lists.{upTo, any, all, first, fromOption}
@@ -87,6 +87,15 @@ pub record Met (fs : List Fork) (rs : List ChunkRow) (masks firsts : List ℕ) :
   pub firsts-long : length fs < length firsts
   pub members : (t m : ℕ) → Known fs t → m < 256 → metAt masks (slotOf fs t) m ≡ any (isRow t m) rs
   pub barriers : (t : ℕ) → Known fs t → getD firsts (slotOf fs t) 0 ≡ firstBarriers rs t
+
+-- tables for so many REGIONs, all 0 but for their order
+pub record Blank (order masks firsts : List ℕ) (regions : ℕ) : Type 0 where
+  pub few : regions ≤ 512
+  pub order-long : length order ≡ regions
+  pub masks-long : 4 * regions + 3 < length masks
+  pub masks-clear : masks ≡ replicate (length masks) 0
+  pub firsts-long : regions < length firsts
+  pub firsts-clear : firsts ≡ replicate (length firsts) 0
 
 -- the tables where no chunk was met, and where those before the first stray one were
 pub record Ready (chunks forks order masks firsts : List ℕ) (regions : ℕ) : Type 0 where

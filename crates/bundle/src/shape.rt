@@ -14,7 +14,7 @@ ghost use lib.ListN.{length, getD, set};
 ghost use Rattle.sorting.specs.Searching.{firstWithKey};
 ghost use Rattle.bundle.specs.Check.{sizeOf, checkingOf};
 ghost use Rattle.bundle.specs.Index.{table, chunkRowAt, forkRowAt};
-ghost use Rattle.bundle.specs.Shape.{settledByRows, shapeByRows, FirstFailing, slotOf, ByTeam, metAt, markedAt, Ready, MetTo, Settled, climbs, deepBy, lacksBy, failsBy};
+ghost use Rattle.bundle.specs.Shape.{settledByRows, shapeByRows, FirstFailing, slotOf, ByTeam, metAt, markedAt, Blank, Ready, MetTo, Settled, climbs, deepBy, lacksBy, failsBy};
 ghost use Rattle.bundle.specs.declared.answer.Checking.the-variants as Checks;
 
 // The tests of a row by tables that are complete.
@@ -362,22 +362,67 @@ fn order_teams(forks: &[u64], order: &mut [u64])
     sort(order, &mut spare);
 }
 
-// The tests 8 to 12.
-pub fn shape(chunks: &[u64], count: u32, forks: &[u64], regions: u32) -> Checking
-    requires { ⌜ count + regions ≤ 512 ⌝ }
+// The tests 8 to 12, in tables that are lent: a word for each REGION, and masks and barriers that are all 0.
+fn shape_in(
+    chunks: &[u64],
+    count: u32,
+    forks: &[u64],
+    regions: u32,
+    order: &mut [u64],
+    masks: &mut [u64],
+    firsts: &mut [u32],
+) -> Checking
+    requires { ⌜ Blank (now order) (now masks) (now firsts) regions ⌝ }
+    ensures { λ r. ⌜ checkingOf r ≡ shapeByRows (table (chunkRowAt (now (chunks .entry))) count) (table (forkRowAt (now (forks .entry))) regions) ⌝ }
+{
+    order_teams(forks, order);
+    test_all(chunks, count, forks, regions, order, masks, firsts)
+}
+
+// For a few REGIONs small tables do: clearing large ones would take longer than all else.
+fn shape_small(chunks: &[u64], count: u32, forks: &[u64], regions: u32) -> Checking
+    requires { ⌜ regions ≤ 16 ⌝ }
+    ensures { λ r. ⌜ checkingOf r ≡ shapeByRows (table (chunkRowAt (now (chunks .entry))) count) (table (forkRowAt (now (forks .entry))) regions) ⌝ }
+{
+    let mut order = [0u64; 16];
+    let mut masks = [0u64; 68];
+    let mut firsts = [0u32; 17];
+    shape_in(
+        chunks,
+        count,
+        forks,
+        regions,
+        &mut order[..regions as usize],
+        &mut masks,
+        &mut firsts,
+    )
+}
+
+fn shape_large(chunks: &[u64], count: u32, forks: &[u64], regions: u32) -> Checking
+    requires { ⌜ regions ≤ 512 ⌝ }
     ensures { λ r. ⌜ checkingOf r ≡ shapeByRows (table (chunkRowAt (now (chunks .entry))) count) (table (forkRowAt (now (forks .entry))) regions) ⌝ }
 {
     let mut order = [0u64; 512];
     let mut masks = [0u64; 2052];
     let mut firsts = [0u32; 513];
-    order_teams(forks, &mut order[..regions as usize]);
-    test_all(
+    shape_in(
         chunks,
         count,
         forks,
         regions,
-        &order[..regions as usize],
+        &mut order[..regions as usize],
         &mut masks,
         &mut firsts,
     )
+}
+
+// The tests 8 to 12.
+pub fn shape(chunks: &[u64], count: u32, forks: &[u64], regions: u32) -> Checking
+    requires { ⌜ count + regions ≤ 512 ⌝ }
+    ensures { λ r. ⌜ checkingOf r ≡ shapeByRows (table (chunkRowAt (now (chunks .entry))) count) (table (forkRowAt (now (forks .entry))) regions) ⌝ }
+{
+    if regions <= 16 {
+        return shape_small(chunks, count, forks, regions);
+    }
+    shape_large(chunks, count, forks, regions)
 }
