@@ -359,12 +359,8 @@ aboves-agree = refl
 unfoldable pub nexts : List (Row (Lent (Option Race)))
 nexts =
     row (nextOf (bytes 45 0x01000000100100020201010000310a000010000008000200041102010100013014000a10000000000100041102) 0 (name 0 0 0) (name 0 0 0) (replicate 16383 7)) (record { answer = (refuses 13 0); buffer = replicate 16383 7 }) ∷
-    row (nextOf (bytes 45 0x01000000100100020201010000310a000010000008000200041102010100013014000a10000000000100041102) 0 (name 0 0 0) (name 0 0 0) (replicate 16384 7)) (record { answer = (gives (some (race 4106 1 0 0 10 1 1 0 20))); buffer = replicate 16384 0 }) ∷
-    row (nextOf (bytes 0 0x0) 0 (name 0 0 0) (name 0 0 0) (replicate 16384 7)) (record { answer = (refuses 10 0); buffer = replicate 16384 0 }) ∷
-    row (nextOf (bytes 60 0x01000000100100030201010002311e000000000000000100010201010000310a00000000000000010001020101000131140000000000000001000102) 0 (name 1 0 0) (name 1 1 0) (replicate 16384 7)) (record { answer = (gives (some (race 0 1 0 0 10 1 2 0 30))); buffer = replicate 16384 0 }) ∷
     row (nextOf (bytes 60 0x01000000100100030201010002311e000000000000000100010201010000310a00000000000000010001020101000131140000000000000001000102) 0 (name 1 1 0) (name 1 0 0) (replicate 16384 7)) (record { answer = (gives (some (race 0 1 1 0 20 1 2 0 30))); buffer = replicate 16384 0 }) ∷
-    row (nextOf (bytes 60 0x01000000100100030201010002311e000000000000000100010201010000310a00000000000000010001020101000131140000000000000001000102) 0 (name 1 0 0) (name 1 2 0) (replicate 16385 7)) (record { answer = (gives (some (race 0 1 1 0 20 1 2 0 30))); buffer = replicate 16385 0 }) ∷
-    row (nextOf (bytes 60 0x01000000100100030201010002311e000000000000000100010201010000310a00000000000000010001020101000131140000000000000001000102) 0 (name 1 1 0) (name 1 2 0) (replicate 16384 7)) (record { answer = (gives none); buffer = replicate 16384 0 }) ∷
+    row (nextOf (bytes 0 0x0) 0 (name 0 0 0) (name 0 0 0) (replicate 16385 7)) (record { answer = (refuses 10 0); buffer = replicate 16385 0 }) ∷
     []
 
 pub nexts-agree : map (λ (r : Row (Lent (Option Race))). r .given) nexts ≡ map (λ (r : Row (Lent (Option Race))). r .wanted) nexts
@@ -379,8 +375,7 @@ judgements =
     row (judgeOf (bytes 0 0x0) (replicate 3 7)) (record { answer = (refuses 13 0); buffer = replicate 3 7 }) ∷
     row (judgeOf (bytes 45 0x01000000100100020201010000310a000010000008000200041102010100013014000a10000000000100041102) (replicate 16383 7)) (record { answer = (refuses 13 0); buffer = replicate 16383 7 }) ∷
     row (judgeOf (bytes 45 0x01000000100100020201010000310a000010000008000200041102010100013014000a10000000000100041102) (replicate 16384 7)) (record { answer = (gives (record { chunks = 3; segments = 6; accesses = 2; races = 1; verdict = Ver.Least (race 4106 1 0 0 10 1 1 0 20) })); buffer = replicate 16384 0 }) ∷
-    row (judgeOf (bytes 45 0x01000000100100020201010000310a000010000008000200041102010100013014000a10000000000100041102) (replicate 16385 7)) (record { answer = (gives (record { chunks = 3; segments = 6; accesses = 2; races = 1; verdict = Ver.Least (race 4106 1 0 0 10 1 1 0 20) })); buffer = replicate 16385 0 }) ∷
-    row (judgeOf (bytes 0 0x0) (replicate 16384 7)) (record { answer = (refuses 10 0); buffer = replicate 16384 0 }) ∷
+    row (judgeOf (bytes 0 0x0) (replicate 16385 7)) (record { answer = (refuses 10 0); buffer = replicate 16385 0 }) ∷
     []
 
 pub judgements-agree : map (λ (r : Row (Lent Judgement)). r .given) judgements ≡ map (λ (r : Row (Lent Judgement)). r .wanted) judgements
