@@ -12,4 +12,4 @@ returns-2 : tie.Need-returns-2
 returns-2 c = step-taken _ _ _ (c .before .before .before .before .decode-command .ensures) (c .before .before .reading .given .1) (c .test .ensures)
 
 pub step-at-spec : {M : Type 1} → statement M
-step-at-spec = tie.close (tie.spec (λ c κs. search needs) (λ c. search needs) (λ c. search needs) (λ c κs. search needs) returns (λ c κs. search needs) returns-2)
+step-at-spec = tie.close (tie.spec (λ c κs. tt) (λ c. search needs) (λ c. search needs) (λ c κs. tt) returns (λ c κs. search needs) returns-2)
