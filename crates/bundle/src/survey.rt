@@ -118,15 +118,17 @@ fn fork_row(pass: Pass, team: u16, size: u8) -> Fork
     }
 }
 
-fn move_on(pass: Pass, scan: Scan, next: usize, chunk: Open, chunks: u32, forks: u32) -> Pass
-    ensures { λ r. ⌜ r ≡ record { at = next; scan = scan; chunk = chunk; chunks = chunks; forks = forks } ⌝ }
+// The pass after a command, with the open chunk and the rows as they are.
+fn move_on(pass: Pass, scan: Scan, next: usize) -> Pass
+    ensures { λ r. ⌜ r ≡ record { at = next; scan = scan; chunk = pass .chunk; chunks = pass .chunks; forks = pass .forks } ⌝ }
 {
+    let chunk = pass.chunk;
     Pass {
         at: next,
         scan,
         chunk,
-        chunks,
-        forks,
+        chunks: pass.chunks,
+        forks: pass.forks,
     }
 }
 
@@ -142,33 +144,28 @@ fn note(
     requires { ⌜ Notable pass (now chunks) (now forks) ⌝ }
     ensures { λ r. ⌜ Noted pass command scan next r (now (chunks .entry)) (now (forks .entry)) (now (chunks .exit)) (now (forks .exit)) ⌝ }
 {
-    let open = pass.chunk;
-    let chunk_count = pass.chunks;
-    let fork_count = pass.forks;
+    let mut after = move_on(pass, scan, next);
     match command {
         Command::Member { team: _, member } => {
-            move_on(
-                pass,
-                scan,
-                next,
-                opened(pass, member),
-                chunk_count,
-                fork_count,
-            )
+            let chunk = opened(pass, member);
+            after.chunk = chunk;
         }
         Command::End => {
-            add_chunk(chunks, chunk_count, closed_row(pass));
-            move_on(pass, scan, next, open, chunk_count + 1, fork_count)
+            let count = pass.chunks;
+            add_chunk(chunks, count, closed_row(pass));
+            after.chunks = count + 1;
         }
         Command::Region { team, size } => {
-            add_fork(forks, fork_count, fork_row(pass, team, size));
-            move_on(pass, scan, next, open, chunk_count, fork_count + 1)
+            let count = pass.forks;
+            add_fork(forks, count, fork_row(pass, team, size));
+            after.forks = count + 1;
         }
-        Command::Barrier => move_on(pass, scan, next, open, chunk_count, fork_count),
-        Command::Acquire(_) => move_on(pass, scan, next, open, chunk_count, fork_count),
-        Command::Release(_) => move_on(pass, scan, next, open, chunk_count, fork_count),
-        Command::Access(_) => move_on(pass, scan, next, open, chunk_count, fork_count),
+        Command::Barrier => {}
+        Command::Acquire(_) => {}
+        Command::Release(_) => {}
+        Command::Access(_) => {}
     }
+    after
 }
 
 // One command: tested, and noted where it passes.
