@@ -23,8 +23,6 @@ use Rattle.bundle.specs.declared.index.ChunkRow.{ChunkRow}
 use Rattle.bundle.specs.declared.index.Fork.{Fork}
 use Rattle.bundle.specs.declared.survey.Open.{Open}
 use Rattle.bundle.specs.declared.survey.Pass.{Pass}
-use Rattle.bundle.specs.declared.survey.Turn.{Turn}
-use Rattle.bundle.specs.declared.survey.Turn.the-variants as Turns
 use Rattle.bundle.specs.declared.survey.Survey.{Survey}
 use Rattle.bundle.specs.declared.survey.Survey.the-variants as Surveys
 use Rattle.bundle.specs.declared.scan.Step.{Step}
@@ -182,11 +180,6 @@ pub record Surveying (s : List ℕ) (p : Pass) (chunks forks : List ℕ) : Type 
       table (chunkRowAt chunks) (p .chunks) ++ chunksToCome p (gather (frontFrom fuel s (p .at) .placed)) ≡ chunkRows (chunksOf s)
   pub fork-rest :
       table (forkRowAt forks) (p .forks) ++ forksToCome p (gather (frontFrom fuel s (p .at) .placed)) ≡ forksOf (chunksOf s)
-
--- what a turn from a position gives
-abbrev pub Turned : List ℕ → ℕ → Turn → List ℕ → List ℕ → Type 0
-Turned s at (Turns.Onward p) chunks forks = (at < p .at) × Surveying s p chunks forks
-Turned s at (Turns.Refused place cause) chunks forks = scanOf s ≡ refuses (numberOf cause) place
 
 unfoldable pub finished : Pass → ℕ → Survey
 finished p end = cond (p .scan .inside) (Surveys.Refused end Causes.Misplaced) (Surveys.Complete (p .chunks) (p .forks))

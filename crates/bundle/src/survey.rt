@@ -13,7 +13,7 @@ ghost use mathlib.Core.Path.{_≡_};
 ghost use Prim.Native.Nat.{_<_, _≤_};
 ghost use lib.ListN.{length};
 ghost use Rattle.bundle.specs.Index.{ChunkFits, ForkFits};
-ghost use Rattle.bundle.specs.Survey.{beginning, Near, openedAt, closedRow, forkHere, Notable, Noted, Surveying, Turned, finished, Surveyed};
+ghost use Rattle.bundle.specs.Survey.{beginning, Near, openedAt, closedRow, forkHere, Notable, Noted, finished, Surveyed};
 
 // The open chunk: the offset of its MEMBER, its member, and the segments and accesses of the bundle before it.
 pub struct Open {
@@ -30,12 +30,6 @@ pub struct Pass {
     pub chunk: Open,
     pub chunks: u32,
     pub forks: u32,
-}
-
-// What one command does to the pass.
-pub enum Turn {
-    Onward(Pass),
-    Refused { place: usize, cause: Cause },
 }
 
 // What the pass gives: the number of chunks and of REGIONs, whose rows are in the tables.
@@ -168,21 +162,6 @@ fn note(
     after
 }
 
-// One command: tested, and noted where it passes.
-fn turn_at(bytes: &[u8], pass: Pass, chunks: &mut [u64], forks: &mut [u64]) -> Turn
-    requires { ⌜ (pass .at < length (now bytes)) × Surveying (now bytes) pass (now chunks) (now forks) ⌝ }
-    ensures { λ r. ⌜ Turned (now (bytes .entry)) (pass .at) r (now (chunks .exit)) (now (forks .exit)) ⌝ }
-{
-    match step_at(bytes, pass.at, pass.scan) {
-        Step::Onward {
-            next,
-            scan,
-            command,
-        } => Turn::Onward(note(pass, command, scan, next, chunks, forks)),
-        Step::Refused { place, cause } => Turn::Refused { place, cause },
-    }
-}
-
 // 4: the bundle ending inside a chunk, at its length.
 fn finish(pass: Pass, end: usize) -> Survey
     ensures { λ r. ⌜ r ≡ finished pass end ⌝ }
@@ -200,18 +179,22 @@ fn finish(pass: Pass, end: usize) -> Survey
     }
 }
 
-// The whole bundle, front to back.
+// The whole bundle, front to back: each command is tested, and noted where it passes.
 pub fn survey_all(bytes: &[u8], chunks: &mut [u64], forks: &mut [u64]) -> Survey
     requires { ⌜ (length (now bytes) ≤ 65536) × (length (now chunks) ≡ 1024) × (length (now forks) ≡ 1536) ⌝ }
     ensures { λ r. ⌜ Surveyed (now (bytes .entry)) r (now (chunks .exit)) (now (forks .exit)) ⌝ }
 {
     let mut pass = begin();
     while pass.at < bytes.len() {
-        match turn_at(bytes, pass, chunks, forks) {
-            Turn::Onward(next) => {
-                pass = next;
+        match step_at(bytes, pass.at, pass.scan) {
+            Step::Onward {
+                next,
+                scan,
+                command,
+            } => {
+                pass = note(pass, command, scan, next, chunks, forks);
             }
-            Turn::Refused { place, cause } => {
+            Step::Refused { place, cause } => {
                 return Survey::Refused { place, cause };
             }
         }
