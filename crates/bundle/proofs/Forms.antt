@@ -146,6 +146,10 @@ no-form {b} n₁ n₂ n₃ n₄ n₅ n₆ n =
     let other : a && l ≡ false = is-false (a && l) (λ e. n (leb-true 0x30 b (and-left a l e)) (ltb-true b 0x34 (and-right a l e))) in
     rw (ne-eqb b 0x01 n₁, ne-eqb b 0x02 n₂, ne-eqb b 0x10 n₃, ne-eqb b 0x11 n₄, ne-eqb b 0x20 n₅, ne-eqb b 0x21 n₆, other)
 
+-- lists with equal heads and equal rests
+pub same-cons : {a b : ℕ} {s t : List ℕ} → a ≡ b → s ≡ t → a ∷ s ≡ b ∷ t
+same-cons e q = rw (e, q)
+
 -- an access's widths, whatever its kind
 module _ (a : Access) where
   access-widths : widthsOf (byteOf (a .kind)) ≡ accessWidths

@@ -36,7 +36,6 @@ use Rattle.bundle.specs.Survey.{
   chunksToCome,
   forksToCome,
   Surveying,
-  Turned,
   finished,
   InTables,
   Surveyed,
@@ -50,8 +49,6 @@ use Rattle.bundle.specs.declared.index.ChunkRow.{ChunkRow}
 use Rattle.bundle.specs.declared.index.Fork.{Fork}
 use Rattle.bundle.specs.declared.survey.Open.{Open}
 use Rattle.bundle.specs.declared.survey.Pass.{Pass}
-use Rattle.bundle.specs.declared.survey.Turn.{Turn}
-use Rattle.bundle.specs.declared.survey.Turn.the-variants as Turns
 use Rattle.bundle.specs.declared.survey.Survey.{Survey}
 use Rattle.bundle.specs.declared.survey.Survey.the-variants as Surveys
 use Rattle.bundle.specs.declared.refusal.Cause.the-variants as Causes
@@ -607,21 +604,6 @@ module _ (p : Pass) (k : Scan) (next : ℕ) (r : Pass) (chunks forks : List ℕ)
         chunk-rows = rw e (sym (append-nil (table (chunkRowAt chunks) (p .chunks))));
         fork-rows = rw e (table-added forkRowAt x ∙ ap (λ (y : Fork). table (forkRowAt forks) (p .forks) ++ (y ∷ [])) w);
       }
-
--- what a turn's answer says by its case, and what the end says
-pub turned-on :
-    (s : List ℕ) (at : ℕ) (chunks forks : List ℕ) {r : Turn} {p : Pass}
-    → Turned s at r chunks forks
-    → r ≡ Turns.Onward p
-    → (at < p .at) × Surveying s p chunks forks
-turned-on s at chunks forks v e = subst (λ (x : Turn). Turned s at x chunks forks) e v
-
-pub turned-off :
-    (s : List ℕ) (at : ℕ) (chunks forks : List ℕ) {r : Turn} {cause : Cause} {place : ℕ}
-    → Turned s at r chunks forks
-    → r ≡ Turns.Refused place cause
-    → scanOf s ≡ refuses (numberOf cause) place
-turned-off s at chunks forks v e = subst (λ (x : Turn). Turned s at x chunks forks) e v
 
 pub fewer-left : (n a b : ℕ) → a < n → a < b → n - b < n - a
 fewer-left n a b h l = omega arith

@@ -13,7 +13,7 @@ ghost use mathlib.Core.Path.{_≡_};
 ghost use Prim.Native.Nat.{_<_, _≤_};
 ghost use lib.ListN.{length};
 ghost use Rattle.bundle.specs.Index.{ChunkFits, ForkFits};
-ghost use Rattle.bundle.specs.Survey.{beginning, Near, openedAt, closedRow, forkHere, Notable, Noted, Surveying, Turned, finished, Surveyed};
+ghost use Rattle.bundle.specs.Survey.{beginning, Near, openedAt, closedRow, forkHere, Notable, Noted, finished, Surveyed};
 
 // The open chunk: the offset of its MEMBER, its member, and the segments and accesses of the bundle before it.
 pub struct Open {
@@ -30,12 +30,6 @@ pub struct Pass {
     pub chunk: Open,
     pub chunks: u32,
     pub forks: u32,
-}
-
-// What one command does to the pass.
-pub enum Turn {
-    Onward(Pass),
-    Refused { place: usize, cause: Cause },
 }
 
 // What the pass gives: the number of chunks and of REGIONs, whose rows are in the tables.
@@ -118,15 +112,17 @@ fn fork_row(pass: Pass, team: u16, size: u8) -> Fork
     }
 }
 
-fn move_on(pass: Pass, scan: Scan, next: usize, chunk: Open, chunks: u32, forks: u32) -> Pass
-    ensures { λ r. ⌜ r ≡ record { at = next; scan = scan; chunk = chunk; chunks = chunks; forks = forks } ⌝ }
+// The pass after a command, with the open chunk and the rows as they are.
+fn move_on(pass: Pass, scan: Scan, next: usize) -> Pass
+    ensures { λ r. ⌜ r ≡ record { at = next; scan = scan; chunk = pass .chunk; chunks = pass .chunks; forks = pass .forks } ⌝ }
 {
+    let chunk = pass.chunk;
     Pass {
         at: next,
         scan,
         chunk,
-        chunks,
-        forks,
+        chunks: pass.chunks,
+        forks: pass.forks,
     }
 }
 
@@ -142,48 +138,28 @@ fn note(
     requires { ⌜ Notable pass (now chunks) (now forks) ⌝ }
     ensures { λ r. ⌜ Noted pass command scan next r (now (chunks .entry)) (now (forks .entry)) (now (chunks .exit)) (now (forks .exit)) ⌝ }
 {
-    let open = pass.chunk;
-    let chunk_count = pass.chunks;
-    let fork_count = pass.forks;
+    let mut after = move_on(pass, scan, next);
     match command {
         Command::Member { team: _, member } => {
-            move_on(
-                pass,
-                scan,
-                next,
-                opened(pass, member),
-                chunk_count,
-                fork_count,
-            )
+            let chunk = opened(pass, member);
+            after.chunk = chunk;
         }
         Command::End => {
-            add_chunk(chunks, chunk_count, closed_row(pass));
-            move_on(pass, scan, next, open, chunk_count + 1, fork_count)
+            let count = pass.chunks;
+            add_chunk(chunks, count, closed_row(pass));
+            after.chunks = count + 1;
         }
         Command::Region { team, size } => {
-            add_fork(forks, fork_count, fork_row(pass, team, size));
-            move_on(pass, scan, next, open, chunk_count, fork_count + 1)
+            let count = pass.forks;
+            add_fork(forks, count, fork_row(pass, team, size));
+            after.forks = count + 1;
         }
-        Command::Barrier => move_on(pass, scan, next, open, chunk_count, fork_count),
-        Command::Acquire(_) => move_on(pass, scan, next, open, chunk_count, fork_count),
-        Command::Release(_) => move_on(pass, scan, next, open, chunk_count, fork_count),
-        Command::Access(_) => move_on(pass, scan, next, open, chunk_count, fork_count),
+        Command::Barrier => {}
+        Command::Acquire(_) => {}
+        Command::Release(_) => {}
+        Command::Access(_) => {}
     }
-}
-
-// One command: tested, and noted where it passes.
-fn turn_at(bytes: &[u8], pass: Pass, chunks: &mut [u64], forks: &mut [u64]) -> Turn
-    requires { ⌜ (pass .at < length (now bytes)) × Surveying (now bytes) pass (now chunks) (now forks) ⌝ }
-    ensures { λ r. ⌜ Turned (now (bytes .entry)) (pass .at) r (now (chunks .exit)) (now (forks .exit)) ⌝ }
-{
-    match step_at(bytes, pass.at, pass.scan) {
-        Step::Onward {
-            next,
-            scan,
-            command,
-        } => Turn::Onward(note(pass, command, scan, next, chunks, forks)),
-        Step::Refused { place, cause } => Turn::Refused { place, cause },
-    }
+    after
 }
 
 // 4: the bundle ending inside a chunk, at its length.
@@ -203,18 +179,22 @@ fn finish(pass: Pass, end: usize) -> Survey
     }
 }
 
-// The whole bundle, front to back.
+// The whole bundle, front to back: each command is tested, and noted where it passes.
 pub fn survey_all(bytes: &[u8], chunks: &mut [u64], forks: &mut [u64]) -> Survey
     requires { ⌜ (length (now bytes) ≤ 65536) × (length (now chunks) ≡ 1024) × (length (now forks) ≡ 1536) ⌝ }
     ensures { λ r. ⌜ Surveyed (now (bytes .entry)) r (now (chunks .exit)) (now (forks .exit)) ⌝ }
 {
     let mut pass = begin();
     while pass.at < bytes.len() {
-        match turn_at(bytes, pass, chunks, forks) {
-            Turn::Onward(next) => {
-                pass = next;
+        match step_at(bytes, pass.at, pass.scan) {
+            Step::Onward {
+                next,
+                scan,
+                command,
+            } => {
+                pass = note(pass, command, scan, next, chunks, forks);
             }
-            Turn::Refused { place, cause } => {
+            Step::Refused { place, cause } => {
                 return Survey::Refused { place, cause };
             }
         }

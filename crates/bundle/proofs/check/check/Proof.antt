@@ -13,4 +13,4 @@ returns-2 c = sym (indexed-refused _ _ _ (c .before .before .before .index-bundl
 
 pub check-spec : {M : Type 1} → statement M
 check-spec =
-    tie.close (tie.spec (λ c κs. search needs) (λ c. search needs) (λ c. search needs) returns returns-2)
+    tie.close (tie.spec (λ c κs. tt) (λ c. search needs) (λ c. search needs) returns returns-2)

@@ -26,13 +26,13 @@ pub find-chunk-spec : {M : Type 1} → statement M
 find-chunk-spec =
     tie.close
     (tie.spec
-    (λ c κs. search needs)
+    (λ c κs. tt)
     (λ c. search needs)
     sub-result
     part-result-start
     part-result-end
     (λ c. search needs)
-    (λ c κs. search needs)
+    (λ c κs. tt)
     (λ c. search needs)
     (λ c. search needs)
     (λ c. search needs)

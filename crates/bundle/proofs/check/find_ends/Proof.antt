@@ -18,10 +18,10 @@ pub find-ends-spec : {M : Type 1} → statement M
 find-ends-spec =
     tie.close
     (tie.spec
-    (λ c κs. search needs)
+    (λ c κs. tt)
     (λ c. search needs)
     slice-aggregate-ends-in
-    (λ c κs. search needs)
+    (λ c κs. tt)
     (λ c. search needs)
     returns
     returns-2)

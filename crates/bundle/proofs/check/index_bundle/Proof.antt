@@ -24,7 +24,7 @@ index-bundle-spec =
     (λ c κs. search needs)
     (λ c. search needs)
     shape-requires
-    (λ c κs. search needs)
+    (λ c κs. tt)
     (λ c. search needs)
     returns-2
     returns-3)

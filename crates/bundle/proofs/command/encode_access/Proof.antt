@@ -1,33 +1,39 @@
 -- `bundle::command::encode_access` meets its contract. Assumes nothing.
 use mathlib.Core.Path.{refl}
 use Rattle.bundle.specs.Commands.{lowFirst, codeOf, operandBytes}
-use Rattle.bundle.proofs.Forms.{access-bytes}
+use Rattle.bundle.proofs.Forms.{access-bytes, same-cons}
 use borrow.Author.Needs.{needs}
 use Rattle.bundle.proofs.command.encode_access.Statement.{statement}
 use Rattle.bundle.proofs.command.encode_access.Tie as tie
 
 returns : tie.Need-returns
 unfolding lowFirst codeOf operandBytes
-returns c = rw (access-bytes _) (record { prefix = cc; long = refl; within = search needs })
+returns c =
+    rw (access-bytes _)
+    (record {
+      prefix = same-cons (c .before .before .before .before .before .before .before .before .before .before .before .before .before .before .before .before .byte-of .ensures) (same-cons (c .before .before .before .before .before .before .before .before .before .before .low .ensures) (same-cons (c .before .before .before .before .before .before .before .before .before .low2 .ensures) (same-cons (c .before .before .before .before .before .before .before .before .low3 .ensures) (same-cons (c .before .before .before .before .before .before .before .low4 .ensures) (same-cons (c .before .before .before .before .before .before .low5 .ensures) (same-cons (c .before .before .before .before .before .low6 .ensures) (same-cons (c .before .before .before .before .low7 .ensures) (same-cons (c .before .before .before .low8 .ensures) (same-cons (c .before .before .low9 .ensures) (same-cons (c .before .low10 .ensures) (same-cons (c .low11 .ensures) refl)))))))))));
+      long = refl;
+      within = search needs;
+    })
 
 pub encode-access-spec : {M : Type 1} → statement M
 encode-access-spec =
     tie.close
     (tie.spec
-    (λ c κs. search needs)
+    (λ c κs. tt)
     (λ c. search needs)
     (λ c. search needs)
     (λ c. search needs)
     (λ c. search needs)
-    (λ c κs. search needs)
-    (λ c κs. search needs)
-    (λ c κs. search needs)
-    (λ c κs. search needs)
-    (λ c κs. search needs)
-    (λ c κs. search needs)
-    (λ c κs. search needs)
-    (λ c κs. search needs)
-    (λ c κs. search needs)
-    (λ c κs. search needs)
-    (λ c κs. search needs)
+    (λ c κs. tt)
+    (λ c κs. tt)
+    (λ c κs. tt)
+    (λ c κs. tt)
+    (λ c κs. tt)
+    (λ c κs. tt)
+    (λ c κs. tt)
+    (λ c κs. tt)
+    (λ c κs. tt)
+    (λ c κs. tt)
+    (λ c κs. tt)
     returns)

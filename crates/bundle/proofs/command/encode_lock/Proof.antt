@@ -9,4 +9,4 @@ unfolding lowFirst operandBytes
 returns c = search needs
 
 pub encode-lock-spec : {M : Type 1} → statement M
-encode-lock-spec = tie.close (tie.spec (λ c κs. search needs) returns)
+encode-lock-spec = tie.close (tie.spec (λ c κs. tt) returns)

@@ -9,4 +9,4 @@ unfolding lowFirst operandBytes
 returns c = search needs
 
 pub encode-team-spec : {M : Type 1} → statement M
-encode-team-spec = tie.close (tie.spec (λ c κs. search needs) (λ c κs. search needs) (λ c κs. search needs) returns)
+encode-team-spec = tie.close (tie.spec (λ c κs. tt) (λ c κs. tt) (λ c κs. tt) returns)

@@ -42,4 +42,4 @@ returns-4 c =
 pub range-ok-spec : {M : Type 1} → statement M
 range-ok-spec =
     tie.close
-    (tie.spec returns (λ c κs. search needs) returns-2 (λ c κs. search needs) returns-3 last-ok-requires returns-4)
+    (tie.spec returns (λ c κs. tt) returns-2 (λ c κs. tt) returns-3 last-ok-requires returns-4)

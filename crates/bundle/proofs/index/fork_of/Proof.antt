@@ -41,7 +41,7 @@ fork-of-spec =
     Inv-loop
     μ-loop
     loop-holds
-    (λ c κs. search needs)
+    (λ c κs. tt)
     returns
     (λ c. search needs)
     (λ c. search needs)

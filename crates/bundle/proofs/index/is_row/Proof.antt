@@ -9,4 +9,4 @@ unfolding isRow
 returns c = rw (c .before .before .chunk-at .ensures)
 
 pub is-row-spec : {M : Type 1} → statement M
-is-row-spec = tie.close (tie.spec (λ c κs. search needs) returns)
+is-row-spec = tie.close (tie.spec (λ c κs. tt) returns)

@@ -7,4 +7,4 @@ returns : tie.Need-returns
 returns c = rw (c .before .fresh .ensures)
 
 pub open-chunk-spec : {M : Type 1} → statement M
-open-chunk-spec = tie.close (tie.spec (λ c κs. search needs) (λ c. search needs) returns)
+open-chunk-spec = tie.close (tie.spec (λ c κs. tt) (λ c. search needs) returns)

@@ -18,4 +18,4 @@ returns c =
     (λ _ _. after-access _ _ (c .before .before .before .before .count .ensures))
 
 pub test-access-spec : {M : Type 1} → statement M
-test-access-spec = tie.close (tie.spec (λ c κs. search needs) (λ c κs. search needs) (λ c. search needs) (λ c κs. search needs) returns)
+test-access-spec = tie.close (tie.spec (λ c κs. search needs) (λ c κs. tt) (λ c. search needs) (λ c κs. tt) returns)

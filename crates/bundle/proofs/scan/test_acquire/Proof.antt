@@ -18,4 +18,4 @@ returns c =
     (λ ranged unheld. after-acquire _ _ ranged unheld (c .before .before .before .before .before .after-acquire .ensures) (c .before .before .before .before .count .ensures))
 
 pub test-acquire-spec : {M : Type 1} → statement M
-test-acquire-spec = tie.close (tie.spec (λ c κs. search needs) (λ c κs. search needs) (λ c κs. search needs) (λ c κs. search needs) (λ c κs. search needs) returns)
+test-acquire-spec = tie.close (tie.spec (λ c κs. tt) (λ c κs. search needs) (λ c κs. tt) (λ c κs. tt) (λ c κs. tt) returns)

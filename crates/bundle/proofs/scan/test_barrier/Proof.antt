@@ -19,4 +19,4 @@ returns c =
     (λ _ _. after-barrier (c .before .before .before .before .before .before .pre) (c .before .before .before .before .after-barrier .ensures) (c .before .before .before .count .ensures))
 
 pub test-barrier-spec : {M : Type 1} → statement M
-test-barrier-spec = tie.close (tie.spec (λ c κs. search needs) (λ c κs. search needs) (λ c κs. search needs) (λ c κs. search needs) returns)
+test-barrier-spec = tie.close (tie.spec (λ c κs. tt) (λ c κs. search needs) (λ c κs. search needs) (λ c κs. tt) returns)

@@ -20,4 +20,4 @@ returns c =
     (λ _ _. simp add-zero (c .before .before .before .close-chunk .ensures))
 
 pub test-end-spec : {M : Type 1} → statement M
-test-end-spec = tie.close (tie.spec (λ c κs. search needs) (λ c κs. search needs) returns)
+test-end-spec = tie.close (tie.spec (λ c κs. tt) (λ c κs. tt) returns)

@@ -19,4 +19,4 @@ returns c =
     (λ _ _. simp add-zero (c .before .before .before .open-chunk .ensures))
 
 pub test-member-spec : {M : Type 1} → statement M
-test-member-spec = tie.close (tie.spec (λ c κs. search needs) (λ c κs. search needs) (λ c κs. search needs) (λ c κs. search needs) returns)
+test-member-spec = tie.close (tie.spec (λ c κs. search needs) (λ c κs. tt) (λ c κs. search needs) (λ c κs. tt) returns)

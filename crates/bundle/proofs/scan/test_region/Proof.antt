@@ -18,4 +18,4 @@ returns c =
     (λ _ _. after-region (c .before .before .before .before .before .before .before .before .pre) _ _ (c .before .before .before .before .before .before .after-join .ensures) (c .before .before .before .before .before .count .ensures))
 
 pub test-region-spec : {M : Type 1} → statement M
-test-region-spec = tie.close (tie.spec (λ c κs. search needs) (λ c κs. search needs) (λ c κs. search needs) (λ c κs. search needs) (λ c κs. search needs) returns)
+test-region-spec = tie.close (tie.spec (λ c κs. tt) (λ c κs. search needs) (λ c κs. tt) (λ c κs. search needs) (λ c κs. tt) returns)

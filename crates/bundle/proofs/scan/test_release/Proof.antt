@@ -19,4 +19,4 @@ returns c =
     (λ ranged held. after-release _ _ held (c .before .before .before .before .before .after-release .ensures) (c .before .before .before .before .count .ensures))
 
 pub test-release-spec : {M : Type 1} → statement M
-test-release-spec = tie.close (tie.spec (λ c κs. search needs) (λ c κs. search needs) (λ c κs. search needs) (λ c κs. search needs) (λ c κs. search needs) returns)
+test-release-spec = tie.close (tie.spec (λ c κs. tt) (λ c κs. search needs) (λ c κs. tt) (λ c κs. tt) (λ c κs. tt) returns)

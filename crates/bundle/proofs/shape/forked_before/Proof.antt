@@ -4,7 +4,7 @@ use Rattle.bundle.proofs.shape.forked_before.Statement.{statement}
 use Rattle.bundle.proofs.shape.forked_before.Tie as tie
 
 returns : tie.Need-returns
-returns c = cc
+returns c = rw (c .slot-of .ensures, c .before .fork-at .ensures)
 
 pub forked-before-spec : {M : Type 1} → statement M
-forked-before-spec = tie.close (tie.spec (λ c κs. search needs) (λ c κs. search needs) returns)
+forked-before-spec = tie.close (tie.spec (λ c κs. tt) (λ c κs. search needs) returns)

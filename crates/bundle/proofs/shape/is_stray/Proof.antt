@@ -4,7 +4,7 @@ use Rattle.bundle.proofs.shape.is_stray.Statement.{statement}
 use Rattle.bundle.proofs.shape.is_stray.Tie as tie
 
 returns : tie.Need-returns
-returns c = cc
+returns c = rw (c .met .ensures, c .before .size-of .ensures)
 
 pub is-stray-spec : {M : Type 1} → statement M
-is-stray-spec = tie.close (tie.spec (λ c κs. search needs) (λ c κs. search needs) returns)
+is-stray-spec = tie.close (tie.spec (λ c κs. search needs) (λ c κs. tt) returns)

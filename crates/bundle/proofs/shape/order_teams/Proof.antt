@@ -11,4 +11,4 @@ returns c = teams-sorted (c .before .before .before .before .before .before .bef
 pub order-teams-spec : {M : Type 1} → statement M
 order-teams-spec =
     tie.close
-    (tie.spec (λ c κs. search needs) (λ c. search needs) (λ c κs. search needs) (λ c. search needs) returns)
+    (tie.spec (λ c κs. search needs) (λ c. search needs) (λ c κs. tt) (λ c. search needs) returns)

@@ -14,4 +14,4 @@ returns-3 : tie.Need-returns-3
 returns-3 c = size-some _ _ _ _ (c .before .before .before .before .pre) (c .before .before .if1 .left) (c .before .if2 .left) _ (c .fork-at .ensures)
 
 pub size-of-spec : {M : Type 1} → statement M
-size-of-spec = tie.close (tie.spec returns returns-2 (λ c κs. search needs) returns-3)
+size-of-spec = tie.close (tie.spec returns returns-2 (λ c κs. tt) returns-3)

@@ -9,4 +9,4 @@ cast-result : tie.Need-cast-result
 cast-result c = omega (arith, c .first-with-key .ensures, key-fits (c .before .before .args .order .now) (c .before .before .args .team) (c .before .before .pre))
 
 pub slot-of-spec : {M : Type 1} → statement M
-slot-of-spec = tie.close (tie.spec (λ c κs. search needs) cast-result (λ c. search needs))
+slot-of-spec = tie.close (tie.spec (λ c κs. tt) cast-result (λ c. search needs))

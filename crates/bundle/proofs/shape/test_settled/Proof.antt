@@ -27,15 +27,15 @@ test-settled-spec =
     tie.close
     (tie.spec
     (λ c κs. search needs)
-    (λ c κs. search needs)
+    (λ c κs. tt)
     returns
     (λ c κs. search needs)
-    (λ c κs. search needs)
+    (λ c κs. tt)
     returns-2
     (λ c κs. search needs)
-    (λ c κs. search needs)
+    (λ c κs. tt)
     returns-3
     (λ c κs. search needs)
-    (λ c κs. search needs)
+    (λ c κs. tt)
     returns-4
     returns-5)

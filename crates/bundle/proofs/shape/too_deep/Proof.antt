@@ -15,4 +15,4 @@ unfolding deepBy
 returns-2 c = simp (c .climb .ensures, sym (c .before .before .fork-at .ensures), le-ltb _ _ (c .before .if1 .left))
 
 pub too-deep-spec : {M : Type 1} → statement M
-too-deep-spec = tie.close (tie.spec (λ c κs. search needs) returns (λ c κs. search needs) returns-2)
+too-deep-spec = tie.close (tie.spec (λ c κs. tt) returns (λ c κs. search needs) returns-2)

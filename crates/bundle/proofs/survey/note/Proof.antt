@@ -9,60 +9,54 @@ use Rattle.bundle.proofs.survey.note.Tie as tie
 
 returns : tie.Need-returns
 unfolding passAfter newChunks newForks
-returns c = rw (c .before .before .before .command .given .1) (noted-none _ _ _ _ _ _ _ (rw (c .before .opened .ensures) at (c .move-on .ensures)) refl refl refl refl)
+returns c = rw (c .before .before .command .given .1) (noted-none _ _ _ _ _ _ _ (rw (c .before .before .before .before .move-on .ensures, c .opened .ensures)) refl refl refl refl)
 
 returns-2 : tie.Need-returns-2
 unfolding closes
-returns-2 c = rw (c .before .before .before .before .before .before .enum-told .given .1) (noted-chunk _ _ _ _ _ _ _ _ _ refl (c .move-on2 .ensures) (c .before .before .before .before .closed-row .ensures .0) (c .before .before .before .add-chunk .ensures))
+returns-2 c = rw (c .before .before .before .before .before .enum-told .given .1) (noted-chunk _ _ _ _ _ _ _ _ _ refl (rw (c .before .before .before .before .before .before .before .move-on .ensures)) (c .before .before .before .closed-row .ensures .0) (c .before .before .add-chunk .ensures))
 
 returns-3 : tie.Need-returns-3
-returns-3 c = rw (c .before .before .before .before .before .before .before .command2 .given .1) (noted-fork _ _ _ _ _ _ _ _ _ _ (c .move-on3 .ensures) (c .before .before .before .before .fork-row .ensures .0) (c .before .before .before .add-fork .ensures))
+returns-3 c = rw (c .before .before .before .before .before .before .command2 .given .1) (noted-fork _ _ _ _ _ _ _ _ _ _ (rw (c .before .before .before .before .before .before .before .before .move-on .ensures)) (c .before .before .before .fork-row .ensures .0) (c .before .before .add-fork .ensures))
 
 returns-4 : tie.Need-returns-4
 unfolding passAfter newChunks newForks
-returns-4 c = rw (c .before .enum-told2 .given .1) (noted-none _ _ _ _ _ _ _ (c .move-on4 .ensures) refl refl refl refl)
+returns-4 c = rw (c .enum-told2 .given .1) (noted-none _ _ _ _ _ _ _ (c .before .before .move-on .ensures) refl refl refl refl)
 
 returns-5 : tie.Need-returns-5
 unfolding passAfter newChunks newForks
-returns-5 c = rw (c .before .enum-told3 .given .1) (noted-none _ _ _ _ _ _ _ (c .move-on5 .ensures) refl refl refl refl)
+returns-5 c = rw (c .enum-told3 .given .1) (noted-none _ _ _ _ _ _ _ (c .before .before .move-on .ensures) refl refl refl refl)
 
 returns-6 : tie.Need-returns-6
 unfolding passAfter newChunks newForks
-returns-6 c = rw (c .before .enum-told4 .given .1) (noted-none _ _ _ _ _ _ _ (c .move-on6 .ensures) refl refl refl refl)
+returns-6 c = rw (c .enum-told4 .given .1) (noted-none _ _ _ _ _ _ _ (c .before .before .move-on .ensures) refl refl refl refl)
 
 returns-7 : tie.Need-returns-7
 unfolding passAfter newChunks newForks
-returns-7 c = rw (c .before .enum-told5 .given .1) (noted-none _ _ _ _ _ _ _ (c .move-on7 .ensures) refl refl refl refl)
+returns-7 c = rw (c .enum-told5 .given .1) (noted-none _ _ _ _ _ _ _ (c .before .before .move-on .ensures) refl refl refl refl)
 
 pub note-spec : {M : Type 1} → statement M
 note-spec =
     tie.close
     (tie.spec
+    (λ c κs. tt)
     (λ c. search needs)
-    (λ c κs. search needs)
-    (λ c κs. search needs)
+    (λ c κs. c .before .before .before .before .before .before .pre .near)
     (λ c. search needs)
-    (λ c κs. search needs)
-    (λ c κs. search needs)
+    (λ c κs. c .before .before .before .before .before .before .pre .near)
+    (λ c κs. (c .before .before .before .before .before .before .before .pre .chunk-room, c .closed-row .ensures .1))
     (λ c. search needs)
-    (λ c κs. search needs)
     (λ c. search needs)
-    (λ c κs. search needs)
-    (λ c κs. search needs)
+    (λ c κs. c .before .before .before .before .before .before .before .pre .near)
+    (λ c κs. (c .before .before .before .before .before .before .before .before .pre .fork-room, c .fork-row .ensures .1))
     (λ c. search needs)
-    (λ c κs. search needs)
     (λ c. search needs)
-    (λ c κs. search needs)
     (λ c. search needs)
-    (λ c κs. search needs)
     (λ c. search needs)
-    (λ c κs. search needs)
     (λ c. search needs)
-    (λ c κs. search needs)
     returns
-    (λ c. search needs)
+    (λ c. c .before .chunks .given)
     returns-2
-    (λ c. search needs)
+    (λ c. c .before .forks .given)
     returns-3
     returns-4
     returns-5

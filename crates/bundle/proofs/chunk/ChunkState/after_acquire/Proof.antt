@@ -23,4 +23,4 @@ returns-3 c = rw (lt-ltb _ _ (c .before .before .if1 .left), sym (c .before .hol
 
 pub after-acquire-spec : {M : Type 1} → statement M
 after-acquire-spec =
-    tie.close (tie.spec returns (λ c κs. search needs) returns-2 (λ c. search needs) add-t8 returns-3)
+    tie.close (tie.spec returns (λ c κs. tt) returns-2 (λ c. search needs) add-t8 returns-3)

@@ -22,4 +22,4 @@ returns-3 c = rw (sym (c .before .holds-lock .ensures) ∙ c .if2 .left)
 
 pub after-release-spec : {M : Type 1} → statement M
 after-release-spec =
-    tie.close (tie.spec returns (λ c κs. search needs) (λ c. search needs) sub-t8 returns-2 returns-3)
+    tie.close (tie.spec returns (λ c κs. tt) (λ c. search needs) sub-t8 returns-2 returns-3)
