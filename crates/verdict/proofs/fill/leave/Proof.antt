@@ -7,4 +7,4 @@ returns : tie.Need-returns
 returns c = rw (c .before .fresh .ensures)
 
 pub leave-spec : {M : Type 1} → statement M
-leave-spec = tie.close (tie.spec (λ c κs. search needs) (λ c. search needs) returns)
+leave-spec = tie.close (tie.spec (λ c κs. tt) (λ c. search needs) returns)

@@ -9,4 +9,4 @@ unfolding rowHere
 returns c = rw (c .last-byte .ensures, c .before .kind-code .ensures)
 
 pub row-here-spec : {M : Type 1} → statement M
-row-here-spec = tie.close (tie.spec (λ c. search needs) (λ c. search needs) (λ c κs. search needs) (λ c κs. search needs) returns)
+row-here-spec = tie.close (tie.spec (λ c. search needs) (λ c. search needs) (λ c κs. tt) (λ c κs. search needs) returns)

@@ -21,4 +21,4 @@ returns-2 c =
     (e, promised _ _ _ (λ i h. omega (arith, judged .before .before .before .before .shared-slice-known .given i)) e)
 
 pub judge-spec : {M : Type 1} → statement M
-judge-spec = tie.close (tie.spec returns (λ c κs. search needs) (λ c κs. search needs) (λ c. search needs) returns-2)
+judge-spec = tie.close (tie.spec returns (λ c κs. search needs) (λ c κs. tt) (λ c. search needs) returns-2)

@@ -29,10 +29,10 @@ pub judge-in-spec : {M : Type 1} → statement M
 judge-in-spec =
     tie.close
     (tie.spec
-    (λ c κs. search needs)
+    (λ c κs. tt)
     (λ c. search needs)
     take-census-requires
-    (λ c κs. search needs)
+    (λ c κs. tt)
     (λ c. search needs)
     (λ c. search needs)
     returns

@@ -14,4 +14,4 @@ returns-2 c =
     (found .next-in .ensures .1) (c .before .before .clear .ensures)
 
 pub next-race-spec : {M : Type 1} → statement M
-next-race-spec = tie.close (tie.spec returns (λ c κs. search needs) (λ c κs. search needs) (λ c. search needs) returns-2)
+next-race-spec = tie.close (tie.spec returns (λ c κs. search needs) (λ c κs. tt) (λ c. search needs) returns-2)

@@ -11,4 +11,4 @@ returns-2 : tie.Need-returns-2
 returns-2 c = race-counted _ _ _ (c .before .before .takes-place .ensures) (c .before .if1 .left)
 
 pub add-race-spec : {M : Type 1} → statement M
-add-race-spec = tie.close (tie.spec (λ c. search needs) (λ c κs. search needs) returns returns-2)
+add-race-spec = tie.close (tie.spec (λ c. search needs) (λ c κs. tt) returns returns-2)

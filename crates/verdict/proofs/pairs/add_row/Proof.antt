@@ -56,7 +56,7 @@ add-row-spec =
     (tie.spec
     Inv-loop
     μ-loop
-    (λ c κs. search needs)
+    (λ c κs. tt)
     loop-holds
     (λ c. search needs)
     (λ c. search needs)
@@ -65,5 +65,5 @@ add-row-spec =
     add-block
     loop-less
     loop-again
-    (λ c κs. search needs)
+    (λ c κs. tt)
     returns)

@@ -37,7 +37,7 @@ all-pairs-spec =
     (tie.spec
     Inv-loop
     μ-loop
-    (λ c κs. search needs)
+    (λ c κs. tt)
     loop-holds
     (λ c κs. search needs)
     add-row-requires

@@ -6,7 +6,7 @@ use Rattle.verdict.proofs.pairs.bounds_meet.Tie as tie
 
 returns : tie.Need-returns
 unfolding accessRowAt
-returns c = cc
+returns c = rw (c .before .word-at2 .ensures, c .before .before .before .word-at .ensures)
 
 pub bounds-meet-spec : {M : Type 1} → statement M
 bounds-meet-spec =

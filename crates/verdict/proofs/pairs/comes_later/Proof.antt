@@ -1,6 +1,5 @@
 -- `verdict::pairs::comes_later` meets its contract. Assumes nothing.
 use Rattle.verdict.proofs.PairCases.{later-told}
-use borrow.Author.Needs.{needs}
 use Rattle.verdict.proofs.pairs.comes_later.Statement.{statement}
 use Rattle.verdict.proofs.pairs.comes_later.Tie as tie
 
@@ -10,4 +9,4 @@ returns c = later-told (c .before .before .before .before .before .before .befor
 pub comes-later-spec : {M : Type 1} → statement M
 comes-later-spec =
     tie.close
-    (tie.spec (λ c κs. search needs) (λ c κs. search needs) (λ c κs. search needs) (λ c κs. search needs) returns)
+    (tie.spec (λ c κs. tt) (λ c κs. tt) (λ c κs. tt) (λ c κs. tt) returns)

@@ -6,7 +6,7 @@ use Rattle.verdict.proofs.pairs.passes.Tie as tie
 
 returns : tie.Need-returns
 unfolding rowsPass
-returns c = cc
+returns c = rw (c .kinds-clash .ensures, c .before .locks-apart .ensures, c .before .before .bounds-meet .ensures)
 
 pub passes-spec : {M : Type 1} → statement M
 passes-spec =

@@ -1,6 +1,5 @@
 -- `verdict::pairs::race_below` meets its contract. Assumes nothing.
 use Rattle.verdict.specs.Races.{raceBelow, raceKey}
-use borrow.Author.Needs.{needs}
 use Rattle.verdict.proofs.pairs.race_below.Statement.{statement}
 use Rattle.verdict.proofs.pairs.race_below.Tie as tie
 
@@ -9,4 +8,4 @@ unfolding raceBelow raceKey
 returns c = c .key-below .ensures
 
 pub race-below-spec : {M : Type 1} → statement M
-race-below-spec = tie.close (tie.spec (λ c κs. search needs) returns)
+race-below-spec = tie.close (tie.spec (λ c κs. tt) returns)

@@ -1,6 +1,5 @@
 -- `verdict::pairs::race_between` meets its contract. Assumes nothing.
 use Rattle.verdict.proofs.PairCases.{one-first, other-first}
-use borrow.Author.Needs.{needs}
 use Rattle.verdict.proofs.pairs.race_between.Statement.{statement}
 use Rattle.verdict.proofs.pairs.race_between.Tie as tie
 
@@ -20,10 +19,10 @@ pub race-between-spec : {M : Type 1} → statement M
 race-between-spec =
     tie.close
     (tie.spec
-    (λ c κs. search needs)
-    (λ c κs. search needs)
-    (λ c κs. search needs)
-    (λ c κs. search needs)
+    (λ c κs. tt)
+    (λ c κs. tt)
+    (λ c κs. tt)
+    (λ c κs. tt)
     returns
-    (λ c κs. search needs)
+    (λ c κs. tt)
     returns-2)

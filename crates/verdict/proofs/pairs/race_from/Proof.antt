@@ -1,10 +1,9 @@
 -- `verdict::pairs::race_from` meets its contract. Assumes nothing.
-use borrow.Author.Needs.{needs}
 use Rattle.verdict.proofs.pairs.race_from.Statement.{statement}
 use Rattle.verdict.proofs.pairs.race_from.Tie as tie
 
 returns : tie.Need-returns
-returns c = cc
+returns c = rw (c .name-of2 .ensures, c .before .name-of .ensures)
 
 pub race-from-spec : {M : Type 1} → statement M
-race-from-spec = tie.close (tie.spec (λ c κs. search needs) (λ c κs. search needs) returns)
+race-from-spec = tie.close (tie.spec (λ c κs. tt) (λ c κs. tt) returns)

@@ -1,5 +1,4 @@
 -- `verdict::pairs::sum_of` meets its contract. Assumes nothing.
-use borrow.Author.Needs.{needs}
 use Rattle.verdict.proofs.PairCases.{sum-whole}
 use Rattle.verdict.proofs.pairs.sum_of.Statement.{statement}
 use Rattle.verdict.proofs.pairs.sum_of.Tie as tie
@@ -11,6 +10,6 @@ pub sum-of-spec : {M : Type 1} → statement M
 sum-of-spec =
     tie.close
     (tie.spec
-    (λ c κs. search needs)
-    (λ c κs. search needs)
+    (λ c κs. tt)
+    (λ c κs. tt)
     returns)

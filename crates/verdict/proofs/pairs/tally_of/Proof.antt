@@ -4,8 +4,8 @@ use Rattle.verdict.proofs.pairs.tally_of.Statement.{statement}
 use Rattle.verdict.proofs.pairs.tally_of.Tie as tie
 
 returns : tie.Need-returns
-returns c = cc
+returns c = rw (c .before .name-in2 .ensures, c .before .before .before .name-in .ensures)
 
 pub tally-of-spec : {M : Type 1} → statement M
 tally-of-spec =
-    tie.close (tie.spec (λ c κs. search needs) (λ c. search needs) (λ c κs. search needs) (λ c. search needs) returns)
+    tie.close (tie.spec (λ c κs. tt) (λ c. search needs) (λ c κs. tt) (λ c. search needs) returns)

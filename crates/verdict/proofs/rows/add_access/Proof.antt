@@ -63,15 +63,15 @@ add-access-spec =
     (λ c. search needs)
     (λ c. search needs)
     slice-write-rows-5
-    (λ c κs. search needs)
+    (λ c κs. tt)
     (λ c. search needs)
     (λ c. search needs)
     slice-write-rows-6
-    (λ c κs. search needs)
+    (λ c κs. tt)
     (λ c. search needs)
     (λ c. search needs)
     slice-write-rows-7
-    (λ c κs. search needs)
+    (λ c κs. tt)
     (λ c. search needs)
     (λ c. search needs)
     slice-write-rows-8
