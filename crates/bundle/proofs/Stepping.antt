@@ -6,13 +6,13 @@ use mathlib.Core.List.{List}
 use native.Mathlib.Omega.{arith}
 use lib.Dec.{eqb, ltb}
 use borrow.Author.Tests.{lt-ltb, le-ltb}
-use Rattle.bundle.specs.Answer.{Answer, gives, refuses, numberOf}
+use Rattle.bundle.specs.Answer.{Answer, gives, refuses}
 use Rattle.bundle.specs.Locks.{holds}
 use Rattle.bundle.specs.Commands.{Taken, operandsOk, inRange, decodeAt, readingOf}
 use Rattle.bundle.specs.Chunks.{afterBarrier, afterJoin, afterAcquire, afterRelease, afterCommand}
 use Rattle.bundle.specs.Walk.{opensSegment, addsAccess}
 use Rattle.bundle.specs.Scan.{misplaced, aboveOwnTeam, misusesLock, tooMany, faultOf, scanned}
-use Rattle.bundle.specs.Survey.{Bounded, counted, Stepped, decided, testedAt, stepAt}
+use Rattle.bundle.specs.Survey.{Bounded, counted, Stepped, unmoved, decided, testedAt, stepAt}
 use Rattle.bundle.specs.declared.refusal.Cause.{Cause}
 use Rattle.bundle.specs.declared.chunk.ChunkState.{ChunkState}
 use Rattle.bundle.specs.declared.chunk.Scan.{Scan}
@@ -145,7 +145,7 @@ tested k at t {k′ = k′} e₄ e₅ e₆ e₇ after =
 
 -- what was decoded, refused or taken
 module _ (s : List ℕ) (at : ℕ) (k : Scan) {r : Reading} (decodes : readingOf r ≡ decodeAt s at) where
-  pub step-refused : {place : ℕ} {cause : Cause} → r ≡ Read.Refused place cause → refuses (numberOf cause) place ≡ stepAt s at k
+  pub step-refused : {place : ℕ} {cause : Cause} → r ≡ Read.Refused place cause → unmoved k (readingOf r) ≡ stepAt s at k
   unfolding stepAt
   step-refused e = rw (← decodes, e)
 

@@ -50,6 +50,10 @@ pub record Stepped : Type 0 where
   pub command : Command
   pub next : ℕ
 
+-- what was read, with the scan as it stands
+abbrev pub unmoved : Scan → Answer Taken → Answer Stepped
+unmoved k a = whenGiven a (λ t. gives (record { scan = k; command = t .command; next = t .next }))
+
 -- 4 to 7 in that order, where the tests say so
 abbrev pub decided : ℕ → Bool → Bool → Bool → Bool → Answer Stepped → Answer Stepped
 decided at misplaced beyond misused many onward =

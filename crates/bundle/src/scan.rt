@@ -15,7 +15,7 @@ ghost use lib.Dec.{ltb};
 ghost use Rattle.bundle.specs.Answer.{refuses, numberOf};
 ghost use Rattle.bundle.specs.Chunks.{fresh};
 ghost use Rattle.bundle.specs.Commands.{readingOf};
-ghost use Rattle.bundle.specs.Survey.{Bounded, stepOf, decided, testedAt, stepAt, counted};
+ghost use Rattle.bundle.specs.Survey.{Bounded, stepOf, unmoved, decided, testedAt, stepAt, counted};
 
 // What the scan says to a command.
 pub enum Step {
@@ -266,13 +266,28 @@ fn test(scan: Scan, command: Command, next: usize, place: usize) -> Step
     }
 }
 
+// What was read as an answer of the scan, which has not moved: so a refusal is passed on.
+fn as_step(reading: Reading, scan: Scan) -> Step
+    ensures { λ r. ⌜ stepOf r ≡ unmoved scan (readingOf reading) ⌝ }
+{
+    match reading {
+        Reading::Taken { next, command } => Step::Onward {
+            next,
+            scan,
+            command,
+        },
+        Reading::Refused { place, cause } => Step::Refused { cause, place },
+    }
+}
+
 // The command at a position, tested.
 pub fn step_at(bytes: &[u8], at: usize, scan: Scan) -> Step
     requires { ⌜ Bounded scan ⌝ }
     ensures { λ r. ⌜ stepOf r ≡ stepAt (now (bytes .entry)) at scan ⌝ }
 {
-    match decode_command(bytes, at) {
-        Reading::Taken { next, command } => test(scan, command, next, at),
-        Reading::Refused { place, cause } => refuse(cause, place),
-    }
+    let reading = decode_command(bytes, at);
+    let Reading::Taken { next, command } = reading else {
+        return as_step(reading, scan);
+    };
+    test(scan, command, next, at)
 }
