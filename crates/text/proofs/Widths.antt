@@ -4,7 +4,7 @@ use mathlib.Core.Path.{_≡_, refl, sym, ap, _∙_}
 use mathlib.Core.Bool.{Bool, true, false}
 use mathlib.Core.List.{[], _∷_}
 use Prim.Native.Nat.{ℕ, zero, suc, _+_, _-_, _*_, _/_, _^_, _≤_, _<_}
-use native.Mathlib.Nat.{div-lt-self, div-lt-iff-lt-mul, mul-le-mul, pow-le-pow-right, pow-zero, pow-suc, one-mul}
+use native.Mathlib.Nat.{div-lt-self, div-lt-iff-lt-mul, le-div-iff-mul-le, mul-le-mul, pow-le-pow-right, pow-zero, pow-suc, one-mul}
 use native.Mathlib.Decide.{decLt}
 use native.Mathlib.Omega.{arith}
 use borrow.Author.Tests.{lt-ltb, le-ltb, lt-leb, le-leb}
@@ -90,6 +90,24 @@ module _ (base : ℕ) (two : 2 ≤ base) where
   pub width-fits : (n : ℕ) → n < base ^ widthOf base n
   unfolding widthOf
   width-fits n = fits-within n n (omega arith)
+
+  -- one digit less would not
+  least-within : (f n k : ℕ) → n ≤ f → 1 ≤ n → widthWithin f base n ≡ suc k → base ^ k ≤ n
+  least-within f n zero h some e = omega (arith, pow-zero base)
+  least-within zero n (suc k) h some e = absurd (omega arith)
+  least-within (suc f) n (suc k) h some e = go (least-within f (n / base) k) (decLt n base)
+    where
+      go : (n / base ≤ f → 1 ≤ n / base → widthWithin f base (n / base) ≡ suc k → base ^ k ≤ n / base) → Dec (n < base) → base ^ suc k ≤ n
+      go more (yes l) = absurd (omega (arith, e, within-below (suc f) n l))
+      go more (no l) =
+          let high : base ≤ n = omega arith in
+          let some : 1 ≤ n / base = le-div-iff-mul-le {k = base} (omega arith) .1 (rw (one-mul base) high) in
+          rw (pow-suc base k)
+          (le-div-iff-mul-le {k = base} (omega arith) .0 (more (omega (arith, smaller n high)) some (omega (arith, e, within-more f n high))))
+
+  pub width-least : (n k : ℕ) → 1 ≤ n → widthOf base n ≡ suc k → base ^ k ≤ n
+  unfolding widthOf
+  width-least n k some e = least-within n n k (omega arith) some e
 
 -- the numbers of 16 bits, in decimal
 pub positive : (k : ℕ) → 0 < 10 ^ k

@@ -19,22 +19,18 @@ width-at t = and 0 width-kinds.ps (is 0 width-kinds.ps μ-width t) width.Pre
 abbrev width-below : ℕ → In 0 width-kinds.ps
 width-below t = and 0 width-kinds.ps (falls 0 width-kinds.ps _<_ μ-width t) width.Pre
 
--- src/digits.rt:45:9
 width-returns :
     (t : ℕ) → width-lts.Need-returns (width-below t, width.Post) (width-at t) width.Post
 width-returns t c = long-below _ (c .if1 .taken)
 
--- src/digits.rt:47:9
 width-width-requires :
     (t : ℕ) → width-lts.Need-width-requires (width-below t, width.Post) (width-at t) width.Post
 width-width-requires t c κs = search needs
 
--- src/digits.rt:47:5
 width-add-result :
     (t : ℕ) → width-lts.Need-add-result (width-below t, width.Post) (width-at t) width.Post
 width-add-result t c = search needs
 
--- src/digits.rt:41:1
 width-returns-2 :
     (t : ℕ) → width-lts.Need-returns-2 (width-below t, width.Post) (width-at t) width.Post
 width-returns-2 t c = long-more _ _ (search needs) (c .before .if1 .left) (c .width .ensures)

@@ -1,6 +1,6 @@
+-- `text::digits::put_digits` meets its contract. The invariant: the digits from place i on are written. The measure: i. Assumes nothing.
 use native.Mathlib.Nat.{mod-lt}
 use native.Mathlib.Omega.{arith}
--- `text::digits::put_digits` meets its contract. The invariant: the digits from place i on are written. The measure: i. Assumes nothing.
 use Rattle.text.proofs.Making.{Filled, filled-none, filled-more, filled-all}
 use borrow.Author.Needs.{needs}
 use Rattle.text.proofs.digits.put_digits.Statement.{statement}
