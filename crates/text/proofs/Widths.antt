@@ -190,6 +190,10 @@ scaled (suc (suc (suc (suc zero)))) l h = refl
 scaled (suc (suc (suc (suc (suc zero))))) l h = refl
 scaled (suc (suc (suc (suc (suc (suc w)))))) l h = absurd (omega arith)
 
-pub scaled-fits : (n w r : ℕ) → n < 65536 → r ≡ 10 ^ (5 - w) → n * r < 18446744073709551616
-scaled-fits n w r room e =
-    omega (arith, mul-le-mul {n₁ = n} {m₁ = r} {n₂ = 65535} {m₂ = 100000} (omega arith) (rw e (pow-le-pow-right {n = 10} (omega arith) {i = 5 - w} {j = 5} (omega arith))))
+pub scaled-fits : (n w r : ℕ) → n < 65536 → 1 ≤ w → r ≡ 10 ^ (5 - w) → n * r < 4294967296
+scaled-fits n w r room some e =
+    omega (
+      arith,
+      mul-le-mul {n₁ = n} {m₁ = r} {n₂ = 65535} {m₂ = 10000} (omega arith)
+          (rw e (pow-le-pow-right {n = 10} (omega arith) {i = 5 - w} {j = 4} (omega arith))),
+    )

@@ -20,7 +20,8 @@ unfoldable pub digits : ℕ → ℕ → ℕ → List ℕ
 digits base zero n = []
 digits base (suc k) n = digitByte (n / base ^ k % base) ∷ digits base k n
 
--- how many digits a number has in a base without leading zeros: 0 has one digit, as any number below the base has. As `limit` the number itself will do
+-- how many digits a number has in a base without leading zeros: a number below the base has one, 0 too. The number itself is a limit that
+-- is never reached
 unfoldable pub widthWithin : ℕ → ℕ → ℕ → ℕ
 widthWithin zero base n = 1
 widthWithin (suc limit) base n = elim (ltb n base) [ true ↦ 1 | false ↦ suc (widthWithin limit base (n / base)) ]

@@ -5,7 +5,7 @@ ghost use lib.ListN.{length};
 ghost use Rattle.text.specs.Digits.{digitByte, digits, decimal, hexadecimal, widthOf};
 ghost use Rattle.text.specs.Inner.{Width, Extended};
 
-fn digit(number: u64) -> u8
+fn digit(number: u32) -> u8
     requires { ⌜ number < 16 ⌝ }
     ensures { λ r. ⌜ r ≡ digitByte number ⌝ }
 {
@@ -24,7 +24,7 @@ fn put_digits(number: u64, base: u64, width: usize, line: &mut [u8; 96], at: usi
     let mut i = width;
     while 0 < i {
         i -= 1;
-        line[at + i] = digit(rest % base);
+        line[at + i] = digit((rest % base) as u32);
         rest = rest / base;
     }
 }
@@ -56,6 +56,7 @@ pub fn put_decimal(number: u64, line: &mut [u8; 96], at: usize) -> usize
     at + width
 }
 
+// The same for a number of 16 bits, without a branch.
 fn short_width(number: u16) -> usize
     ensures { λ r. ⌜ Width number r 5 ⌝ }
 {
@@ -66,16 +67,17 @@ fn short_width(number: u16) -> usize
         + (10000 <= number) as usize
 }
 
-fn scale(width: usize) -> u64
+// The power of ten that takes a number of this width to five digits.
+fn scale(width: usize) -> u32
     requires { ⌜ (1 ≤ width) × (width ≤ 5) ⌝ }
     ensures { λ r. ⌜ r ≡ 10 ^ (5 - width) ⌝ }
 {
     SCALES[width]
 }
 
-const SCALES: [u64; 6] = [0, 10000, 1000, 100, 10, 1];
+const SCALES: [u32; 6] = [0, 10000, 1000, 100, 10, 1];
 
-fn put_five(number: u64, line: &mut [u8; 96], at: usize)
+fn put_five(number: u32, line: &mut [u8; 96], at: usize)
     requires { ⌜ (at ≤ 91) × (length (now line) ≡ 96) ⌝ }
     ensures { λ _. ⌜ Extended (now (line .entry)) (now (line .exit)) at (at + 5) 5 (digits 10 5 number) ⌝ }
 {
@@ -86,12 +88,12 @@ fn put_five(number: u64, line: &mut [u8; 96], at: usize)
     line[at + 4] = digit(number % 10);
 }
 
-// The same as `put_decimal`, without a branch: five digits are written, those behind the number's own are not counted.
+// The same as `put_decimal` for a number of 16 bits, without a branch: five digits are written, those behind the number's own do not count.
 pub fn put_short(number: u16, line: &mut [u8; 96], at: usize) -> usize
     requires { ⌜ (at ≤ 91) × (length (now line) ≡ 96) ⌝ }
     ensures { λ r. ⌜ Extended (now (line .entry)) (now (line .exit)) at r 5 (decimal number) ⌝ }
 {
     let width = short_width(number);
-    put_five(number as u64 * scale(width), line, at);
+    put_five(number as u32 * scale(width), line, at);
     at + width
 }

@@ -21,6 +21,11 @@ sub-i c = search needs
 rem-digit : tie.Need-rem-digit Inv-loop μ-loop
 rem-digit c = search needs
 
+cast-digit : tie.Need-cast-digit Inv-loop μ-loop
+cast-digit c =
+    let h = mod-lt (c .before .loop .rest) {m = c .before .before .args .base} (search needs) in
+    record { fits = omega arith }
+
 digit-requires : tie.Need-digit-requires Inv-loop μ-loop
 digit-requires c κs = let h = mod-lt (c .before .loop .rest) {m = c .before .before .args .base} (search needs) in omega arith
 
@@ -51,6 +56,7 @@ put-digits-spec =
     loop-holds
     sub-i
     rem-digit
+    cast-digit
     digit-requires
     add-line
     element-write-line

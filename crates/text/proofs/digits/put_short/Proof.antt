@@ -6,7 +6,7 @@ use Rattle.text.proofs.digits.put_short.Statement.{statement}
 use Rattle.text.proofs.digits.put_short.Tie as tie
 
 mul-put-five : tie.Need-mul-put-five
-mul-put-five c = record { fits = scaled-fits _ _ _ (search needs) (c .scale .ensures) }
+mul-put-five c = record { fits = scaled-fits _ _ _ (search needs) (c .before .short-width .ensures .some) (c .scale .ensures) }
 
 returns : tie.Need-returns
 returns c =
