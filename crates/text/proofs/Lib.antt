@@ -1,0 +1,8 @@
+-- Laws over the definitions.
+pub mod Widths
+pub mod Making
+pub mod Assembling
+pub mod LineEnds
+pub mod Printing
+pub mod Reading
+pub mod Examples

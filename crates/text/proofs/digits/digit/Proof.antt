@@ -1,0 +1,19 @@
+-- `text::digits::digit` meets its contract. Assumes nothing.
+use borrow.Author.Tests.{lt-ltb, le-ltb}
+use Rattle.text.specs.Digits.{digitByte}
+use borrow.Author.Needs.{needs}
+use Rattle.text.proofs.digits.digit.Statement.{statement}
+use Rattle.text.proofs.digits.digit.Tie as tie
+
+returns : tie.Need-returns
+unfolding digitByte
+returns c = rw (lt-ltb _ 10 (c .if1 .taken))
+
+returns-2 : tie.Need-returns-2
+unfolding digitByte
+returns-2 c = rw (le-ltb _ 10 (c .if1 .left))
+
+pub digit-spec : {M : Type 1} → statement M
+digit-spec =
+    tie.close
+    (tie.spec (λ c. search needs) (λ c. search needs) returns (λ c. search needs) (λ c. search needs) (λ c. search needs) returns-2)

@@ -1,0 +1,4 @@
+// The text of the program racelist: each line put into a lent buffer.
+mod digits;
+pub mod lines;
+mod pieces;

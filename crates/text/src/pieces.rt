@@ -1,0 +1,59 @@
+// The pieces of a line, each written from a position on. The answer is the position after it.
+use crate::digits;
+use verdict::race::Name;
+ghost use mathlib.Core.Path.{_≡_};
+ghost use mathlib.Core.List.{_∷_, _++_};
+ghost use Prim.Native.Nat.{_+_, _≤_};
+ghost use lib.ListN.{length};
+ghost use Rattle.text.specs.Digits.{decimal};
+ghost use Rattle.text.specs.Lines.{lineEnd};
+ghost use Rattle.text.specs.Inner.{Extended, accessText};
+
+pub fn put_word(word: &[u8], line: &mut [u8; 96], at: usize) -> usize
+    requires { ⌜ (at + length (now word) ≤ 96) × (length (now line) ≡ 96) ⌝ }
+    ensures { λ r. ⌜ Extended (now (line .entry)) (now (line .exit)) at r (length (now (word .entry))) (now (word .entry)) ⌝ }
+{
+    let mut i = 0;
+    while i < word.len() {
+        line[at + i] = word[i];
+        i += 1;
+    }
+    at + i
+}
+
+pub fn put_end(line: &mut [u8; 96], at: usize) -> usize
+    requires { ⌜ (at ≤ 95) × (length (now line) ≡ 96) ⌝ }
+    ensures { λ r. ⌜ Extended (now (line .entry)) (now (line .exit)) at r 1 lineEnd ⌝ }
+{
+    line[at] = 0x0a;
+    at + 1
+}
+
+// A word, and a number in decimal.
+pub fn put_count(word: &[u8], number: u64, line: &mut [u8; 96], at: usize) -> usize
+    requires { ⌜ (at + length (now word) ≤ 76) × (length (now line) ≡ 96) ⌝ }
+    ensures { λ r. ⌜ Extended (now (line .entry)) (now (line .exit)) at r (length (now (word .entry)) + 20) (now (word .entry) ++ decimal number) ⌝ }
+{
+    let next = put_word(word, line, at);
+    digits::put_decimal(number, line, next)
+}
+
+// A byte, and a number in decimal.
+fn put_part(byte: u8, number: u16, line: &mut [u8; 96], at: usize) -> usize
+    requires { ⌜ (at ≤ 90) × (length (now line) ≡ 96) ⌝ }
+    ensures { λ r. ⌜ Extended (now (line .entry)) (now (line .exit)) at r 6 (byte ∷ decimal number) ⌝ }
+{
+    line[at] = byte;
+    digits::put_short(number, line, at + 1)
+}
+
+// A name and a site, each with a space before it.
+pub fn put_access(name: Name, site: u16, line: &mut [u8; 96], at: usize) -> usize
+    requires { ⌜ (at ≤ 72) × (length (now line) ≡ 96) ⌝ }
+    ensures { λ r. ⌜ Extended (now (line .entry)) (now (line .exit)) at r 24 (accessText name site) ⌝ }
+{
+    let team_next = put_part(b' ', name.team, line, at);
+    let member_next = put_part(b'.', name.member as u16, line, team_next);
+    let number_next = put_part(b'.', name.number, line, member_next);
+    put_part(b' ', site, line, number_next)
+}
