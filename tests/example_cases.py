@@ -152,10 +152,10 @@ ABOVE = [
 ]
 
 # The whole operation: (bundle, words of the area, the word that fills it, witness, first name, second name)
-E, THREE = aimed_cases.E_BYTES, RACED["three"]
+E, FOUR = aimed_cases.E_BYTES, RACED["four"]
 NEXT = [
     (E, 16383, 7, *BELOW_ALL),
-    (THREE, 16384, 7, 0, (1, 1, 0), (1, 0, 0)),
+    (FOUR, 16384, 7, 64, (1, 0, 1), (1, 0, 0)),
     (b"", 16385, 7, *BELOW_ALL),
 ]
 

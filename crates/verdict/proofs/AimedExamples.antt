@@ -359,7 +359,7 @@ aboves-agree = refl
 unfoldable pub nexts : List (Row (Lent (Option Race)))
 nexts =
     row (nextOf (bytes 45 0x01000000100100020201010000310a000010000008000200041102010100013014000a10000000000100041102) 0 (name 0 0 0) (name 0 0 0) (replicate 16383 7)) (record { answer = (refuses 13 0); buffer = replicate 16383 7 }) ∷
-    row (nextOf (bytes 60 0x01000000100100030201010002311e000000000000000100010201010000310a00000000000000010001020101000131140000000000000001000102) 0 (name 1 1 0) (name 1 0 0) (replicate 16384 7)) (record { answer = (gives (some (race 0 1 1 0 20 1 2 0 30))); buffer = replicate 16384 0 }) ∷
+    row (nextOf (bytes 67 0x01000000100100020201010000310100400000000000010001310200400000000000010001020101000131030040000000000001000131040040000000000001000102) 64 (name 1 0 1) (name 1 0 0) (replicate 16384 7)) (record { answer = (gives (some (race 64 1 0 1 2 1 1 0 3))); buffer = replicate 16384 0 }) ∷
     row (nextOf (bytes 0 0x0) 0 (name 0 0 0) (name 0 0 0) (replicate 16385 7)) (record { answer = (refuses 10 0); buffer = replicate 16385 0 }) ∷
     []
 
