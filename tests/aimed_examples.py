@@ -13,8 +13,8 @@ use mathlib.Core.Path.{_≡_, refl}
 use mathlib.Core.List.{List, [], _∷_, map}
 use mathlib.Core.Option.{Option, none, some}
 use lib.ListN.{replicate}
-use Rattle.bundle.specs.Answer.{Answer, gives, refuses}
-use Rattle.bundle.specs.Commands.{Lent}
+use Rattle.bundle.specs.Answer.{Answer, gives, refuses, whenGiven}
+use Rattle.bundle.specs.Commands.{Lent, Taken, readAt}
 use Rattle.bundle.specs.Check.{checkOf}
 use Rattle.order.specs.Labels.{labelOf, compareOf}
 use Rattle.order.specs.declared.label.Triple.{Triple}
@@ -57,6 +57,12 @@ pub {name}-agree : map (λ (r : Row ({type})). r .given) {name} ≡ map (λ (r :
 unfolding verdict-computes bytes race row name label {uses}{name}
 {name}-agree = refl
 """
+
+def read_rows():
+    for data, position in example_cases.READ:
+        wanted = answer_term(lambda read: read[1], sr.read_command, data, position)
+        yield f"(whenGiven (readAt {bytes_term(data)} {position}) (λ (t : Taken). gives (t .next)))", wanted
+
 
 def check_rows():
     for data in example_cases.checked_bundles():
@@ -119,6 +125,7 @@ def table(title, name, kind, rows, uses=""):
 
 def text():
     return HEAD + "\n".join((
+        table("reading a command: a refusal, or the position after it", "reads", "Answer ℕ", read_rows()),
         table("refusals of check, and bundles that it accepts", "checks", "Answer (Unit {0})", check_rows()),
         table("labels of segments", "labels", "Answer (List Triple)", label_rows()),
         table("comparisons of labels, both ways", "comparisons", "Answer Order", comparison_rows()),

@@ -17,6 +17,14 @@ def checked_bundles():
     return [data for _, _, _, data in aimed_cases.check_cases() if len(data) <= MOST_BYTES]
 
 
+# ----------------------------------------------------------------- reading
+
+# (bytes, position). A REGION's team may be any but 0; its own-team rule is not tested where a command is read alone.
+READ = [(bytes.fromhex(text), position) for text, position in (
+    ("10000002", 0), ("10010001", 0), ("1001000000", 0), ("10ffff40", 0), ("10010041", 0), ("1100100000", 1),
+    ("01000040", 0), ("0100003f", 0), ("2040", 0), ("213f", 0), ("2140", 0), ("1111", 1), ("1111", 2), ("1112", 1), ("100100", 0),
+)]
+
 # ------------------------------------------------------------------ labels
 
 # Member 1 of team 1 forks team 2 behind a barrier and a region, so that member, span, regions and barriers all show in the

@@ -4,8 +4,8 @@ use mathlib.Core.Path.{_≡_, refl}
 use mathlib.Core.List.{List, [], _∷_, map}
 use mathlib.Core.Option.{Option, none, some}
 use lib.ListN.{replicate}
-use Rattle.bundle.specs.Answer.{Answer, gives, refuses}
-use Rattle.bundle.specs.Commands.{Lent}
+use Rattle.bundle.specs.Answer.{Answer, gives, refuses, whenGiven}
+use Rattle.bundle.specs.Commands.{Lent, Taken, readAt}
 use Rattle.bundle.specs.Check.{checkOf}
 use Rattle.order.specs.Labels.{labelOf, compareOf}
 use Rattle.order.specs.declared.label.Triple.{Triple}
@@ -35,6 +35,30 @@ name t m n = record { team = t; member = m; number = n }
 
 unfoldable pub label : ℕ → List Triple → Label
 label count triples = record { count = count; triples = triples }
+
+-- reading a command: a refusal, or the position after it
+unfoldable pub reads : List (Row (Answer ℕ))
+reads =
+    row (whenGiven (readAt (bytes 4 0x10000002) 0) (λ (t : Taken). gives (t .next))) (refuses 5 0) ∷
+    row (whenGiven (readAt (bytes 4 0x10010001) 0) (λ (t : Taken). gives (t .next))) (gives 4) ∷
+    row (whenGiven (readAt (bytes 5 0x1001000000) 0) (λ (t : Taken). gives (t .next))) (refuses 5 0) ∷
+    row (whenGiven (readAt (bytes 4 0x10ffff40) 0) (λ (t : Taken). gives (t .next))) (gives 4) ∷
+    row (whenGiven (readAt (bytes 4 0x10010041) 0) (λ (t : Taken). gives (t .next))) (refuses 5 0) ∷
+    row (whenGiven (readAt (bytes 5 0x1100100000) 1) (λ (t : Taken). gives (t .next))) (refuses 2 1) ∷
+    row (whenGiven (readAt (bytes 4 0x01000040) 0) (λ (t : Taken). gives (t .next))) (refuses 5 0) ∷
+    row (whenGiven (readAt (bytes 4 0x0100003f) 0) (λ (t : Taken). gives (t .next))) (gives 4) ∷
+    row (whenGiven (readAt (bytes 2 0x2040) 0) (λ (t : Taken). gives (t .next))) (refuses 5 0) ∷
+    row (whenGiven (readAt (bytes 2 0x213f) 0) (λ (t : Taken). gives (t .next))) (gives 2) ∷
+    row (whenGiven (readAt (bytes 2 0x2140) 0) (λ (t : Taken). gives (t .next))) (refuses 5 0) ∷
+    row (whenGiven (readAt (bytes 2 0x1111) 1) (λ (t : Taken). gives (t .next))) (gives 2) ∷
+    row (whenGiven (readAt (bytes 2 0x1111) 2) (λ (t : Taken). gives (t .next))) (refuses 18 2) ∷
+    row (whenGiven (readAt (bytes 2 0x1112) 1) (λ (t : Taken). gives (t .next))) (refuses 2 1) ∷
+    row (whenGiven (readAt (bytes 3 0x100100) 0) (λ (t : Taken). gives (t .next))) (refuses 3 0) ∷
+    []
+
+pub reads-agree : map (λ (r : Row (Answer ℕ)). r .given) reads ≡ map (λ (r : Row (Answer ℕ)). r .wanted) reads
+unfolding verdict-computes bytes race row name label reads
+reads-agree = refl
 
 -- refusals of check, and bundles that it accepts
 unfoldable pub checks : List (Row (Answer (Unit {0})))
