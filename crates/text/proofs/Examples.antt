@@ -1,7 +1,6 @@
 -- Document 01's settled listings, settled by computation. Assumes nothing.
 use mathlib.Core.Path.{_≡_, refl}
 use mathlib.Core.List.{_++_}
-use Rattle.verdict.specs.declared.race.Name.{Name}
 use Rattle.verdict.specs.declared.race.Race.{Race}
 use Rattle.text.specs.Digits.{ascii, digitByte, digits, widthWithin, widthOf}
 use Rattle.text.specs.Lines.{countsLine, nameText, raceLine, pairsLine, raceFreeLine, refusedLine}

@@ -1,6 +1,6 @@
 -- Each line ends in 0x0a, and no byte before that is below 0x20, so that there is no other 0x0a. Assumes nothing.
 use mathlib.Core.Path.{_≡_, refl}
-use mathlib.Core.Bool.{true, false, cond}
+use mathlib.Core.Bool.{true}
 use mathlib.Core.List.{List, [], _∷_, _++_}
 use Prim.Native.Nat.{ℕ, zero, suc, _+_, _-_, _/_, _%_, _^_, _≤_}
 use Prim.Native.String.{String}

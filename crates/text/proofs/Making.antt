@@ -1,6 +1,5 @@
 -- Making a line: digits and words behind its first bytes. Assumes nothing.
 use mathlib.Core.Path.{_≡_, refl, sym, ap, ap₂, _∙_}
-use mathlib.Core.Bool.{true, false}
 use mathlib.Core.List.{List, [], _∷_, _++_, append-assoc, append-nil}
 use Prim.Native.Nat.{ℕ, zero, suc, _+_, _-_, _*_, _/_, _%_, _^_, _≤_, _<_}
 use native.Mathlib.Nat.{suc-add, add-suc, add-zero, sub-zero, sub-self, div-one, div-div-eq-div-mul, mul-div-mul-right, pow-zero, pow-suc}
@@ -8,7 +7,8 @@ use native.Mathlib.Numerals.{add-one, unary-clauses}
 use native.Mathlib.Omega.{arith}
 use lib.Pow.{pow-add}
 use lib.ListN.{length, take, drop, getD, set, length-set, length-append}
-use lib.Seq.{take-suc, take-suc-set, take-set-lt, take-append-add, take-at, take-take, take-length, take-paste, paste, set-at, append-snoc, length-take-le, sets, sets-eq, length-sets}
+use lib.Seq.{take-suc, take-suc-set, take-set-lt, take-append-add, take-at, take-take, take-length, take-paste, paste, length-paste, set-at, append-snoc, length-take-le, sets, sets-eq, length-sets}
+use Rattle.bundle.specs.Commands.{written}
 use Rattle.text.specs.Digits.{digitByte, digits, decimal}
 use Rattle.text.specs.Inner.{Extended, Width}
 use Rattle.text.proofs.Widths.{positive}
@@ -32,14 +32,15 @@ pub byte-more : (s : List ℕ) (at b : ℕ) → at < length s → Extended s (se
 byte-more s at b h = record { text = rw (add-one at) (take-suc-set s at b h); long = omega arith; kept = length-set s at b }
 
 -- a word
-pub word-all : (s word t : List ℕ) (at i : ℕ) → length t ≡ length s → at + length word ≤ length s → i ≤ length word → length word ≤ i → t ≡ paste s at word i
-    → Extended s t at (at + i) (length word) word
-word-all s word t at i same room low high e =
-    let all : i ≡ length word = omega arith in
+pub word-written : (s word : List ℕ) {t : List ℕ} (at : ℕ) → at + length word ≤ length s → t ≡ written s at word → Extended s t at (at + length word) (length word) word
+unfolding written
+word-written s word at room e =
+    let whole = take-length word in
+    let pasted : written s at word ≡ paste s at word (length word) = ap (λ (l : List ℕ). take at s ++ l ++ drop (at + length word) s) (sym whole) in
     record {
-      text = rw (e, all) (take-paste s at word (length word) (omega arith) (omega arith) ∙ ap (λ (l : List ℕ). take at s ++ l) (take-length word));
+      text = rw (e, pasted) (take-paste s at word (length word) (omega arith) (omega arith) ∙ ap (λ (l : List ℕ). take at s ++ l) whole);
       long = omega arith;
-      kept = same;
+      kept = ap length (e ∙ pasted) ∙ length-paste s at word (length word) room (omega arith);
     }
 
 -- digits written from the last to the first: those from place `i` on are there

@@ -1,6 +1,6 @@
 -- What is written reads back: digits in any base up to 16, and the numbers of a race's line. Assumes nothing.
 use mathlib.Core.Path.{_≡_, refl, sym, ap, ap₂, _∙_}
-use mathlib.Core.Bool.{true, false, cond}
+use mathlib.Core.Bool.{cond}
 use mathlib.Core.List.{List, [], _∷_, _++_, append-assoc, append-nil}
 use Prim.Native.Nat.{ℕ, zero, suc, _+_, _-_, _*_, _/_, _%_, _^_, _≤_, _<_}
 use native.Mathlib.Nat.{mul-pos, mod-one, mod-lt, mod-eq-of-lt, pow-zero, pow-succ', div-lt-iff-lt-mul, le-div-iff-mul-le, one-mul}
@@ -12,7 +12,6 @@ use lib.Dec.{ltb, leb}
 use lib.ListN.{length, getD}
 use Rattle.bundle.specs.Lists.{all}
 use Rattle.bundle.proofs.Tests.{and-left, and-right}
-use Rattle.verdict.specs.declared.race.Name.{Name}
 use Rattle.verdict.specs.declared.race.Race.{Race}
 use Rattle.text.specs.Digits.{ascii, digitByte, digits, widthOf, decimal, hexadecimal}
 use Rattle.text.specs.Lines.{lineEnd, nameText, raceLine}

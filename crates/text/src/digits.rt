@@ -2,7 +2,7 @@
 ghost use mathlib.Core.Path.{_≡_};
 ghost use Prim.Native.Nat.{_+_, _-_, _^_, _≤_, _<_};
 ghost use lib.ListN.{length};
-ghost use Rattle.text.specs.Digits.{digitByte, digits, decimal, hexadecimal, widthOf};
+ghost use Rattle.text.specs.Digits.{digitByte, digits, decimal, hexadecimal};
 ghost use Rattle.text.specs.Inner.{Width, Extended};
 
 fn digit(number: u32) -> u8

@@ -7,21 +7,9 @@ use verdict::race::Race;
 ghost use mathlib.Core.Path.{_≡_};
 ghost use Prim.Native.Nat.{_+_, _≤_};
 ghost use lib.ListN.{length};
-ghost use Rattle.bundle.specs.Commands.{puttingOf, written};
+ghost use Rattle.bundle.specs.Commands.{puttingOf};
 ghost use Rattle.text.specs.Lines.{countsLine, raceLine, pairsLine, raceFreeLine, refusedLine, printedAt};
 ghost use Rattle.text.specs.Inner.{Extended};
-
-// Copies all of the bytes into the buffer, from the position on.
-fn copy_in(bytes: &[u8], buffer: &mut [u8], position: usize)
-    requires { ⌜ position + length (now bytes) ≤ length (now buffer) ⌝ }
-    ensures { λ _. ⌜ now (buffer .exit) ≡ written (now (buffer .entry)) position (now (bytes .entry)) ⌝ }
-{
-    let mut i = 0;
-    while i < bytes.len() {
-        buffer[position + i] = bytes[i];
-        i += 1;
-    }
-}
 
 // Puts a line at a position.
 fn put_line(line: &[u8], buffer: &mut [u8], position: usize) -> Putting
@@ -40,7 +28,7 @@ fn put_line(line: &[u8], buffer: &mut [u8], position: usize) -> Putting
             cause: Cause::DoesNotFit,
         };
     }
-    copy_in(line, buffer, position);
+    pieces::copy_in(line, buffer, position);
     Putting::Written(position + line.len())
 }
 
