@@ -56,7 +56,7 @@ fn fill_matrix(ends: &[u32], opens: &[u32], nodes: &[u32], n: usize, area: &mut 
 }
 
 // Fills both halves of the area, from an accepted bundle.
-fn fill_area(bytes: &[u8], area: &mut [u32]) -> Counts
+pub fn fill_area(bytes: &[u8], area: &mut [u32]) -> Counts
     requires { ⌜ Accepted (now bytes) × (16384 ≤ length (now area)) ⌝ }
     ensures { λ r. ⌜ AreaFilled (now (bytes .entry)) (now (area .exit)) (r .segments) (r .accesses) × (length (now (area .exit)) ≡ length (now (area .entry))) ⌝ }
 {
@@ -172,7 +172,7 @@ fn next_in(bytes: &[u8], key: Key, area: &mut [u32]) -> Next
 }
 
 // Every word is 0 afterwards.
-fn clear(area: &mut [u32])
+pub fn clear(area: &mut [u32])
     ensures { λ _. ⌜ now (area .exit) ≡ replicate (length (now (area .entry))) 0 ⌝ }
 {
     let mut i = 0;

@@ -3,6 +3,6 @@ mod edges;
 mod fill;
 pub mod judge;
 mod matrix;
-mod pairs;
+pub mod pairs;
 pub mod race;
-mod rows;
+pub mod rows;

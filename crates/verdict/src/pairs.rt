@@ -313,7 +313,7 @@ fn near(base: u32, size: u8, other: u32) -> bool
 }
 
 // The lowest byte that two accesses share. One that lies in the first element of the other is told at once.
-fn lowest(one: AccessRow, other: AccessRow) -> Lowest
+pub fn lowest(one: AccessRow, other: AccessRow) -> Lowest
     requires { ⌜ RowFits one × RowFits other ⌝ }
     ensures { λ r. ⌜ lowestOf r ≡ sharedByte (rowRange one) (rowRange other) ⌝ }
 {
@@ -376,7 +376,7 @@ fn passes(rows: &[u32], j: usize, one: AccessRow) -> bool
 }
 
 // Which of 32 accesses pass with one, the first of them lowest. No branch and no call: the words are tested side by side.
-fn passing(rows: &[u32], first: usize, one: AccessRow) -> u32
+pub fn passing(rows: &[u32], first: usize, one: AccessRow) -> u32
     requires { ⌜ BlockIn (now rows) first ⌝ }
     ensures { λ r. ⌜ TestWord (λ j. rowsPass one (accessRowAt (now (rows .entry)) j)) first r ⌝ }
 {
@@ -390,7 +390,7 @@ fn passing(rows: &[u32], first: usize, one: AccessRow) -> u32
 }
 
 // Whether the bounds of one of 32 accesses meet those of another.
-fn some_meet(rows: &[u32], first: usize, one: AccessRow) -> bool
+pub fn some_meet(rows: &[u32], first: usize, one: AccessRow) -> bool
     requires { ⌜ BlockIn (now rows) first ⌝ }
     ensures { λ r. ⌜ (r ≡ false → NoneMeet one (now (rows .entry)) first 32) ⌝ }
 {
@@ -411,7 +411,7 @@ fn segment_at(rows: &[u32], j: u32) -> u16
 }
 
 // Whether an access and the j-th race if they share a byte; the lowest bit of `left` says whether they pass.
-fn clash(matrix: &[u32], rows: &[u32], one: AccessRow, left: u32, j: u32) -> bool
+pub fn clash(matrix: &[u32], rows: &[u32], one: AccessRow, left: u32, j: u32) -> bool
     requires { ⌜ RowIn (now rows) j × Within (now matrix) (one .segment) (accessRowAt (now rows) j .segment) ⌝ }
     ensures { λ r. ⌜ r ≡ (eqb (left % 2) 1 && unordered (now (matrix .entry)) (one .segment) (accessRowAt (now (rows .entry)) j .segment)) ⌝ }
 {

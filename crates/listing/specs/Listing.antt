@@ -1,0 +1,128 @@
+-- All races of a bundle, in their order, as numbers.
+use Prim.Native.Nat.{ℕ, _+_, _*_, _/_, _%_}
+use mathlib.Core.Bool.{Bool, true, false, cond, _&&_}
+use mathlib.Core.List.{List, _++_, map}
+use lib.Dec.{eqb, ltb, leb}
+use lib.ListN.{length, getD, drop, replicate}
+use Rattle.sorting.specs.Order.{sorted}
+use Rattle.sorting.specs.Searching.{indexOf}
+use Rattle.bundle.specs.Answer.{Answer, gives, refuses, numberOf}
+use Rattle.bundle.specs.Chunks.{Chunk, chunksOf}
+use Rattle.bundle.specs.Check.{checkOf}
+use Rattle.verdict.specs.Graph.{segmentsOf}
+use Rattle.verdict.specs.Races.{NamedAccess, accessesOf, racesOf}
+use Rattle.verdict.specs.Tallying.{packed, nameIn}
+use Rattle.verdict.specs.declared.race.Name.{Name}
+use Rattle.verdict.specs.declared.race.Race.{Race}
+use Rattle.listing.specs.declared.list.Totals.{Totals}
+use Rattle.listing.specs.declared.list.Listed.{Listed}
+use Rattle.listing.specs.declared.list.Listed.the-variants as Lis
+
+-- an access's name and site as one number; the order of these numbers is that of the names
+abbrev pub sideOf : NamedAccess → ℕ
+sideOf x = packed (x .name) * 65536 + x .access .site
+
+-- the names of all accesses, in their order
+unfoldable pub namesOf : List Chunk → List ℕ
+namesOf cs = sorted (map sideOf (accessesOf cs))
+
+-- the rank of a name: its place among them
+unfoldable pub rankIn : List ℕ → Name → ℕ
+rankIn names n = indexOf (eqb (packed n)) (map (λ side. side / 65536) names)
+
+-- a race as one number: its witness, and the ranks of its names
+abbrev pub numberFor : ℕ → ℕ → ℕ → ℕ
+numberFor witness first second = witness * 1048576 + first * 1024 + second
+
+unfoldable pub raceNumber : List ℕ → Race → ℕ
+raceNumber names r = numberFor (r .witness) (rankIn names (r .first)) (rankIn names (r .second))
+
+-- the race that a number stands for
+unfoldable pub raceIn : List ℕ → ℕ → Race
+raceIn names number =
+    let first = getD names (number / 1024 % 1024) 0 in
+    let second = getD names (number % 1024) 0 in
+    record {
+      witness = number / 1048576 % 4294967296;
+      first = nameIn first;
+      «first_site» = first % 65536;
+      second = nameIn second;
+      «second_site» = second % 65536;
+    }
+
+-- the numbers of all races, in the order of the races
+unfoldable pub numbersOf : List Chunk → List ℕ
+numbersOf cs = map (raceNumber (namesOf cs)) (racesOf cs)
+
+unfoldable pub totalsOf : List Chunk → Totals
+totalsOf cs =
+    record {
+      chunks = length cs;
+      segments = length (segmentsOf cs);
+      accesses = length (accessesOf cs);
+      races = length (racesOf cs);
+    }
+
+-- what a listing gives, and what the lent memory holds afterwards
+pub record Outcome : Type 0 where
+  pub answer : Answer (Bool × Totals)
+  pub work : List ℕ
+  pub names : List ℕ
+  pub numbers : List ℕ
+  pub spare : List ℕ
+
+-- every word is 0
+abbrev pub zeros : List ℕ → List ℕ
+zeros words = replicate (length words) 0
+
+-- numbers written over the front of lent memory
+abbrev pub over : List ℕ → List ℕ → List ℕ
+over xs words = xs ++ drop (length xs) words
+
+-- whether all races fit into the lent memory, with room to sort them
+unfoldable pub fitsIn : List Chunk → List ℕ → List ℕ → List ℕ → Bool
+fitsIn cs names numbers spare =
+    let races = length (racesOf cs) in
+    leb (length (accessesOf cs)) (length names) && (leb races (length numbers) && leb (races / 2) (length spare))
+
+-- an accepted bundle: all its races, or nothing where they do not fit
+unfoldable pub allRaces : List Chunk → List ℕ → List ℕ → List ℕ → List ℕ → Outcome
+allRaces cs work names numbers spare =
+    let fit = fitsIn cs names numbers spare in
+    record {
+      answer = gives (fit, totalsOf cs);
+      work = work;
+      names = cond fit (over (namesOf cs) names) (zeros names);
+      numbers = cond fit (over (numbersOf cs) numbers) (zeros numbers);
+      spare = zeros spare;
+    }
+
+-- a refusal leaves the lent memory as it was
+abbrev pub refusedWith : ℕ → ℕ → List ℕ → List ℕ → List ℕ → List ℕ → Outcome
+refusedWith number place work names numbers spare =
+    record { answer = refuses number place; work = work; names = names; numbers = numbers; spare = spare }
+
+-- as check, else all races
+unfoldable pub listedOf : List ℕ → List ℕ → List ℕ → List ℕ → List ℕ → Outcome
+listedOf s work names numbers spare =
+    elim (checkOf s) [
+      | gives u ↦ allRaces (chunksOf s) work names numbers spare
+      | refuses n p ↦ refusedWith n p work names numbers spare
+    ]
+
+-- 13 as for the judge, with all memory untouched; after every other outcome the work area is 0
+unfoldable pub listingOf : List ℕ → List ℕ → List ℕ → List ℕ → List ℕ → Outcome
+listingOf s work names numbers spare =
+    cond (ltb (length work) 16384)
+    (refusedWith 13 0 work names numbers spare)
+    (listedOf s (zeros work) names numbers spare)
+
+-- what the code's answer says: whether all races stand in the lent memory, and the counts
+abbrev pub reportOf : Listed → Answer (Bool × Totals)
+reportOf (Lis.Whole t) = gives (true, t)
+reportOf (Lis.TooMany t) = gives (false, t)
+reportOf (Lis.Refused place cause) = refuses (numberOf cause) place
+
+abbrev pub outcomeOf : Listed → List ℕ → List ℕ → List ℕ → List ℕ → Outcome
+outcomeOf r work names numbers spare =
+    record { answer = reportOf r; work = work; names = names; numbers = numbers; spare = spare }

@@ -1,0 +1,63 @@
+-- Inner: the numbers of races as they are met, pair by pair.
+use Prim.Native.Nat.{ℕ, zero, suc, _+_, _≤_, _<_}
+use mathlib.Core.Path.{_≡_}
+use mathlib.Core.Bool.{cond, _&&_}
+use mathlib.Core.List.{List, [], _∷_, _++_}
+use mathlib.Core.Option.{Option, none}
+use lib.Dec.{ltb}
+use lib.ListN.{length, set}
+use Rattle.bundle.specs.Lists.{fromOption}
+use Rattle.order.specs.Ranges.{sharedByte}
+use Rattle.verdict.specs.Working.{accessRowAt}
+use Rattle.verdict.specs.Tallying.{rowRange, rowsMeet, rowsClash, RowFits, TablesFit}
+use Rattle.verdict.specs.declared.rows.AccessRow.{AccessRow}
+use Rattle.listing.specs.Listing.{numberFor}
+
+-- numbers put one after another behind the first `count` words, as long as there is room
+unfoldable pub pushing : List ℕ → ℕ → List ℕ → List ℕ
+pushing words count [] = words
+pushing words count (x ∷ xs) = pushing (cond (ltb count (length words)) (set words count x) words) (suc count) xs
+
+pub record Pushes (xs before : List ℕ) (count : ℕ) (after : List ℕ) (total : ℕ) : Type 0 where
+  pub counted : total ≡ count + length xs
+  pub words : after ≡ pushing before count xs
+
+-- the number of a race at a byte, if there is one
+abbrev pub byteNumbers : ℕ → ℕ → Option ℕ → List ℕ
+byteNumbers i j byte = fromOption [] (λ witness. numberFor witness i j ∷ []) byte
+
+-- the byte at which two accesses race
+unfoldable pub raceByte : List ℕ → AccessRow → AccessRow → Option ℕ
+raceByte matrix one other =
+    cond (rowsMeet one other && rowsClash matrix one other) (sharedByte (rowRange one) (rowRange other)) none
+
+-- the i-th access with the j-th, if that stands behind it
+unfoldable pub pairNumbers : List ℕ → List ℕ → ℕ → ℕ → List ℕ
+pairNumbers matrix rows i j = cond (ltb i j) (byteNumbers i j (raceByte matrix (accessRowAt rows i) (accessRowAt rows j))) []
+
+-- with those below j
+unfoldable pub rowNumbers : List ℕ → List ℕ → ℕ → ℕ → List ℕ
+rowNumbers matrix rows i zero = []
+rowNumbers matrix rows i (suc j) = rowNumbers matrix rows i j ++ pairNumbers matrix rows i j
+
+-- those below i with those below n
+unfoldable pub allNumbers : List ℕ → List ℕ → ℕ → ℕ → List ℕ
+allNumbers matrix rows n zero = []
+allNumbers matrix rows n (suc i) = allNumbers matrix rows n i ++ rowNumbers matrix rows i n
+
+-- the i-th access and those from `first` to `end`, at most 32, after so many races
+pub record BlockFits (matrix rows : List ℕ) (one : AccessRow) (i first end count : ℕ) : Type 0 where
+  pub tables : TablesFit matrix rows end
+  pub row : RowFits one
+  pub row-is : one ≡ accessRowAt rows i
+  pub below : i < 1024
+  pub ordered : first ≤ end
+  pub short : end ≤ first + 32
+  pub few : count ≤ 1048576 + first
+
+-- the i-th access with those below `first`, and after it with those below `end`
+pub record BlockPushed (matrix rows : List ℕ) (i first end : ℕ) (before : List ℕ) (count : ℕ) (after : List ℕ) (total : ℕ) : Type 0 where
+  pub more :
+      (words : List ℕ) (n : ℕ)
+      → Pushes (rowNumbers matrix rows i first) words n before count
+      → Pushes (rowNumbers matrix rows i end) words n after total

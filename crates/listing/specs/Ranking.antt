@@ -1,0 +1,35 @@
+-- Inner: the accesses in the order of their names.
+use Prim.Native.Nat.{ℕ, _+_, _*_, _%_, _≤_, _<_}
+use mathlib.Core.Path.{_≡_}
+use mathlib.Core.List.{List}
+use lib.ListN.{length, getD}
+use Rattle.sorting.specs.Order.{sorted}
+use Rattle.bundle.specs.Index.{table}
+use Rattle.verdict.specs.Working.{accessRowAt}
+use Rattle.verdict.specs.Tallying.{packed, rowName}
+use Rattle.verdict.specs.declared.rows.AccessRow.{AccessRow}
+
+-- n rows of a whole table
+pub record RowsIn (rows : List ℕ) (n : ℕ) : Type 0 where
+  pub few : n ≤ 1024
+  pub whole : 8192 ≤ length rows
+
+-- the name of the i-th access, and its place
+abbrev pub nameWord : List ℕ → ℕ → ℕ
+nameWord rows i = packed (rowName (accessRowAt rows i)) * 1024 + i
+
+-- the places of the first n accesses in the order of their names, behind the names
+unfoldable pub orderOf : List ℕ → ℕ → List ℕ
+orderOf rows n = sorted (table (nameWord rows) n)
+
+-- the first n rows are those that the words name
+pub record Copied (rows words : List ℕ) (n : ℕ) (before after : List ℕ) : Type 0 where
+  pub long : length after ≡ length before
+  pub each : (i : ℕ) → i < n → accessRowAt after i ≡ accessRowAt rows (getD words i 0 % 1024)
+
+-- the name and site of a row as one number
+abbrev pub sideOfRow : AccessRow → ℕ
+sideOfRow r = packed (rowName r) * 65536 + r .site
+
+abbrev pub sideAt : List ℕ → ℕ → ℕ
+sideAt rows i = sideOfRow (accessRowAt rows i)

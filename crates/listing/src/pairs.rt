@@ -1,0 +1,167 @@
+// The races of all pairs of accesses as numbers, in lent memory. The accesses stand in the order of their names, and so do the pairs.
+use crate::numbers::number_of;
+use order::range::Lowest;
+use verdict::pairs::clash;
+use verdict::pairs::lowest;
+use verdict::pairs::passing;
+use verdict::pairs::some_meet;
+use verdict::rows::AccessRow;
+use verdict::rows::access_at;
+ghost use mathlib.Core.Path.{_≡_};
+ghost use mathlib.Core.Bool.{_&&_};
+ghost use mathlib.Core.List.{[], _∷_};
+ghost use lib.Dec.{eqb, ltb};
+ghost use Prim.Native.Nat.{_+_, _%_, _≤_, _<_, min};
+ghost use Rattle.verdict.specs.Matrix.{Within, TestWord};
+ghost use Rattle.verdict.specs.Working.{accessRowAt, RowIn};
+ghost use Rattle.order.specs.Ranges.{sharedByte};
+ghost use Rattle.verdict.specs.Tallying.{rowRange, rowsPass, unordered, RowFits, TablesFit, BlockIn};
+ghost use Rattle.listing.specs.Pushing.{Pushes, byteNumbers, rowNumbers, allNumbers, BlockFits, BlockPushed};
+
+// Puts a number behind the first `count`, where there is room; it is counted anyway.
+fn push(numbers: &mut [u64], count: usize, number: u64) -> usize
+    requires { ⌜ count < 4294967295 ⌝ }
+    ensures { λ r. ⌜ Pushes (number ∷ []) (now (numbers .entry)) count (now (numbers .exit)) r ⌝ }
+{
+    if numbers.len() <= count {
+        return count + 1;
+    }
+    numbers[count] = number;
+    count + 1
+}
+
+// The race of two accesses that clash, if they share a byte.
+fn push_clash(
+    one: AccessRow,
+    other: AccessRow,
+    i: u32,
+    j: u32,
+    numbers: &mut [u64],
+    count: usize,
+) -> usize
+    requires { ⌜ RowFits one × RowFits other × (i < 1024) × (j < 1024) × (count < 4294967295) ⌝ }
+    ensures { λ r. ⌜ Pushes (byteNumbers i j (sharedByte (rowRange one) (rowRange other))) (now (numbers .entry)) count (now (numbers .exit)) r ⌝ }
+{
+    match lowest(one, other) {
+        Lowest::Byte(byte) => push(numbers, count, number_of(byte as u32, i, j)),
+        Lowest::Nothing => count,
+    }
+}
+
+// Whether the j-th access stands behind the i-th and the two race if they share a byte; the lowest bit of `left` says whether they pass.
+fn clash_behind(matrix: &[u32], rows: &[u32], one: AccessRow, left: u32, i: u32, j: u32) -> bool
+    requires { ⌜ RowIn (now rows) j × Within (now matrix) (one .segment) (accessRowAt (now rows) j .segment) ⌝ }
+    ensures { λ r. ⌜ r ≡ (ltb i j && (eqb (left % 2) 1 && unordered (now (matrix .entry)) (one .segment) (accessRowAt (now (rows .entry)) j .segment))) ⌝ }
+{
+    if j <= i {
+        return false;
+    }
+    clash(matrix, rows, one, left, j)
+}
+
+// The races of the i-th access with those from `first` to `end` that pass with it and stand behind it.
+fn push_passing(
+    matrix: &[u32],
+    rows: &[u32],
+    one: AccessRow,
+    i: u32,
+    word: u32,
+    first: u32,
+    end: u32,
+    numbers: &mut [u64],
+    before: usize,
+) -> usize
+    requires { ⌜ BlockFits (now matrix) (now rows) one i first end before × TestWord (λ j. rowsPass one (accessRowAt (now rows) j)) first word ⌝ }
+    ensures { λ r. ⌜ BlockPushed (now (matrix .entry)) (now (rows .entry)) i first end (now (numbers .entry)) before (now (numbers .exit)) r ⌝ }
+{
+    let mut count = before;
+    let mut left = word;
+    let mut j = first;
+    while j < end {
+        if left == 0 {
+            return count;
+        }
+        if clash_behind(matrix, rows, one, left, i, j) {
+            count = push_clash(one, access_at(rows, j), i, j, numbers, count);
+        }
+        left = left / 2;
+        j += 1;
+    }
+    count
+}
+
+// The races of the i-th access with those from `first` to `end`, at most 32, that stand behind it.
+fn push_block(
+    matrix: &[u32],
+    rows: &[u32],
+    one: AccessRow,
+    i: u32,
+    first: u32,
+    end: u32,
+    numbers: &mut [u64],
+    count: usize,
+) -> usize
+    requires { ⌜ BlockFits (now matrix) (now rows) one i first end count × BlockIn (now rows) first ⌝ }
+    ensures { λ r. ⌜ BlockPushed (now (matrix .entry)) (now (rows .entry)) i first end (now (numbers .entry)) count (now (numbers .exit)) r ⌝ }
+{
+    if !some_meet(rows, first as usize, one) {
+        return count;
+    }
+    let word = passing(rows, first as usize, one);
+    push_passing(matrix, rows, one, i, word, first, end, numbers, count)
+}
+
+// The end of the block of 32 that begins at `first`, of n accesses.
+fn block_end(first: u32, n: u32) -> u32
+    requires { ⌜ first < 1024 ⌝ }
+    ensures { λ r. ⌜ r ≡ min (first + 32) n ⌝ }
+{
+    let end = first + 32;
+    if end <= n { end } else { n }
+}
+
+// The races of the i-th access with those behind it, in blocks of 32.
+fn push_row(
+    matrix: &[u32],
+    rows: &[u32],
+    i: u32,
+    n: u32,
+    numbers: &mut [u64],
+    before: usize,
+) -> usize
+    requires { ⌜ TablesFit (now matrix) (now rows) n × (i < n) × (before ≤ 1048576) ⌝ }
+    ensures { λ r. ⌜ Pushes (rowNumbers (now (matrix .entry)) (now (rows .entry)) i n) (now (numbers .entry)) before (now (numbers .exit)) r ⌝ }
+{
+    let one = access_at(rows, i);
+    let mut count = before;
+    let mut block = i / 32;
+    while 32 * block < n {
+        let first = 32 * block;
+        count = push_block(
+            matrix,
+            rows,
+            one,
+            i,
+            first,
+            block_end(first, n),
+            numbers,
+            count,
+        );
+        block += 1;
+    }
+    count
+}
+
+// The races of the first n accesses: how many, and the numbers of as many as there is room for.
+pub fn push_all(matrix: &[u32], rows: &[u32], n: u32, numbers: &mut [u64]) -> usize
+    requires { ⌜ TablesFit (now matrix) (now rows) n ⌝ }
+    ensures { λ r. ⌜ Pushes (allNumbers (now (matrix .entry)) (now (rows .entry)) n n) (now (numbers .entry)) 0 (now (numbers .exit)) r ⌝ }
+{
+    let mut count = 0;
+    let mut i = 0;
+    while i < n {
+        count = push_row(matrix, rows, i, n, numbers, count);
+        i += 1;
+    }
+    count
+}
