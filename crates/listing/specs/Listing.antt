@@ -102,13 +102,17 @@ abbrev pub refusedWith : ℕ → ℕ → List ℕ → List ℕ → List ℕ → 
 refusedWith number place work names numbers spare =
     record { answer = refuses number place; work = work; names = names; numbers = numbers; spare = spare }
 
+-- what is made of an answer, and what of a refusal
+abbrev pub whichever : {A B : Type 0} → Answer A → (A → B) → (ℕ → ℕ → B) → B
+whichever (gives a) f g = f a
+whichever (refuses n p) f g = g n p
+
 -- as check, else all races
 unfoldable pub listedOf : List ℕ → List ℕ → List ℕ → List ℕ → List ℕ → Outcome
 listedOf s work names numbers spare =
-    elim (checkOf s) [
-      | gives u ↦ allRaces (chunksOf s) work names numbers spare
-      | refuses n p ↦ refusedWith n p work names numbers spare
-    ]
+    whichever (checkOf s)
+    (λ u. allRaces (chunksOf s) work names numbers spare)
+    (λ n p. refusedWith n p work names numbers spare)
 
 -- 13 as for the judge, with all memory untouched; after every other outcome the work area is 0
 unfoldable pub listingOf : List ℕ → List ℕ → List ℕ → List ℕ → List ℕ → Outcome

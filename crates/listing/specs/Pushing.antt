@@ -1,30 +1,34 @@
 -- Inner: the numbers of races as they are met, pair by pair.
-use Prim.Native.Nat.{ℕ, zero, suc, _+_, _≤_, _<_}
+use Prim.Native.Nat.{ℕ, zero, suc, _+_, _%_, _≤_, _<_}
 use mathlib.Core.Path.{_≡_}
 use mathlib.Core.Bool.{cond, _&&_}
 use mathlib.Core.List.{List, [], _∷_, _++_}
 use mathlib.Core.Option.{Option, none}
-use lib.Dec.{ltb}
-use lib.ListN.{length, set}
+use lib.Dec.{eqb, ltb}
+use lib.ListN.{length}
+use lib.Seq.{sets}
 use Rattle.bundle.specs.Lists.{fromOption}
 use Rattle.order.specs.Ranges.{sharedByte}
 use Rattle.verdict.specs.Working.{accessRowAt}
-use Rattle.verdict.specs.Tallying.{rowRange, rowsMeet, rowsClash, RowFits, TablesFit}
+use Rattle.verdict.specs.Tallying.{rowRange, rowsMeet, rowsClash, unordered, RowFits, TablesFit}
 use Rattle.verdict.specs.declared.rows.AccessRow.{AccessRow}
 use Rattle.listing.specs.Listing.{numberFor}
 
--- numbers put one after another behind the first `count` words, as long as there is room
-unfoldable pub pushing : List ℕ → ℕ → List ℕ → List ℕ
-pushing words count [] = words
-pushing words count (x ∷ xs) = pushing (cond (ltb count (length words)) (set words count x) words) (suc count) xs
-
+-- numbers put one after another behind the first `count` words, as long as there is room, and counted
 pub record Pushes (xs before : List ℕ) (count : ℕ) (after : List ℕ) (total : ℕ) : Type 0 where
   pub counted : total ≡ count + length xs
-  pub words : after ≡ pushing before count xs
+  pub words : after ≡ sets before count xs
 
 -- the number of a race at a byte, if there is one
 abbrev pub byteNumbers : ℕ → ℕ → Option ℕ → List ℕ
 byteNumbers i j byte = fromOption [] (λ witness. numberFor witness i j ∷ []) byte
+
+-- the same for two accesses of which the word of tests tells whether they pass
+abbrev pub nextNumbers : List ℕ → AccessRow → AccessRow → ℕ → ℕ → ℕ → List ℕ
+nextNumbers matrix one other left i j =
+    cond (ltb i j && (eqb (left % 2) 1 && unordered matrix (one .segment) (other .segment)))
+    (byteNumbers i j (sharedByte (rowRange one) (rowRange other)))
+    []
 
 -- the byte at which two accesses race
 unfoldable pub raceByte : List ℕ → AccessRow → AccessRow → Option ℕ
@@ -44,6 +48,16 @@ rowNumbers matrix rows i (suc j) = rowNumbers matrix rows i j ++ pairNumbers mat
 unfoldable pub allNumbers : List ℕ → List ℕ → ℕ → ℕ → List ℕ
 allNumbers matrix rows n zero = []
 allNumbers matrix rows n (suc i) = allNumbers matrix rows n i ++ rowNumbers matrix rows i n
+
+-- the i-th access and the j-th, after so many races
+pub record NextFits (matrix rows : List ℕ) (one : AccessRow) (i j count : ℕ) : Type 0 where
+  pub whole : length matrix ≡ 8192
+  pub rows-whole : 8192 ≤ length rows
+  pub row : RowFits one
+  pub other-row : RowFits (accessRowAt rows j)
+  pub below : i < 1024
+  pub other-below : j < 1024
+  pub few : count < 4294967295
 
 -- the i-th access and those from `first` to `end`, at most 32, after so many races
 pub record BlockFits (matrix rows : List ℕ) (one : AccessRow) (i first end count : ℕ) : Type 0 where

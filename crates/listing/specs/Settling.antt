@@ -11,22 +11,24 @@ use Rattle.bundle.specs.Chunks.{chunksOf}
 use Rattle.verdict.specs.Graph.{segmentsOf}
 use Rattle.verdict.specs.Races.{accessesOf, racesOf}
 use Rattle.listing.specs.Listing.{zeros, over, namesOf, numbersOf, fitsIn}
-use Rattle.listing.specs.Ranking.{orderOf, sideAt, Copied}
+use Rattle.listing.specs.Ranking.{sideAt}
+use Rattle.listing.specs.declared.list.Totals.{Totals}
 use Rattle.listing.specs.declared.list.Found.{Found}
 use Rattle.listing.specs.declared.list.Listed.{Listed}
 use Rattle.listing.specs.declared.list.Listed.the-variants as Lis
-
--- a whole table of rows in the order of their names
-pub record Ordered (rows : List ℕ) (n : ℕ) (after : List ℕ) : Type 0 where
-  pub long : length after ≡ 8192
-  pub each : (before : List ℕ) → length before ≡ 8192 → Copied rows (orderOf rows n) n before after
 
 -- whether so many accesses and races fit
 abbrev pub fitting : ℕ → ℕ → List ℕ → List ℕ → List ℕ → Bool
 fitting accesses races names numbers spare =
     leb accesses (length names) && (leb races (length numbers) && leb (races / 2) (length spare))
 
--- the names of the rows, and the first numbers sorted; or nothing
+-- the names of the rows, and the first numbers sorted
+pub record AllPut (rows : List ℕ) (accesses races : ℕ) (names numbers spare names′ numbers′ spare′ : List ℕ) : Type 0 where
+  pub names-are : names′ ≡ table (sideAt rows) accesses ++ drop accesses names
+  pub numbers-are : numbers′ ≡ sorted (take races numbers) ++ drop races numbers
+  pub spare-is : spare′ ≡ zeros spare
+
+-- the same, or nothing
 pub record Settled (rows : List ℕ) (accesses races : ℕ) (whole : Bool) (names numbers spare names′ numbers′ spare′ : List ℕ) : Type 0 where
   pub test : whole ≡ fitting accesses races names numbers spare
   pub names-are : names′ ≡ cond whole (table (sideAt rows) accesses ++ drop accesses names) (zeros names)
@@ -46,5 +48,5 @@ pub record Kept (s : List ℕ) (r : Found) (names numbers spare names′ numbers
 -- the answer with the number of chunks
 abbrev pub listedIn : ℕ → Found → Listed
 listedIn chunks f =
-    let totals = record { chunks = chunks; segments = f .segments; accesses = f .accesses; races = f .races } in
+    let totals : Totals = record { chunks = chunks; segments = f .segments; accesses = f .accesses; races = f .races } in
     cond (f .whole) (Lis.Whole totals) (Lis.TooMany totals)

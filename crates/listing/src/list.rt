@@ -16,10 +16,10 @@ ghost use lib.ListN.{length, replicate};
 ghost use Rattle.bundle.specs.Check.{Accepted};
 ghost use Rattle.verdict.specs.Tallying.{TablesFit};
 ghost use Rattle.verdict.specs.Census.{matrixPart, rowsPart};
-ghost use Rattle.listing.specs.Listing.{listedOf, listingOf, outcomeOf};
-ghost use Rattle.listing.specs.Ranking.{RowsIn};
+ghost use Rattle.listing.specs.Listing.{zeros, listedOf, listingOf, outcomeOf};
+ghost use Rattle.listing.specs.Ranking.{RowsIn, orderOf, Copied};
 ghost use Rattle.listing.specs.Pushing.{Pushes, allNumbers};
-ghost use Rattle.listing.specs.Settling.{Ordered, Settled, Kept, listedIn};
+ghost use Rattle.listing.specs.Settling.{AllPut, Settled, Kept, listedIn};
 
 // The counts of a bundle's chunks, segments, accesses and races.
 pub struct Totals {
@@ -62,7 +62,33 @@ fn fits(accesses: usize, races: usize, names: usize, numbers: usize, spare: usiz
     (accesses <= names) & ((races <= numbers) & (races / 2 <= spare))
 }
 
-// Puts the names into the lent memory and the races' numbers into their order, where there is room; else all of it is 0.
+// Nothing stands in the lent memory.
+fn clear_all(names: &mut [u64], numbers: &mut [u64], spare: &mut [u64])
+    ensures { λ _. ⌜ (now (names .exit) ≡ zeros (now (names .entry))) × (now (numbers .exit) ≡ zeros (now (numbers .entry))) × (now (spare .exit) ≡ zeros (now (spare .entry))) ⌝ }
+{
+    clear_words(names);
+    clear_words(numbers);
+    clear_words(spare);
+}
+
+// Puts the names into the lent memory, and the first numbers into their order.
+fn put_all(
+    rows: &[u32],
+    accesses: u32,
+    races: usize,
+    names: &mut [u64],
+    numbers: &mut [u64],
+    spare: &mut [u64],
+)
+    requires { ⌜ RowsIn (now rows) accesses × (accesses ≤ length (now names)) × (races ≤ length (now numbers)) × (races / 2 ≤ length (now spare)) ⌝ }
+    ensures { λ _. ⌜ AllPut (now (rows .entry)) accesses races (now (names .entry)) (now (numbers .entry)) (now (spare .entry)) (now (names .exit)) (now (numbers .exit)) (now (spare .exit)) ⌝ }
+{
+    put_names(rows, accesses, names);
+    sort(&mut numbers[..races], spare);
+    clear_words(spare);
+}
+
+// Puts the names into the lent memory and the numbers of the races into their order, where there is room; else all of it is 0.
 fn settle(
     rows: &[u32],
     accesses: u32,
@@ -81,21 +107,17 @@ fn settle(
         numbers.len(),
         spare.len(),
     ) {
-        clear_words(names);
-        clear_words(numbers);
-        clear_words(spare);
+        clear_all(names, numbers, spare);
         return false;
     }
-    put_names(rows, accesses, names);
-    sort(&mut numbers[..races], spare);
-    clear_words(spare);
+    put_all(rows, accesses, races, names, numbers, spare);
     true
 }
 
 // The rows of the accesses in a filled area, in the order of their names.
 fn order_area(area: &[u32], n: u32, rows: &mut [u32])
     requires { ⌜ (16384 ≤ length (now area)) × (n ≤ 1024) × (length (now rows) ≡ 8192) ⌝ }
-    ensures { λ _. ⌜ Ordered (rowsPart (now (area .entry))) n (now (rows .exit)) ⌝ }
+    ensures { λ _. ⌜ Copied (rowsPart (now (area .entry))) (orderOf (rowsPart (now (area .entry))) n) n (now (rows .entry)) (now (rows .exit)) ⌝ }
 {
     by_name(&area[8192..16384], n, rows);
 }

@@ -16,7 +16,7 @@ ghost use Rattle.verdict.specs.Matrix.{Within, TestWord};
 ghost use Rattle.verdict.specs.Working.{accessRowAt, RowIn};
 ghost use Rattle.order.specs.Ranges.{sharedByte};
 ghost use Rattle.verdict.specs.Tallying.{rowRange, rowsPass, unordered, RowFits, TablesFit, BlockIn};
-ghost use Rattle.listing.specs.Pushing.{Pushes, byteNumbers, rowNumbers, allNumbers, BlockFits, BlockPushed};
+ghost use Rattle.listing.specs.Pushing.{Pushes, byteNumbers, nextNumbers, rowNumbers, allNumbers, NextFits, BlockFits, BlockPushed};
 
 // Puts a number behind the first `count`, where there is room; it is counted anyway.
 fn push(numbers: &mut [u64], count: usize, number: u64) -> usize
@@ -59,6 +59,26 @@ fn clash_behind(matrix: &[u32], rows: &[u32], one: AccessRow, left: u32, i: u32,
     clash(matrix, rows, one, left, j)
 }
 
+// The race of the i-th access with the j-th, if there is one.
+fn push_next(
+    matrix: &[u32],
+    rows: &[u32],
+    one: AccessRow,
+    left: u32,
+    i: u32,
+    j: u32,
+    numbers: &mut [u64],
+    count: usize,
+) -> usize
+    requires { ⌜ NextFits (now matrix) (now rows) one i j count ⌝ }
+    ensures { λ r. ⌜ Pushes (nextNumbers (now (matrix .entry)) one (accessRowAt (now (rows .entry)) j) left i j) (now (numbers .entry)) count (now (numbers .exit)) r ⌝ }
+{
+    if !clash_behind(matrix, rows, one, left, i, j) {
+        return count;
+    }
+    push_clash(one, access_at(rows, j), i, j, numbers, count)
+}
+
 // The races of the i-th access with those from `first` to `end` that pass with it and stand behind it.
 fn push_passing(
     matrix: &[u32],
@@ -81,9 +101,7 @@ fn push_passing(
         if left == 0 {
             return count;
         }
-        if clash_behind(matrix, rows, one, left, i, j) {
-            count = push_clash(one, access_at(rows, j), i, j, numbers, count);
-        }
+        count = push_next(matrix, rows, one, left, i, j, numbers, count);
         left = left / 2;
         j += 1;
     }

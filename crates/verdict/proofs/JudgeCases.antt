@@ -189,7 +189,7 @@ unfolding rowsFrom
 rows-length g n [] = refl
 rows-length g n (c ∷ cs) = ap suc (rows-length _ _ cs)
 
-chunk-count : (s : List ℕ) (n m : ℕ) (chunks forks : List ℕ) → Indexed s n m chunks forks → n ≡ length (chunksOf s)
+pub chunk-count : (s : List ℕ) (n m : ℕ) (chunks forks : List ℕ) → Indexed s n m chunks forks → n ≡ length (chunksOf s)
 chunk-count s n m chunks forks x =
     sym (table-length (chunkRowAt chunks) n) ∙ ap length (x .chunk-rows) ∙ (unfold chunkRows in (rows-length 0 0 (chunksOf s)))
 

@@ -1,63 +1,46 @@
+-- `listing::names::copy_rows` meets its contract. The invariant: the rows passed are copied. The measure: those left. Assumes nothing.
+use mathlib.Core.Path.{_≡_, _∙_, ap}
+use Prim.Native.Nat.{ℕ, _≤_, _-_}
+use native.Mathlib.Omega.{arith}
+use lib.ListN.{length}
+use Rattle.listing.specs.Ranking.{Copied}
+use Rattle.listing.proofs.RankLaws.{copied-none, copied-more, copied-all}
+use borrow.Author.Needs.{needs}
 use Rattle.listing.proofs.names.copy_rows.Statement.{statement}
 use Rattle.listing.proofs.names.copy_rows.Tie as tie
-use Rattle.listing.proofs.names.copy_rows.Reads as reads
-use Rattle.listing.proofs.names.copy_rows.Lts as lts
-use Rattle.verdict.proofs.rows.access_at.Reads as access-at-reads
-use Rattle.verdict.proofs.rows.add_access.Reads as add-access-reads
 
 abbrev Inv-loop : tie.InvT-loop
-Inv-loop rows words n ordered₀ i₀ ordered i = ?
+Inv-loop rows words n ordered₀ i₀ ordered i = (i ≤ n) × Copied rows words i ordered₀ ordered
 
 abbrev μ-loop : tie.MeasureT-loop
-μ-loop rows words n ordered₀ i₀ ordered i = ?
+μ-loop rows words n ordered₀ i₀ ordered i = n - i
 
--- src/names.rt:54:5
 loop-holds : tie.Need-loop-holds Inv-loop μ-loop
-loop-holds c = ?
+loop-holds c = (search needs, copied-none _ _ _)
 
--- src/names.rt:55:28
-cast-place : tie.Need-cast-place Inv-loop μ-loop
-cast-place c = ?
-
--- src/names.rt:55:22
-mul-place : tie.Need-mul-place Inv-loop μ-loop
-mul-place c = ?
-
--- src/names.rt:55:22
 shared-slice-read-place : tie.Need-shared-slice-read-place Inv-loop μ-loop
-shared-slice-read-place c = ?
+shared-slice-read-place c = omega (arith, c .before .loop-test .taken, c .before .before .before .before .before .before .pre .2)
 
--- src/names.rt:55:21
-cast-place-2 : tie.Need-cast-place-2 Inv-loop μ-loop
-cast-place-2 c = ?
-
--- src/names.rt:56:32
 access-at-requires : tie.Need-access-at-requires Inv-loop μ-loop
-access-at-requires c κs = ?
+access-at-requires c κs = record { below = omega arith; whole = c .before .before .before .before .before .before .before .pre .0 .whole }
 
--- src/names.rt:56:9
 add-access-requires : tie.Need-add-access-requires Inv-loop μ-loop
-add-access-requires c κs = ?
+add-access-requires c κs =
+    let turn = c .before .before .before .before .loop in
+    let fits = c .before .before .before .before .before .before .before .before .pre .1 in
+    record { below = omega (arith, c .before .before .before .loop-test .taken, fits .few); whole = omega (arith, turn .inv .1 .long, fits .whole) }
 
--- src/names.rt:57:9
-add-i : tie.Need-add-i Inv-loop μ-loop
-add-i c = ?
-
--- src/names.rt:54:5
-loop-less : tie.Need-loop-less Inv-loop μ-loop
-loop-less c = ?
-
--- src/names.rt:54:5
 loop-again : tie.Need-loop-again Inv-loop μ-loop
-loop-again c = ?
+loop-again c = (
+  search needs,
+  copied-more _ _ _ (c .before .before .before .before .before .before .before .loop .inv .1) (c .before .before .add-access .ensures) (c .before .before .before .access-at .ensures),
+)
 
--- src/names.rt:49:1
 same-length : tie.Need-same-length Inv-loop μ-loop
-same-length c = ?
+same-length c = c .before .loop .inv .1 .long
 
--- src/names.rt:49:1
 returns : tie.Need-returns Inv-loop μ-loop
-returns c = ?
+returns c = copied-all _ _ _ (c .before .loop .inv .1) (c .loop-test .left)
 
 pub copy-rows-spec : {M : Type 1} → statement M
 copy-rows-spec =
@@ -66,14 +49,14 @@ copy-rows-spec =
     Inv-loop
     μ-loop
     loop-holds
-    cast-place
-    mul-place
+    (λ c. search needs)
+    (λ c. search needs)
     shared-slice-read-place
-    cast-place-2
+    (λ c. search needs)
     access-at-requires
     add-access-requires
-    add-i
-    loop-less
+    (λ c. search needs)
+    (λ c. search needs)
     loop-again
     same-length
     returns)

@@ -1,59 +1,51 @@
+-- `listing::names::fill_words` meets its contract. The invariant: the words of the accesses passed stand in front, the others are as they were. The measure: those left. Assumes nothing.
+use mathlib.Core.Path.{_≡_, _∙_, ap}
+use Prim.Native.Nat.{ℕ, _≤_, _-_, _+_, _*_}
+use mathlib.Core.List.{List, _++_}
+use native.Mathlib.Omega.{arith}
+use lib.ListN.{length, drop, length-set}
+use Rattle.bundle.specs.Index.{table}
+use Rattle.verdict.specs.Tallying.{packed, rowName}
+use Rattle.verdict.specs.declared.rows.AccessRow.{AccessRow}
+use Rattle.listing.specs.Ranking.{nameWord}
+use Rattle.listing.proofs.Fronts.{table-none-yet, table-more-yet, table-all, table-over-length}
+use borrow.Author.Needs.{needs}
 use Rattle.listing.proofs.names.fill_words.Statement.{statement}
 use Rattle.listing.proofs.names.fill_words.Tie as tie
-use Rattle.listing.proofs.names.fill_words.Reads as reads
-use Rattle.listing.proofs.names.fill_words.Lts as lts
-use Rattle.listing.proofs.names.name_word.Reads as name-word-reads
-use Rattle.verdict.proofs.rows.access_at.Reads as access-at-reads
 
 abbrev Inv-loop : tie.InvT-loop
-Inv-loop rows n words₀ i₀ words i = ?
+Inv-loop rows n words₀ i₀ words i = (i ≤ n) × (length words ≡ length words₀) × (words ≡ table (nameWord rows) i ++ drop i words₀)
 
 abbrev μ-loop : tie.MeasureT-loop
-μ-loop rows n words₀ i₀ words i = ?
+μ-loop rows n words₀ i₀ words i = n - i
 
--- src/names.rt:31:5
 loop-holds : tie.Need-loop-holds Inv-loop μ-loop
-loop-holds c = ?
+loop-holds c = (search needs, search needs, table-none-yet (nameWord _) _)
 
--- src/names.rt:32:39
 access-at-requires : tie.Need-access-at-requires Inv-loop μ-loop
-access-at-requires c κs = ?
+access-at-requires c κs =
+    let fits = c .before .before .before .before .pre .0 in
+    record { below = omega (arith, c .loop-test .taken, fits .few); whole = fits .whole }
 
--- src/names.rt:32:29
 name-word-requires : tie.Need-name-word-requires Inv-loop μ-loop
-name-word-requires c κs = ?
+name-word-requires c κs = omega (arith, c .before .loop-test .taken, c .before .before .before .before .before .pre .0 .few)
 
--- src/names.rt:32:15
-cast-words : tie.Need-cast-words Inv-loop μ-loop
-cast-words c = ?
-
--- src/names.rt:32:9
-mul-words : tie.Need-mul-words Inv-loop μ-loop
-mul-words c = ?
-
--- src/names.rt:32:9
 slice-write-words : tie.Need-slice-write-words Inv-loop μ-loop
-slice-write-words c = ?
+slice-write-words c =
+    let turn = c .before .before .before .loop in
+    omega (arith, turn .inv .1, c .before .before .loop-test .taken, c .before .before .before .before .before .before .pre .1)
 
--- src/names.rt:33:9
-add-i : tie.Need-add-i Inv-loop μ-loop
-add-i c = ?
-
--- src/names.rt:31:5
-loop-less : tie.Need-loop-less Inv-loop μ-loop
-loop-less c = ?
-
--- src/names.rt:31:5
 loop-again : tie.Need-loop-again Inv-loop μ-loop
-loop-again c = ?
+loop-again c =
+    let turn = c .before .before .before .loop in (
+      search needs,
+      length-set (turn .words) (turn .i) _ ∙ turn .inv .1,
+      table-more-yet (nameWord _) _ (turn .words) (turn .i) _ (omega (arith, c .before .before .loop-test .taken, c .before .before .before .before .before .before .pre .1)) (turn .inv .2)
+          (c .name-word .ensures ∙ ap (λ (r : AccessRow). packed (rowName r) * 1024 + turn .i) (c .before .access-at .ensures)),
+    )
 
--- src/names.rt:26:1
-same-length : tie.Need-same-length Inv-loop μ-loop
-same-length c = ?
-
--- src/names.rt:26:1
 returns : tie.Need-returns Inv-loop μ-loop
-returns c = ?
+returns c = table-all (nameWord _) _ (c .before .loop .i) _ (c .before .loop .inv .0) (c .loop-test .left) (c .before .loop .inv .2)
 
 pub fill-words-spec : {M : Type 1} → statement M
 fill-words-spec =
@@ -64,11 +56,11 @@ fill-words-spec =
     loop-holds
     access-at-requires
     name-word-requires
-    cast-words
-    mul-words
+    (λ c. search needs)
+    (λ c. search needs)
     slice-write-words
-    add-i
-    loop-less
+    (λ c. search needs)
+    (λ c. search needs)
     loop-again
-    same-length
+    (λ c. search needs)
     returns)

@@ -1,59 +1,51 @@
+-- `listing::names::put_names` meets its contract. The invariant: the words of the accesses passed stand in front, the others are as they were. The measure: those left. Assumes nothing.
+use mathlib.Core.Path.{_≡_, _∙_, ap}
+use Prim.Native.Nat.{ℕ, _≤_, _-_, _+_, _*_}
+use mathlib.Core.List.{List, _++_}
+use native.Mathlib.Omega.{arith}
+use lib.ListN.{length, drop, length-set}
+use Rattle.bundle.specs.Index.{table}
+use Rattle.verdict.specs.Tallying.{packed, rowName}
+use Rattle.verdict.specs.declared.rows.AccessRow.{AccessRow}
+use Rattle.listing.specs.Ranking.{sideAt, sideOfRow}
+use Rattle.listing.proofs.Fronts.{table-none-yet, table-more-yet, table-all, table-over-length}
+use borrow.Author.Needs.{needs}
 use Rattle.listing.proofs.names.put_names.Statement.{statement}
 use Rattle.listing.proofs.names.put_names.Tie as tie
-use Rattle.listing.proofs.names.put_names.Reads as reads
-use Rattle.listing.proofs.names.put_names.Lts as lts
-use Rattle.listing.proofs.names.side_of.Reads as side-of-reads
-use Rattle.verdict.proofs.rows.access_at.Reads as access-at-reads
 
 abbrev Inv-loop : tie.InvT-loop
-Inv-loop rows n names₀ i₀ names i = ?
+Inv-loop rows n names₀ i₀ names i = (i ≤ n) × (length names ≡ length names₀) × (names ≡ table (sideAt rows) i ++ drop i names₀)
 
 abbrev μ-loop : tie.MeasureT-loop
-μ-loop rows n names₀ i₀ names i = ?
+μ-loop rows n names₀ i₀ names i = n - i
 
--- src/names.rt:87:5
 loop-holds : tie.Need-loop-holds Inv-loop μ-loop
-loop-holds c = ?
+loop-holds c = (search needs, search needs, table-none-yet (sideAt _) _)
 
--- src/names.rt:88:37
 access-at-requires : tie.Need-access-at-requires Inv-loop μ-loop
-access-at-requires c κs = ?
+access-at-requires c κs =
+    let fits = c .before .before .before .before .pre .0 in
+    record { below = omega (arith, c .loop-test .taken, fits .few); whole = fits .whole }
 
--- src/names.rt:88:29
-side-of-requires : tie.Need-side-of-requires Inv-loop μ-loop
-side-of-requires c κs = ?
 
--- src/names.rt:88:15
-cast-names : tie.Need-cast-names Inv-loop μ-loop
-cast-names c = ?
 
--- src/names.rt:88:9
-mul-names : tie.Need-mul-names Inv-loop μ-loop
-mul-names c = ?
 
--- src/names.rt:88:9
 slice-write-names : tie.Need-slice-write-names Inv-loop μ-loop
-slice-write-names c = ?
+slice-write-names c =
+    let turn = c .before .before .before .loop in
+    omega (arith, turn .inv .1, c .before .before .loop-test .taken, c .before .before .before .before .before .before .pre .1)
 
--- src/names.rt:89:9
-add-i : tie.Need-add-i Inv-loop μ-loop
-add-i c = ?
-
--- src/names.rt:87:5
-loop-less : tie.Need-loop-less Inv-loop μ-loop
-loop-less c = ?
-
--- src/names.rt:87:5
 loop-again : tie.Need-loop-again Inv-loop μ-loop
-loop-again c = ?
+loop-again c =
+    let turn = c .before .before .before .loop in (
+      search needs,
+      length-set (turn .names) (turn .i) _ ∙ turn .inv .1,
+      table-more-yet (sideAt _) _ (turn .names) (turn .i) _ (omega (arith, c .before .before .loop-test .taken, c .before .before .before .before .before .before .pre .1)) (turn .inv .2)
+          (c .side-of .ensures ∙ ap (λ (r : AccessRow). sideOfRow r) (c .before .access-at .ensures)),
+    )
 
--- src/names.rt:82:1
-same-length : tie.Need-same-length Inv-loop μ-loop
-same-length c = ?
-
--- src/names.rt:82:1
 returns : tie.Need-returns Inv-loop μ-loop
-returns c = ?
+returns c = table-all (sideAt _) _ (c .before .loop .i) _ (c .before .loop .inv .0) (c .loop-test .left) (c .before .loop .inv .2)
 
 pub put-names-spec : {M : Type 1} → statement M
 put-names-spec =
@@ -63,12 +55,12 @@ put-names-spec =
     μ-loop
     loop-holds
     access-at-requires
-    side-of-requires
-    cast-names
-    mul-names
+    (λ c κs. tt)
+    (λ c. search needs)
+    (λ c. search needs)
     slice-write-names
-    add-i
-    loop-less
+    (λ c. search needs)
+    (λ c. search needs)
     loop-again
-    same-length
+    (λ c. search needs)
     returns)

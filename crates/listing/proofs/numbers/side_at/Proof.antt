@@ -1,24 +1,13 @@
+-- `listing::numbers::side_at` meets its contract. Assumes nothing.
+use mathlib.Core.Path.{sym}
+use denote.Ref.{now}
+use lib.ListN.{List·getD-eq-default}
 use borrow.Author.Needs.{needs}
 use Rattle.listing.proofs.numbers.side_at.Statement.{statement}
 use Rattle.listing.proofs.numbers.side_at.Tie as tie
-use Rattle.listing.proofs.numbers.side_at.Reads as reads
-use Rattle.listing.proofs.numbers.side_at.Lts as lts
 
--- src/numbers.rt:23:16
-mul-result : tie.Need-mul-result
-mul-result c = search needs
-
--- src/numbers.rt:23:16
-shared-slice-read-result : tie.Need-shared-slice-read-result
-shared-slice-read-result c = search needs
-
--- src/numbers.rt:23:9
-returns : tie.Need-returns
-returns c = search needs
-
--- src/numbers.rt:19:1
 returns-2 : tie.Need-returns-2
-returns-2 c = ?
+returns-2 c = sym (List·getD-eq-default (now (c .before .args .names)) 0 (c .if1 .left))
 
 pub side-at-spec : {M : Type 1} → statement M
-side-at-spec = tie.close (tie.spec mul-result shared-slice-read-result returns returns-2)
+side-at-spec = tie.close (tie.spec (λ c. search needs) (λ c. search needs) (λ c. search needs) returns-2)

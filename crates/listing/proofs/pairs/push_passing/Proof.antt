@@ -1,60 +1,48 @@
+-- `listing::pairs::push_passing` meets its contract. The invariant: the accesses passed are compared, and the bits of the others are left. The measure: those left. Assumes nothing.
+use Prim.Native.Nat.{_≤_, _-_}
+use borrow.Author.Needs.{needs}
+use Rattle.listing.proofs.BlockLaws.{PassTo, pass-none, pass-fits, pass-more, pass-stops, pass-ends}
 use Rattle.listing.proofs.pairs.push_passing.Statement.{statement}
 use Rattle.listing.proofs.pairs.push_passing.Tie as tie
-use Rattle.listing.proofs.pairs.push_passing.Reads as reads
-use Rattle.listing.proofs.pairs.push_passing.Lts as lts
-use Rattle.listing.proofs.pairs.clash_behind.Reads as clash-behind-reads
-use Rattle.listing.proofs.pairs.push_clash.Reads as push-clash-reads
-use Rattle.verdict.proofs.rows.access_at.Reads as access-at-reads
 
 abbrev Inv-loop : tie.InvT-loop
-Inv-loop matrix rows one i word first end numbers₀ before count₀ left₀ j₀ numbers count left j = ?
+Inv-loop matrix rows one i word first end numbers₀ before count₀ left₀ j₀ numbers count left j =
+    (j ≤ end) × PassTo matrix rows i first word numbers₀ before numbers count left j
 
 abbrev μ-loop : tie.MeasureT-loop
-μ-loop matrix rows one i word first end numbers₀ before count₀ left₀ j₀ numbers count left j = ?
+μ-loop matrix rows one i word first end numbers₀ before count₀ left₀ j₀ numbers count left j = end - j
 
--- src/pairs.rt:80:5
 loop-holds : tie.Need-loop-holds Inv-loop μ-loop
-loop-holds c = ?
+loop-holds c = (c .before .before .before .pre .0 .ordered, pass-none _ _ _ _ _ _ _)
 
--- src/pairs.rt:82:13
 same-length : tie.Need-same-length Inv-loop μ-loop
-same-length c = ?
+same-length c = c .before .before .loop .inv .1 .long
 
--- src/pairs.rt:82:13
 returns : tie.Need-returns Inv-loop μ-loop
-returns c = ?
+returns c =
+    let pre = c .before .before .before .before .before .before .pre in
+    let turn = c .before .before .loop in
+    pass-stops _ _ _ (turn .inv .1) (pre .0) (pre .1) (turn .inv .0) (c .if1 .taken)
 
--- src/pairs.rt:84:12
-clash-behind-requires : tie.Need-clash-behind-requires Inv-loop μ-loop
-clash-behind-requires c κs = ?
+push-next-requires : tie.Need-push-next-requires Inv-loop μ-loop
+push-next-requires c κs =
+    let pre = c .before .before .before .before .before .before .before .pre in
+    pass-fits _ _ _ (c .before .before .before .loop .inv .1) (pre .0) (pre .1) (c .before .before .loop-test .taken)
 
--- src/pairs.rt:85:37
-access-at-requires : tie.Need-access-at-requires Inv-loop μ-loop
-access-at-requires c κs = ?
-
--- src/pairs.rt:85:13
-push-clash-requires : tie.Need-push-clash-requires Inv-loop μ-loop
-push-clash-requires c κs = ?
-
--- src/pairs.rt:88:9
-add-j : tie.Need-add-j Inv-loop μ-loop
-add-j c = ?
-
--- src/pairs.rt:80:5
-loop-less : tie.Need-loop-less Inv-loop μ-loop
-loop-less c = ?
-
--- src/pairs.rt:80:5
 loop-again : tie.Need-loop-again Inv-loop μ-loop
-loop-again c = ?
+loop-again c =
+    let pre = c .before .before .before .before .before .before .before .before .before .before .pre in (
+      search needs,
+      pass-more _ _ _ (c .before .before .before .before .before .before .loop .inv .1) (pre .0) (pre .1) _ _ (c .before .before .before .before .before .loop-test .taken) (c .before .before .push-next .ensures),
+    )
 
--- src/pairs.rt:63:1
 same-length-2 : tie.Need-same-length-2 Inv-loop μ-loop
-same-length-2 c = ?
+same-length-2 c = c .before .loop .inv .1 .long
 
--- src/pairs.rt:63:1
 returns-2 : tie.Need-returns-2 Inv-loop μ-loop
-returns-2 c = ?
+returns-2 c =
+    let pre = c .before .before .before .before .before .pre in
+    pass-ends _ _ _ (c .before .loop .inv .1) (pre .0) (pre .1) (c .before .loop .inv .0) (c .loop-test .left)
 
 pub push-passing-spec : {M : Type 1} → statement M
 push-passing-spec =
@@ -65,11 +53,9 @@ push-passing-spec =
     loop-holds
     same-length
     returns
-    clash-behind-requires
-    access-at-requires
-    push-clash-requires
-    add-j
-    loop-less
+    push-next-requires
+    (λ c. search needs)
+    (λ c. search needs)
     loop-again
     same-length-2
     returns-2)

@@ -1,0 +1,22 @@
+-- `listing::pairs::push_block` meets its contract. Assumes nothing.
+use borrow.Author.Needs.{needs}
+use borrow.Author.Tests.{not-true}
+use Rattle.listing.proofs.BlockLaws.{none-met}
+use Rattle.listing.proofs.pairs.push_block.Statement.{statement}
+use Rattle.listing.proofs.pairs.push_block.Tie as tie
+
+returns : tie.Need-returns
+returns c =
+    let fits = c .before .before .before .before .before .pre .0 in
+    none-met _ _ _ _ _ _ _ _ (fits .row-is) (fits .ordered) (fits .short) (c .before .some-meet .ensures (not-true _ (c .if1 .taken)))
+
+pub push-block-spec : {M : Type 1} → statement M
+push-block-spec =
+    tie.close
+    (tie.spec
+    (λ c κs. search needs)
+    returns
+    (λ c κs. search needs)
+    (λ c κs. search needs)
+    (λ c. search needs)
+    (λ c. search needs))
