@@ -1,39 +1,60 @@
 -- The numbers of a bundle's races, and that they read back as the races.
 use Prim.Native.Nat.{ℕ, zero, suc, _+_, _*_, _/_, _%_, _≤_, _<_}
 use mathlib.Core.Path.{_≡_, refl, sym, _∙_, ap, ap₂, subst}
-use mathlib.Core.Bool.{Bool, cond}
+use mathlib.Core.Bool.{Bool, true, false, cond, _&&_}
 use mathlib.Core.List.{List, [], _∷_, _++_, map, List·Memᴰ, List·Memᴰ·head, List·Memᴰ·tail, Memᴰ·map, Memᴰ·of-map, Memᴰ·cast, Permᴰ·symm}
 use mathlib.Core.Option.{Option, none, some}
 use native.Mathlib.Omega.{arith}
 use lib.ListN.{length, getD, length-map}
 use Rattle.sorting.specs.Order.{sorted}
 use Rattle.sorting.proofs.Insertion.{sorted-perm, sorted-ascending, sorted-length}
+use Rattle.bundle.specs.Commands.{rangeOk}
 use Rattle.bundle.specs.Chunks.{Chunk}
 use Rattle.bundle.specs.Index.{table}
 use Rattle.bundle.proofs.ListLaws.{perm-mem, perm-map, Distinct}
 use Rattle.bundle.proofs.Keys.{perm-distinct}
 use Rattle.bundle.proofs.Places.{memberKey}
 use Rattle.bundle.proofs.Tables.{table-length}
+use Rattle.order.specs.Ranges.{sharedByte}
+use Rattle.order.proofs.SharedByte.{shared-some}
+use Rattle.order.proofs.PairBytes.{touch-fits}
 use Rattle.verdict.specs.Graph.{segmentsOf, closureOf}
 use Rattle.verdict.specs.Races.{accessesOf, racesAmong, racesOf}
 use Rattle.verdict.specs.Matrix.{PathBits}
 use Rattle.verdict.specs.Working.{accessRowAt, AccessTable}
-use Rattle.verdict.specs.Tallying.{rowName, raceFrom}
+use Rattle.verdict.specs.Tallying.{rowName, rowRange, rowsMeet, rowsClash, raceFrom, RowFits, SideOf}
+use Rattle.verdict.specs.declared.rows.AccessRow.{AccessRow}
 use Rattle.verdict.specs.declared.race.Race.{Race}
 use Rattle.verdict.proofs.Sorting.{order-intro, order-elim, ascending-unique}
 use Rattle.verdict.proofs.AccessNames.{accesses-distinct}
 use Rattle.verdict.proofs.RaceList.{races-ascending}
-use Rattle.listing.specs.Listing.{namesOf, rankIn, numbersOf, numberFor, raceNumber}
+use Rattle.verdict.proofs.PackedNames.{side-packed}
+use Rattle.listing.specs.Listing.{namesOf, rankIn, numbersOf, numberFor, raceNumber, raceIn}
 use Rattle.listing.specs.Ranking.{orderOf, Copied, sideAt}
-use Rattle.listing.specs.Pushing.{allNumbers}
+use Rattle.listing.specs.Pushing.{raceByte, allNumbers}
+use Rattle.listing.proofs.RankLaws.{getD-left}
+use Rattle.listing.proofs.OrderLaws.{table-at}
 use Rattle.listing.proofs.NumberLists.{Numbers, ranksOf, number-witness, number-first, number-second, numbers-elim, numbers-intro, numbers-distinct}
 use Rattle.listing.proofs.RaceNumbers.{raceOfNumber, race-of-parts, number-race, race-number, numbers-ascend}
-use Rattle.listing.proofs.NameTables.{names-table, rank-found}
+use Rattle.listing.proofs.NameTables.{site-small, row-fits, names-table, rank-found}
 
 -- a map that changes no element
 map-kept : {A : Type 0} (f : ℕ → A) (g : A → ℕ) (ks : List ℕ) → ((k : ℕ) → List·Memᴰ k ks → g (f k) ≡ k) → map g (map f ks) ≡ ks
 map-kept f g [] h = refl
 map-kept f g (k ∷ ks) h = ap₂ (λ (x : ℕ) (l : List ℕ). x ∷ l) (h k (List·Memᴰ·head refl)) (map-kept f g ks (λ x l. h x (List·Memᴰ·tail l)))
+
+map-agree : {A : Type 0} (f g : ℕ → A) (ks : List ℕ) → ((k : ℕ) → List·Memᴰ k ks → f k ≡ g k) → map f ks ≡ map g ks
+map-agree f g [] h = refl
+map-agree f g (k ∷ ks) h = ap₂ (λ x l. x ∷ l) (h k (List·Memᴰ·head refl)) (map-agree f g ks (λ x l. h x (List·Memᴰ·tail l)))
+
+-- the byte of a race fits 32 bits
+byte-small : (m : List ℕ) (one other : AccessRow) {w : ℕ} → rangeOk (rowRange one) ≡ true → raceByte m one other ≡ some w → w < 4294967296
+unfolding raceByte
+byte-small m one other {w} ok e = go (rowsMeet one other && rowsClash m one other) e
+  where
+    go : (t : Bool) → cond t (sharedByte (rowRange one) (rowRange other)) none ≡ some w → w < 4294967296
+    go true q = touch-fits (rowRange one) w ok (shared-some (rowRange one) (rowRange other) w q .one)
+    go false q = absurd (let z : _≡_ {A = ℕ} 0 1 = cc in omega arith)
 
 module _
     (cs : List Chunk) (members : Distinct (map memberKey cs))
@@ -109,3 +130,50 @@ module _
   pub numbers-are : numbers ≡ numbersOf cs
   unfolding numbersOf
   numbers-are = sym (map-kept race (raceNumber (namesOf cs)) numbers number-kept) ∙ ap (map (raceNumber (namesOf cs))) races-listed
+
+  -- the numbers read back as the races, from the names in front of whatever follows them
+  module _ (fits : (i : ℕ) → i < n → RowFits (accessRowAt ordered i)) (rest : List ℕ) where
+    abbrev held : List ℕ
+    held = table (sideAt ordered) n ++ rest
+
+    side-read : (i : ℕ) → i < n → SideOf (rowName (accessRowAt ordered i)) (accessRowAt ordered i .site) (getD held i 0)
+    side-read i h =
+        let at : getD held i 0 ≡ sideAt ordered i =
+        getD-left (table (sideAt ordered) n) rest i (omega (arith, table-length (sideAt ordered) n)) ∙ table-at (sideAt ordered) n i h
+        in
+        rw at
+        (side-packed (record { is = refl; fits = row-fits tab (accesses-distinct cs members) small n all copied i h })
+        (site-small tab (accesses-distinct cs members) small n all copied ordered i))
+
+    number-read : (k : ℕ) → List·Memᴰ k numbers → raceIn held k ≡ race k
+    unfolding raceIn
+    number-read k l =
+        let r = number-of k l in
+        let i = r .one in
+        let j = r .other in
+        let w = r .witness in
+        let h = r .behind in
+        let b = r .below in
+        let c : i < n = omega arith in
+        let one : k / 1024 % 1024 ≡ i = ap (λ (x : ℕ). x / 1024 % 1024) (r .is) ∙ number-first w i j (omega (arith, few)) (omega (arith, few)) in
+        let other : k % 1024 ≡ j = ap (λ (x : ℕ). x % 1024) (r .is) ∙ number-second w i j (omega (arith, few)) in
+        let top : k / 1048576 ≡ w = ap (λ (x : ℕ). x / 1048576) (r .is) ∙ number-witness w i j (omega (arith, few)) (omega (arith, few)) in
+        let low : w < 4294967296 = byte-small m (accessRowAt ordered i) (accessRowAt ordered j) (fits i c .range) (r .byte) in
+        let witness : k / 1048576 % 4294967296 ≡ w = ap (λ (x : ℕ). x % 4294967296) top ∙ small-rest w low in
+        let first : SideOf (rowName (accessRowAt ordered i)) (accessRowAt ordered i .site) (getD held (k / 1024 % 1024) 0) = rw one (side-read i c) in
+        let second : SideOf (rowName (accessRowAt ordered j)) (accessRowAt ordered j .site) (getD held (k % 1024) 0) = rw other (side-read j b) in
+        (λ q.
+        record {
+          witness = witness q;
+          first = first .name-in q;
+          «first_site» = first .site-in q;
+          second = second .name-in q;
+          «second_site» = second .site-in q;
+        })
+        ∙ sym (ap race (r .is) ∙ race-of-parts paths tab (accesses-distinct cs members) small n all copied w i j (omega (arith, few)) (omega (arith, few)))
+      where
+        small-rest : (x : ℕ) → x < 4294967296 → x % 4294967296 ≡ x
+        small-rest x h = omega arith
+
+    pub reads-back : map (raceIn held) numbers ≡ racesOf cs
+    reads-back = map-agree (raceIn held) race numbers number-read ∙ races-listed

@@ -2,7 +2,7 @@
 use Prim.Native.Nat.{ℕ, zero, suc, _+_, _/_, _%_, _≤_, _<_}
 use mathlib.Core.Path.{_≡_, refl, sym, _∙_, ap, ap₂, subst}
 use mathlib.Core.Bool.{Bool, true, false, cond, _&&_}
-use mathlib.Core.List.{List, [], _∷_, _++_}
+use mathlib.Core.List.{List, [], _∷_, _++_, map}
 use native.Mathlib.Omega.{arith}
 use native.Mathlib.Nat.{zero-add}
 use lib.Dec.{leb}
@@ -16,7 +16,7 @@ use Rattle.bundle.specs.Chunks.{Chunk, chunksOf}
 use Rattle.bundle.specs.Check.{checkOf, Accepted}
 use Rattle.bundle.specs.Index.{table, Indexed}
 use Rattle.bundle.specs.declared.refusal.Cause.{Cause}
-use Rattle.bundle.proofs.Tests.{and-left, and-right}
+use Rattle.bundle.proofs.Tests.{and-left, and-right, false-is-true}
 use Rattle.bundle.proofs.Tables.{table-length}
 use Rattle.bundle.proofs.Reorder.{distinct-members}
 use Rattle.verdict.specs.Graph.{segmentsOf}
@@ -25,7 +25,7 @@ use Rattle.verdict.specs.Working.{accessRowAt}
 use Rattle.verdict.specs.Tallying.{RowFits, TablesFit}
 use Rattle.verdict.specs.Census.{matrixPart, rowsPart, AreaFilled}
 use Rattle.verdict.proofs.JudgeCases.{area-fits, matrix-long, chunk-count}
-use Rattle.listing.specs.Listing.{namesOf, numbersOf, totalsOf, Outcome, zeros, over, fitsIn, allRaces, refusedWith, whichever, listedOf, listingOf, reportOf, outcomeOf}
+use Rattle.listing.specs.Listing.{namesOf, numbersOf, totalsOf, Outcome, zeros, over, fitsIn, allRaces, refusedWith, whichever, listedOf, listingOf, reportOf, outcomeOf, raceIn, Readable}
 use Rattle.listing.specs.Ranking.{orderOf, Copied, RowsIn, sideAt}
 use Rattle.listing.specs.Pushing.{Pushes, allNumbers}
 use Rattle.listing.specs.Settling.{fitting, Settled, Kept, listedIn}
@@ -35,7 +35,7 @@ use Rattle.listing.specs.declared.list.Listed.{Listed}
 use Rattle.listing.specs.declared.list.Listed.the-variants as Lis
 use Rattle.listing.proofs.PushLaws.{pushes-length, pushed-front, all-few}
 use Rattle.listing.proofs.OrderLaws.{Placed, rank-place}
-use Rattle.listing.proofs.BundleNumbers.{names-are, numbers-are, races-counted}
+use Rattle.listing.proofs.BundleNumbers.{names-are, numbers-are, races-counted, reads-back}
 
 -- the words of a part are words of the whole
 take-small : (n : ℕ) (l : List ℕ) (i : ℕ) → getD (take n l) i 0 ≤ getD l i 0
@@ -113,15 +113,31 @@ module _
       names-over =
           ap₂ (λ (x : List ℕ) (k : ℕ). x ++ drop k names) names-of (sym (table-length (sideAt ordered) n) ∙ ap length names-of)
 
+      has-room : t ≡ true → leb races (length numbers) ≡ true
+      has-room e =
+          ap (leb races) (sym (pushes-length p))
+          ∙ and-left (leb races (length pushed)) (leb (races / 2) (length spare))
+          (and-right (leb n (length names)) (leb races (length pushed) && leb (races / 2) (length spare)) (sym (q .test) ∙ e))
+
       numbers-in : (b : Bool) → t ≡ b → cond b (sorted (take races pushed) ++ drop races pushed) (zeros pushed) ≡ cond b (over (numbersOf cs) numbers) (zeros numbers)
-      numbers-in true e = sorted-over (leb-true races (length numbers) room)
-        where
-          room : leb races (length numbers) ≡ true
-          room =
-              ap (leb races) (sym (pushes-length p))
-              ∙ and-left (leb races (length pushed)) (leb (races / 2) (length spare))
-              (and-right (leb n (length names)) (leb races (length pushed) && leb (races / 2) (length spare)) (sym (q .test) ∙ e))
+      numbers-in true e = sorted-over (leb-true races (length numbers) (has-room e))
       numbers-in false e = ap (λ (k : ℕ). replicate k 0) (pushes-length p)
+
+      read-in : (b : Bool) → t ≡ b → b ≡ true → map (raceIn names′) (take races numbers′) ≡ racesOf cs
+      read-in false e h = false-is-true h
+      read-in true e h =
+          let long : length met ≡ races = omega (arith, p .counted) in
+          let held : names′ ≡ table (sideAt ordered) n ++ drop n names = q .names-are ∙ ap (λ (b : Bool). cond b (table (sideAt ordered) n ++ drop n names) (zeros names)) e in
+          let room : races ≤ length numbers = leb-true races (length numbers) (has-room e) in
+          let front : pushed ≡ met ++ drop races numbers = pushed-front p (omega arith) ∙ ap (λ (k : ℕ). met ++ drop k numbers) long in
+          let put : numbers′ ≡ sorted met ++ drop races pushed =
+          q .numbers-are
+          ∙ ap (λ (b : Bool). cond b (sorted (take races pushed) ++ drop races pushed) (zeros pushed)) e
+          ∙ ap (λ (l : List ℕ). sorted l ++ drop races pushed) (ap (take races) front ∙ take-at met (drop races numbers) races long)
+          in
+          let taken : take races numbers′ ≡ sorted met = ap (take races) put ∙ take-at (sorted met) (drop races pushed) races (sorted-length met ∙ long) in
+          ap₂ (λ (a b : List ℕ). map (raceIn a) b) held taken
+          ∙ reads-back cs (distinct-members s ok) (a .paths) (a .rows) (rows-small area small) n (a .access-count) copied (ordered-fits .0 .fit) (drop n names)
 
       pub kept : {count : ℕ} → count ≡ races → Kept s (record { segments = g; accesses = n; races = count; whole = t }) names numbers spare names′ numbers′ spare′
       kept e =
@@ -133,6 +149,7 @@ module _
             names-are = q .names-are ∙ ap (λ (l : List ℕ). cond t l (zeros names)) names-over;
             numbers-are = q .numbers-are ∙ numbers-in t refl;
             spare-is = q .spare-is;
+            read-back = λ h. ap (λ (k : ℕ). map (raceIn names′) (take k numbers′)) e ∙ read-in t refl h;
           }
 
 -- the answers
@@ -174,6 +191,20 @@ module _ (s : List ℕ) {n m : ℕ} {chunks forks : List ℕ} (x : Indexed s n m
       report : (t : Totals) (b : Bool) → reportOf (cond b (Lis.Whole t) (Lis.TooMany t)) ≡ given b t
       report t true = refl
       report t false = refl
+
+  pub listed-readable :
+      (names numbers spare : List ℕ) (f : Found) {names′ numbers′ spare′ : List ℕ} {r : Listed}
+      → Kept s f names numbers spare names′ numbers′ spare′
+      → r ≡ listedIn n f
+      → Readable s r names′ numbers′
+  listed-readable names numbers spare f {names′} {numbers′} k e = subst (λ (x : Listed). Readable s x names′ numbers′) (sym e) (go (f .whole) refl)
+    where
+      totals : Totals
+      totals = record { chunks = n; segments = f .segments; accesses = f .accesses; races = f .races }
+
+      go : (b : Bool) → f .whole ≡ b → Readable s (cond b (Lis.Whole totals) (Lis.TooMany totals)) names′ numbers′
+      go true h = k .read-back h
+      go false h = tt
 
 module _ (s : List ℕ) (cause : Cause) {place : ℕ} (e : checkOf s ≡ refuses (numberOf cause) place) where
   pub listing-refused :

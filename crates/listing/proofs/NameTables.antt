@@ -17,7 +17,7 @@ use Rattle.bundle.proofs.ListLaws.{perm-map, Distinct}
 use Rattle.bundle.proofs.Tables.{table-more, table-none, table-length, table-same}
 use Rattle.verdict.specs.Races.{NamedAccess}
 use Rattle.verdict.specs.Working.{accessRowAt, RowOf, AccessTable}
-use Rattle.verdict.specs.Tallying.{packed, rowName}
+use Rattle.verdict.specs.Tallying.{packed, NameFits, rowName}
 use Rattle.verdict.specs.declared.race.Name.{Name}
 use Rattle.verdict.specs.declared.rows.AccessRow.{AccessRow}
 use Rattle.verdict.proofs.AccessNames.{accessKey}
@@ -65,9 +65,14 @@ module _
   abbrev bySide : List ℕ
   bySide = table (sideAt ordered) n
 
-  site-small : (words : List ℕ) (r : ℕ) → accessRowAt words r .site < 65536
+  pub site-small : (words : List ℕ) (r : ℕ) → accessRowAt words r .site < 65536
   unfolding accessRowAt
   site-small words r = omega arith
+
+  pub row-fits : (i : ℕ) → i < n → NameFits (rowName (accessRowAt ordered i))
+  row-fits i h =
+      let a = ranked tab distinct small n all copied i h in
+      subst NameFits (sym (name-of tab distinct small n all copied (a .row))) (a .fits)
 
   names-up : (i j : ℕ) → i < j → j < n → packed (rowName (accessRowAt ordered i)) < packed (rowName (accessRowAt ordered j))
   names-up i j h l =

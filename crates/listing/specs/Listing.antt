@@ -1,9 +1,10 @@
 -- All races of a bundle, in their order, as numbers.
 use Prim.Native.Nat.{ℕ, _+_, _*_, _/_, _%_}
+use mathlib.Core.Path.{_≡_}
 use mathlib.Core.Bool.{Bool, true, false, cond, _&&_}
 use mathlib.Core.List.{List, _++_, map}
 use lib.Dec.{eqb, ltb, leb}
-use lib.ListN.{length, getD, drop, replicate}
+use lib.ListN.{length, getD, take, drop, replicate}
 use Rattle.sorting.specs.Order.{sorted}
 use Rattle.sorting.specs.Searching.{indexOf}
 use Rattle.bundle.specs.Answer.{Answer, gives, refuses, numberOf}
@@ -130,3 +131,13 @@ reportOf (Lis.Refused place cause) = refuses (numberOf cause) place
 abbrev pub outcomeOf : Listed → List ℕ → List ℕ → List ℕ → List ℕ → Outcome
 outcomeOf r work names numbers spare =
     record { answer = reportOf r; work = work; names = names; numbers = numbers; spare = spare }
+
+-- the races that stand in the lent memory, where it holds them all
+abbrev pub racesIn : Totals → List ℕ → List ℕ → List Race
+racesIn t names numbers = map (raceIn names) (take (t .races) numbers)
+
+-- a whole listing reads as the bundle's races, in their order
+abbrev pub Readable : List ℕ → Listed → List ℕ → List ℕ → Type 0
+Readable s (Lis.Whole t) names numbers = racesIn t names numbers ≡ racesOf (chunksOf s)
+Readable s (Lis.TooMany t) names numbers = Unit {0}
+Readable s (Lis.Refused place cause) names numbers = Unit {0}

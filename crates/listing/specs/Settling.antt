@@ -1,8 +1,8 @@
 -- Inner: what stands in the lent memory at the end.
 use Prim.Native.Nat.{ℕ, _/_, _≤_}
 use mathlib.Core.Path.{_≡_}
-use mathlib.Core.Bool.{Bool, cond, _&&_}
-use mathlib.Core.List.{List, _++_}
+use mathlib.Core.Bool.{Bool, true, cond, _&&_}
+use mathlib.Core.List.{List, _++_, map}
 use lib.Dec.{leb}
 use lib.ListN.{length, take, drop}
 use Rattle.sorting.specs.Order.{sorted}
@@ -10,7 +10,7 @@ use Rattle.bundle.specs.Index.{table}
 use Rattle.bundle.specs.Chunks.{chunksOf}
 use Rattle.verdict.specs.Graph.{segmentsOf}
 use Rattle.verdict.specs.Races.{accessesOf, racesOf}
-use Rattle.listing.specs.Listing.{zeros, over, namesOf, numbersOf, fitsIn}
+use Rattle.listing.specs.Listing.{zeros, over, namesOf, numbersOf, raceIn, fitsIn}
 use Rattle.listing.specs.Ranking.{sideAt}
 use Rattle.listing.specs.declared.list.Totals.{Totals}
 use Rattle.listing.specs.declared.list.Found.{Found}
@@ -44,6 +44,7 @@ pub record Kept (s : List ℕ) (r : Found) (names numbers spare names′ numbers
   pub names-are : names′ ≡ cond (r .whole) (over (namesOf (chunksOf s)) names) (zeros names)
   pub numbers-are : numbers′ ≡ cond (r .whole) (over (numbersOf (chunksOf s)) numbers) (zeros numbers)
   pub spare-is : spare′ ≡ zeros spare
+  pub read-back : r .whole ≡ true → map (raceIn names′) (take (r .races) numbers′) ≡ racesOf (chunksOf s)
 
 -- the answer with the number of chunks
 abbrev pub listedIn : ℕ → Found → Listed

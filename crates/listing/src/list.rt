@@ -16,7 +16,7 @@ ghost use lib.ListN.{length, replicate};
 ghost use Rattle.bundle.specs.Check.{Accepted};
 ghost use Rattle.verdict.specs.Tallying.{TablesFit};
 ghost use Rattle.verdict.specs.Census.{matrixPart, rowsPart};
-ghost use Rattle.listing.specs.Listing.{zeros, listedOf, listingOf, outcomeOf};
+ghost use Rattle.listing.specs.Listing.{zeros, listedOf, listingOf, outcomeOf, Readable};
 ghost use Rattle.listing.specs.Ranking.{RowsIn, orderOf, Copied};
 ghost use Rattle.listing.specs.Pushing.{Pushes, allNumbers};
 ghost use Rattle.listing.specs.Settling.{AllPut, Settled, Kept, listedIn};
@@ -179,7 +179,7 @@ fn list_in(
     spare: &mut [u64],
 ) -> Listed
     requires { ⌜ 16384 ≤ length (now area) ⌝ }
-    ensures { λ r. ⌜ (outcomeOf r (now (area .entry)) (now (names .exit)) (now (numbers .exit)) (now (spare .exit)) ≡ listedOf (now (bytes .entry)) (now (area .entry)) (now (names .entry)) (now (numbers .entry)) (now (spare .entry))) × (length (now (area .exit)) ≡ length (now (area .entry))) ⌝ }
+    ensures { λ r. ⌜ (outcomeOf r (now (area .entry)) (now (names .exit)) (now (numbers .exit)) (now (spare .exit)) ≡ listedOf (now (bytes .entry)) (now (area .entry)) (now (names .entry)) (now (numbers .entry)) (now (spare .entry))) × (length (now (area .exit)) ≡ length (now (area .entry))) × Readable (now (bytes .entry)) r (now (names .exit)) (now (numbers .exit)) ⌝ }
 {
     let mut chunks = [0u64; 1024];
     let mut forks = [0u64; 1536];
@@ -203,6 +203,7 @@ pub fn list_races(
     spare: &mut [u64],
 ) -> Listed
     ensures { λ r. ⌜ listingOf (now (bytes .entry)) (now (work .entry)) (now (names .entry)) (now (numbers .entry)) (now (spare .entry)) ≡ outcomeOf r (now (work .exit)) (now (names .exit)) (now (numbers .exit)) (now (spare .exit)) ⌝ }
+    ensures readable { λ r. ⌜ Readable (now (bytes .entry)) r (now (names .exit)) (now (numbers .exit)) ⌝ }
 {
     if work.len() < 16384 {
         return Listed::Refused {

@@ -27,9 +27,6 @@ access-at-requires c κs =
     let fits = c .before .before .before .before .pre .0 in
     record { below = omega (arith, c .loop-test .taken, fits .few); whole = fits .whole }
 
-
-
-
 slice-write-names : tie.Need-slice-write-names Inv-loop μ-loop
 slice-write-names c =
     let turn = c .before .before .before .loop in
