@@ -12,6 +12,7 @@ import listing_cases
 import second_reader as sr
 
 LIMIT = 120  # seconds that a process may take
+NO_END = "no end"  # the status of one that takes longer
 FOLDER = Path(__file__).resolve().parent.parent / "target" / "compare"
 E = listing_cases.E
 
@@ -62,6 +63,8 @@ def held(title, data, answer):
 
 
 def difference(status, given, said, wanted):
+    if status == NO_END:
+        return f"  the program did not end in {LIMIT} seconds"
     if status:
         return f"  the program ended with status {status} and said {said[:500]!r}"
     if said:
@@ -82,8 +85,7 @@ def ended(process, given=None):
         out, said = process.communicate(given, timeout=LIMIT)
     except subprocess.TimeoutExpired:
         process.kill()
-        process.communicate()
-        raise Different(f"the program did not end in {LIMIT} seconds") from None
+        return NO_END, *process.communicate()
     return process.returncode, out, said
 
 
@@ -195,8 +197,7 @@ def compare_outputs(program, tally):
         for ignored in (False, True):
             to_closing_reader(program, data, taken, ignored)
     with open("/dev/full", "wb") as full:
-        process = start(program, stdout=full)
-        hold_end("output to a full device", process, ended(process, data))
+        hold_end("output to a full device", *ended(start(program, stdout=full), data))
 
 
 def to_slow_reader(program, data):
@@ -228,10 +229,10 @@ def to_closing_reader(program, data, taken, ignored):
         if given != listing_of(data)[:taken]:
             raise Different(f"{title}: the bytes up to there differ")
     process.stdin = process.stdout = None
-    hold_end(title, process, ended(process))
+    hold_end(title, *ended(process))
 
 
-def hold_end(title, process, _):
+def hold_end(title, status, _, said):
     """It has ended, by itself or by SIGPIPE."""
-    if process.returncode < 0 and process.returncode != -signal.SIGPIPE:
-        raise Different(f"{title}: the program ended by signal {-process.returncode}")
+    if status == NO_END or status < 0 and status != -signal.SIGPIPE:
+        raise Different(f"{title}: status {status}, it said {said[:500]!r}")
