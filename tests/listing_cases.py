@@ -7,6 +7,7 @@ import random
 
 import aimed_cases
 import generators
+import known_damage
 import race_cases
 import second_reader as sr
 from bundle_text import bundle
@@ -196,6 +197,11 @@ def random_bundles(seed):
             yield "damaged", generators.damaged_bundle(rng, style)
         yield "cut", cut(rng, generators.random_bundle(rng, style))
         yield "damaged twice", generators.damage_bytes(rng, generators.damaged_bundle(rng, style))
+    for style in (generators.SMALL, generators.MIDDLE):
+        chunks = generators.shuffled(rng, generators.random_chunks(rng, style))
+        for maker in known_damage.MAKERS:
+            if made := maker(rng, chunks):
+                yield maker.__name__, made[0]
     for _ in range(6):
         yield "races of one interval", generators.bundle_bytes(generators.shuffled(rng, generators.one_interval(rng)))
     yield "any bytes", rng.randbytes(rng.randrange(200))
