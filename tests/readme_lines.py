@@ -109,10 +109,9 @@ def check_forms(text, listings):
 
 
 def check_refusals(text, refused):
-    """The table has a row for each number that racelist prints, and the text below it names the others."""
-    want("rows of refusals", [row[0] for row in table(text, "| N |")], [str(number) for number in range(1, 13)])
-    below = text[text.index("The other numbers") :].split("\n\n")[0]
-    want("other numbers", re.findall(r"\b1[3-8]\b", below), [str(number) for number in range(13, 19)])
+    """One table has a row for each number that racelist prints, the next for each of the others."""
+    want("rows of refusals", [row[0] for row in table(text, "| N | What")], [str(number) for number in range(1, 13)])
+    want("rows of others", [row[0] for row in table(text, "| N | Operation")], [str(number) for number in range(13, 19)])
     for line in re.findall(r"`(refused \d+ at \d+)`", text):
         want(f"{line} comes from an example", line in refused, True)
 
