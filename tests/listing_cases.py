@@ -17,7 +17,7 @@ E = aimed_cases.E_BYTES
 BARRIER, END = Command(sr.BARRIER, ()), Command(sr.END, ())
 WORD = sr.Range(generators.BASE, 0, 1, 4)
 LOCK_COUNT = 64
-MOST_RACES = 516096  # a team of 64 with 16 writes of one word in each member
+MOST_RACES = 64 * 63 // 2 * 16 * 16  # of a team of 64 with 16 writes of one word in each member
 
 
 # ---------------------------------------------------------- shaped bundles

@@ -190,14 +190,19 @@ TAKEN = (0, 1, 100, 65536, 1000000)  # bytes, before a reader closes
 
 
 def compare_outputs(program, tally):
-    """A reader that takes its time, and readers that close early."""
+    """A reader that takes its time, readers that close early, no output at all."""
     data = dict(listing_cases.limit_bundles())["all clash"]
-    tally.add(held("a slow reader", data, to_slow_reader(program, data)))
+    listing = held("a slow reader", data, to_slow_reader(program, data))
+    if not listing.endswith(b"\npairs %d\n" % listing_cases.MOST_RACES):
+        raise Different("all clash: the second reader misses races")
+    tally.add(listing)
     for taken in TAKEN:
         for ignored in (False, True):
             to_closing_reader(program, data, taken, ignored)
     with open("/dev/full", "wb") as full:
         hold_end("output to a full device", *ended(start(program, stdout=full), data))
+    run = subprocess.run(["sh", "-c", 'exec "$0" >&-', program], input=E, capture_output=True, timeout=LIMIT)
+    hold_end("output closed", run.returncode, run.stdout, run.stderr)
 
 
 def to_slow_reader(program, data):
