@@ -42,9 +42,10 @@ def all_clash(size, writes, team=1):
 
 def coprime_strides(rng, size, writes):
     """Ranges of about 1,000 elements, whose strides mostly have no common divisor."""
-    def far(_):
-        return sr.Range(2**20 + rng.randrange(100000), rng.randrange(501, 3000, 2), rng.randint(900, 1100), rng.choice((1, 2, 4, 8)))
-    return one_team(size, lambda member: [access(sr.WRITE, far(n), member) for n in range(writes)])
+    def far():
+        base, stride = 2**20 + rng.randrange(100000), rng.randrange(501, 3000, 2)
+        return sr.Range(base, stride, rng.randint(900, 1100), rng.choice((1, 2, 4, 8)))
+    return one_team(size, lambda member: [access(sr.WRITE, far(), member) for _ in range(writes)])
 
 
 def many_locks(rng, size, writes):

@@ -75,8 +75,18 @@ def difference(status, given, said, wanted):
     return f"  line {number + 1}\n  the program: {shown[0][:200]!r}\n  the second reader: {shown[1][:200]!r}"
 
 
-def start(program, stdin=subprocess.PIPE, stdout=subprocess.PIPE, **options):
-    return subprocess.Popen([program], stdin=stdin, stdout=stdout, stderr=subprocess.PIPE, **options)
+def start(*words, stdin=subprocess.PIPE, stdout=subprocess.PIPE, **options):
+    return subprocess.Popen(words, stdin=stdin, stdout=stdout, stderr=subprocess.PIPE, **options)
+
+
+def feed(process, data):
+    """Writes a bundle that fits into the pipe, and closes it. A program that has ended is told by its status."""
+    try:
+        with process.stdin as pipe:
+            pipe.write(data)
+    except BrokenPipeError:
+        pass
+    process.stdin = None
 
 
 def ended(process, given=None):
@@ -178,10 +188,11 @@ def compare_inputs(program, tally):
 
 def unreadable_input(program):
     """A standard input that is closed, or a directory: the program ends, and says of no bundle that it is race-free."""
-    for title, words in (("closed", 'exec "$0" <&-'), ("a directory", 'exec "$0" < /')):
-        run = subprocess.run(["sh", "-c", words, program], capture_output=True, timeout=LIMIT)
-        if run.returncode < 0 or b"chunks" in run.stdout or b"race-free" in run.stdout:
-            raise Different(f"standard input {title}: status {run.returncode}, output {run.stdout[:200]!r}")
+    for title, command in (("closed", 'exec "$0" <&-'), ("a directory", 'exec "$0" < /')):
+        status, given, said = ended(start("sh", "-c", command, program))
+        hold_end(f"standard input {title}", status, given, said)
+        if b"chunks" in given or b"race-free" in given:
+            raise Different(f"standard input {title}: {given[:200]!r}")
 
 
 # --------------------------------------------------------- ways of output
@@ -201,21 +212,18 @@ def compare_outputs(program, tally):
             to_closing_reader(program, data, taken, ignored)
     with open("/dev/full", "wb") as full:
         hold_end("output to a full device", *ended(start(program, stdout=full), data))
-    run = subprocess.run(["sh", "-c", 'exec "$0" >&-', program], input=E, capture_output=True, timeout=LIMIT)
-    hold_end("output closed", run.returncode, run.stdout, run.stderr)
+    hold_end("output closed", *ended(start("sh", "-c", 'exec "$0" >&-', program), E))
 
 
 def to_slow_reader(program, data):
-    """The bundle fits into the pipe, so that it can be written at once."""
     process = start(program)
-    process.stdin.write(data)
-    process.stdin.close()
+    feed(process, data)
     parts, turn = [], 0
     while part := process.stdout.read1((1, 5000, 70000, 123)[turn % 4]):
         parts.append(part)
         time.sleep(0.001 if turn < 200 else 0)
         turn += 1
-    process.stdin = process.stdout = None
+    process.stdout = None
     status, _, said = ended(process)
     return status, b"".join(parts), said
 
@@ -225,15 +233,14 @@ def to_closing_reader(program, data, taken, ignored):
     process = start(program, restore_signals=not ignored)
     if not taken:
         process.stdout.close()
-    process.stdin.write(data)
-    process.stdin.close()
+    feed(process, data)
     title = f"a reader that closes after {taken} bytes{', SIGPIPE ignored' if ignored else ''}"
     if taken:
         given = process.stdout.read(taken)
         process.stdout.close()
         if given != listing_of(data)[:taken]:
             raise Different(f"{title}: the bytes up to there differ")
-    process.stdin = process.stdout = None
+    process.stdout = None
     hold_end(title, *ended(process))
 
 

@@ -4,7 +4,7 @@ and sets of bytes. Nothing of the second reader's bundles, graph and races is us
 
 from collections import namedtuple
 
-from second_reader import ACQUIRE, BARRIER, MEMBER, REGION, RELEASE
+from second_reader import ACQUIRE, BARRIER, REGION, RELEASE
 
 Access = namedtuple("Access", "name site writes atomic touched locks label")
 

@@ -72,9 +72,9 @@ fn named(cases: Vec<Case>, names: &[&str]) -> Vec<Case> {
     cases.into_iter().filter(|case| names.contains(&case.name)).collect()
 }
 
-/// A team of 4 that passes 5 barriers and works on an array: in each interval a member writes its own part and reads
-/// from the part of a neighbour, which is written in another interval; under a lock it adds to a sum; twice it does so
-/// without the lock. 100 accesses, a few races.
+/// A team of 4 that passes 5 barriers and works on two arrays in turn: in each interval a member writes its part of one,
+/// reads a neighbour's part of the other, and adds to a sum under a lock; in one interval two members do so without the
+/// lock. 100 accesses, 15 races.
 fn typical(random: &mut Random) -> Vec<u8> {
     let mut root = bundles::member(0, 0);
     root.extend(access(0x31, 1, 0x1000, 8, 64, 8));
