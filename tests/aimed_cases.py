@@ -1,15 +1,16 @@
 """Bundles aimed at each refusal of check, its sub-cases and precedences.
 
 Each case is a title, the refusal's number (None if accepted) and the bundle
-as text, with * at the place of the refusal. Number and place are taken from
-document 01 by hand.
+as text, with * at the place of the refusal; one that is accepted has its
+chunks, segments and accesses. All these numbers are taken from document 01
+by hand.
 """
 
 from collections import namedtuple
 
 from bundle_text import assemble
 
-Case = namedtuple("Case", "title number text")
+Case = namedtuple("Case", "title number text counts", defaults=[None])
 
 E = """
 member 0 0; region 1 2; end
@@ -40,33 +41,35 @@ member 3 0; region 4 1; end
 """
 
 ACCEPTED = [
-    Case("only a root", None, "member 0 0; end"),
-    Case("E", None, E),
-    Case("E with a late read", None, E_LATE_READ),
-    Case("exactly 65,536 bytes", None, FULL_BYTES + "; end"),
-    Case("exactly 512 segments", None, "member 0 0; times 511 barrier; end"),
-    Case("exactly 1,024 accesses", None, f"member 0 0; times 1024 {ACCESS}; end"),
+    Case("only a root", None, "member 0 0; end", (1, 1, 0)),
+    Case("E", None, E, (3, 6, 2)),
+    Case("E with a late read", None, E_LATE_READ, (3, 6, 2)),
+    Case("exactly 65,536 bytes", None, FULL_BYTES + "; end", (1, 4, 0)),
+    Case("exactly 512 segments", None, "member 0 0; times 511 barrier; end", (1, 512, 0)),
+    Case("exactly 1,024 accesses", None, f"member 0 0; times 1024 {ACCESS}; end", (1, 1, 1024)),
     Case("exactly 512 segments, then more commands", None,
-         f"member 0 0; times 511 barrier; {ACCESS}; acquire 1; release 1; end"),
+         f"member 0 0; times 511 barrier; {ACCESS}; acquire 1; release 1; end", (1, 512, 1)),
     Case("exactly 1,024 accesses, then more commands", None,
-         f"member 0 0; times 1024 {ACCESS}; barrier; acquire 1; release 1; region 1 1; end\nmember 1 0; end"),
+         f"member 0 0; times 1024 {ACCESS}; barrier; acquire 1; release 1; region 1 1; end\nmember 1 0; end", (2, 4, 1024)),
     Case("exactly 512 segments over a root and 63 members", None,
          "member 0 0; times 447 barrier; region 1 63; end\n"
-         + "\n".join(f"member 1 {m}; end" for m in range(63))),
-    Case("depth 4", None, CHAIN_4 + "member 4 0; end"),
+         + "\n".join(f"member 1 {m}; end" for m in range(63)), (64, 512, 0)),
+    Case("depth 4", None, CHAIN_4 + "member 4 0; end", (5, 9, 0)),
     Case("team of 64", None, "member 0 0; region 65535 64; end\n"
-         + "\n".join(f"member 65535 {m}; end" for m in reversed(range(64)))),
-    Case("chunks before their fork", None, "member 2 0; end; member 1 0; region 2 1; end; member 0 0; region 1 1; end"),
+         + "\n".join(f"member 65535 {m}; end" for m in reversed(range(64))), (65, 66, 0)),
+    Case("chunks before their fork", None,
+         "member 2 0; end; member 1 0; region 2 1; end; member 0 0; region 1 1; end", (3, 5, 0)),
     Case("locks held over a barrier and a region", None,
-         "member 0 0; acquire 0; acquire 63; region 1 1; barrier; release 0; release 63; end; member 1 0; acquire 63; release 63; end"),
-    Case("a lock taken again", None, "member 0 0; acquire 5; release 5; acquire 5; release 5; end"),
-    Case("root barriers", None, "member 0 0; barrier; barrier; end"),
-    Case("last byte 4,294,967,295", None, "member 0 0; write 1 4294967288 0 1 8; end"),
-    Case("last byte 4,294,967,295 with a stride", None, "member 0 0; write 1 4294967286 8 2 2; end"),
+         "member 0 0; acquire 0; acquire 63; region 1 1; barrier; release 0; release 63; end; member 1 0; acquire 63; release 63; end",
+         (2, 4, 0)),
+    Case("a lock taken again", None, "member 0 0; acquire 5; release 5; acquire 5; release 5; end", (1, 1, 0)),
+    Case("root barriers", None, "member 0 0; barrier; barrier; end", (1, 3, 0)),
+    Case("last byte 4,294,967,295", None, "member 0 0; write 1 4294967288 0 1 8; end", (1, 1, 1)),
+    Case("last byte 4,294,967,295 with a stride", None, "member 0 0; write 1 4294967286 8 2 2; end", (1, 1, 1)),
     Case("like barrier counts in each team alone", None, """
         member 0 0; barrier; region 1 2; region 2 2; end
         member 1 0; barrier; barrier; end; member 1 1; barrier; barrier; end
-        member 2 0; end; member 2 1; end"""),
+        member 2 0; end; member 2 1; end""", (5, 12, 0)),
 ]
 
 TOO_LONG = [

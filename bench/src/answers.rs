@@ -98,7 +98,11 @@ fn next(n: &[u32], bytes: &[u8]) -> String {
 }
 
 fn list(bytes: &[u8]) -> String {
-    let text = over(LEAST_WORDS as u32, |work, closure| judge::racelist(bytes, work, closure));
+    let text = over(LEAST_WORDS as u32, |work, closure| {
+        let mut text = Vec::new();
+        judge::racelist(bytes, work, closure, &mut text).expect("room for text");
+        text
+    });
     String::from_utf8(text).expect("text").replace('\n', ";")
 }
 

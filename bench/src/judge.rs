@@ -4,6 +4,7 @@
 
 use crate::ranges::{self, Range};
 use crate::reader::{self, Access, Chunk, Fork, Log, Refusal};
+use std::io::{self, Write};
 
 pub const LEAST_WORDS: usize = 16_384;
 
@@ -82,29 +83,30 @@ pub fn next_race(
 }
 
 /// The text of racelist.
-pub fn racelist(bytes: &[u8], work: &mut [u32], closure: Closure) -> Vec<u8> {
+pub fn racelist(bytes: &[u8], work: &mut [u32], closure: Closure, out: &mut impl Write) -> io::Result<()> {
     let listed = over(bytes, work, closure, |bundle, rows, table| {
         let keys = sorted_keys(bundle, rows, table);
         let counts = (bundle.chunks.len(), rows.len(), table.len());
-        let mut text = format!("chunks {} segments {} accesses {}\n", counts.0, counts.1, counts.2).into_bytes();
+        writeln!(out, "chunks {} segments {} accesses {}", counts.0, counts.1, counts.2)?;
         // Name and site are written once for each access.
         let names: Vec<String> = table.iter().map(name_text).collect();
-        text.reserve(keys.len() * 48);
         for &key in &keys {
             let (witness, first, second) = parts(key);
-            text.extend_from_slice(b"race ");
-            text.extend_from_slice(&hexadecimal(witness));
-            text.extend_from_slice(names[first].as_bytes());
-            text.extend_from_slice(names[second].as_bytes());
-            text.push(b'\n');
+            out.write_all(b"race ")?;
+            out.write_all(&hexadecimal(witness))?;
+            out.write_all(names[first].as_bytes())?;
+            out.write_all(names[second].as_bytes())?;
+            out.write_all(b"\n")?;
         }
         match keys.len() {
-            0 => text.extend_from_slice(b"race-free\n"),
-            races => text.extend_from_slice(format!("pairs {races}\n").as_bytes()),
+            0 => out.write_all(b"race-free\n"),
+            races => writeln!(out, "pairs {races}"),
         }
-        text
     });
-    listed.unwrap_or_else(|refusal| format!("refused {} at {}\n", refusal.number, refusal.place).into_bytes())
+    match listed {
+        Ok(written) => written,
+        Err(refusal) => writeln!(out, "refused {} at {}", refusal.number, refusal.place),
+    }
 }
 
 fn name_text(row: &TableRow) -> String {

@@ -187,8 +187,12 @@ fn time_next(case: &Case, random: &mut Random) -> bool {
 
 fn time_listing(case: &Case) {
     let mut work = vec![0; LEAST_WORDS];
-    let text = judge::racelist(&case.bytes, &mut work, Closure::Teams);
-    let mut list = || _ = black_box(judge::racelist(black_box(&case.bytes), &mut work, Closure::Teams));
+    let mut text = Vec::new();
+    let mut list = || {
+        text.clear();
+        judge::racelist(black_box(&case.bytes), &mut work, Closure::Teams, &mut text).expect("room for text");
+        black_box(&text);
+    };
     let [best] = quickest(10, [&mut list]);
     let lines = text.iter().filter(|&&byte| byte == b'\n').count();
     println!("{:<24}{:>10}{:>10}{:>9.3}", case.name, lines - 2, text.len(), best * 1e3);

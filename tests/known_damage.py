@@ -1,0 +1,234 @@
+"""Good bundles with one fault whose refusal is known from how it was made.
+
+Each maker takes a random.Random and the chunks of a good bundle, lists of Commands in the order of the bytes, and gives the
+bytes, the number and the place, or None where the bundle has no room for the fault. Places are counted from the lengths of the
+commands; nothing of the second reader's check is used. Lock 62 and the teams from 65,000 on must be free (has_room).
+"""
+
+import second_reader as sr
+from second_reader import Command
+
+LENGTHS = {0x01: 4, 0x02: 1, 0x10: 4, 0x11: 1, 0x20: 2, 0x21: 2, 0x30: 12, 0x31: 12, 0x32: 12, 0x33: 12}
+END, BARRIER = Command(sr.END, ()), Command(sr.BARRIER, ())
+FREE_LOCK = 62
+FREE_TEAM = 65000
+
+
+def has_room(chunks):
+    return all(chunk[0].operands[0] < FREE_TEAM for chunk in chunks)
+
+
+def length(commands):
+    return sum(LENGTHS[command.code] for command in commands)
+
+
+def offset(chunks, index, at=0):
+    """Of command `at` of the chunk `index`."""
+    return sum(length(chunk) for chunk in chunks[:index]) + length(chunks[index][:at])
+
+
+def written(chunks):
+    return b"".join(sr.command_bytes(command) for chunk in chunks for command in chunk)
+
+
+def changed(chunks, index, chunk):
+    return [*chunks[:index], chunk, *chunks[index + 1 :]]
+
+
+def any_place(rng, chunks):
+    """A chunk and a place in it, behind MEMBER and not behind END."""
+    index = rng.randrange(len(chunks))
+    return index, rng.randrange(1, len(chunks[index]))
+
+
+def with_command(chunks, index, at, command):
+    """The command put before the one that stands there; with its offset."""
+    chunk = chunks[index]
+    return changed(chunks, index, [*chunk[:at], command, *chunk[at:]]), offset(chunks, index, at)
+
+
+def locks_held(chunk, at):
+    held = set()
+    for code, operands in chunk[:at]:
+        if code == sr.ACQUIRE:
+            held.add(operands[0])
+        elif code == sr.RELEASE:
+            held.remove(operands[0])
+    return held
+
+
+# ------------------------------------------------------------------ 2 to 6
+
+
+def unknown_byte(rng, chunks):
+    index, at = any_place(rng, chunks)
+    place = offset(chunks, index, at)
+    data = written(chunks)
+    return data[:place] + bytes([rng.choice((0x00, 0x03, 0x0F, 0x12, 0x22, 0x2F, 0x34, 0xFF))]) + data[place:], 2, place
+
+
+def cut_in_command(rng, chunks):
+    places = [(index, at) for index, chunk in enumerate(chunks) for at, c in enumerate(chunk) if LENGTHS[c.code] > 1]
+    index, at = rng.choice(places)
+    place = offset(chunks, index, at)
+    return written(chunks)[: place + rng.randrange(1, LENGTHS[chunks[index][at].code])], 3, place
+
+
+def cut_between_commands(rng, chunks):
+    index, at = any_place(rng, chunks)
+    place = offset(chunks, index, at)
+    return written(chunks)[:place], 4, place
+
+
+def member_inside(rng, chunks):
+    index, at = any_place(rng, chunks)
+    result, place = with_command(chunks, index, at, Command(sr.MEMBER, (rng.randrange(3), rng.choice((0, 1, 64)))))
+    return written(result), 4, place
+
+
+def between_chunks(rng, chunks):
+    index = rng.randrange(len(chunks) + 1)
+    command = rng.choice((END, BARRIER, Command(sr.REGION, (0, 0)), Command(sr.RELEASE, (64,)), Command(sr.READ, (0, 0, 0, 0, 3))))
+    return written([*chunks[:index], [command], *chunks[index:]]), 4, sum(length(chunk) for chunk in chunks[:index])
+
+
+def out_of_range(rng, chunks):
+    index, at = any_place(rng, chunks)
+    own = chunks[index][0].operands[0]
+    command = rng.choice((
+        Command(sr.REGION, (0, 1)), Command(sr.REGION, (own, 1)), Command(sr.REGION, (FREE_TEAM, 0)),
+        Command(sr.REGION, (FREE_TEAM, 65)), Command(sr.ACQUIRE, (64,)), Command(sr.RELEASE, (255,)),
+        Command(sr.READ, (1, 0, 0, 0, 1)), Command(sr.WRITE, (1, 0, 0, 2, 1)), Command(sr.ATOMIC_READ, (1, 0, 1, 1, 1)),
+        Command(sr.ATOMIC_WRITE, (1, 0, 0, 1, 3)), Command(sr.WRITE, (1, 4294967295, 0, 1, 2)),
+    ))
+    result, place = with_command(chunks, index, at, command)
+    return written(result), 5, place
+
+
+def member_too_high(rng, chunks):
+    index = rng.randrange(len(chunks))
+    chunk = [Command(sr.MEMBER, (chunks[index][0].operands[0], rng.choice((64, 255)))), *chunks[index][1:]]
+    return written(changed(chunks, index, chunk)), 5, offset(chunks, index)
+
+
+def acquired_twice(rng, chunks):
+    index, at = any_place(rng, chunks)
+    held = locks_held(chunks[index], at)
+    if not held:
+        return None
+    result, place = with_command(chunks, index, at, Command(sr.ACQUIRE, (rng.choice(sorted(held)),)))
+    return written(result), 6, place
+
+
+def released_unheld(rng, chunks):
+    index, at = any_place(rng, chunks)
+    result, place = with_command(chunks, index, at, Command(sr.RELEASE, (FREE_LOCK,)))
+    return written(result), 6, place
+
+
+def held_at_end(rng, chunks):
+    index, at = any_place(rng, chunks)
+    result, _ = with_command(chunks, index, at, Command(sr.ACQUIRE, (FREE_LOCK,)))
+    return written(result), 6, offset(result, index, len(result[index]) - 1)
+
+
+# ----------------------------------------------------------------- 8 to 12
+
+
+def regions_of(chunks):
+    """(chunk index, place in it, team, size) of each REGION."""
+    return [(i, at, *c.operands) for i, chunk in enumerate(chunks) for at, c in enumerate(chunk) if c.code == sr.REGION]
+
+
+def forked_twice(rng, chunks):
+    """The later REGION is the one with the higher offset."""
+    regions = regions_of(chunks)
+    if not regions:
+        return None
+    team = rng.choice(regions)[2]
+    index, at = any_place(rng, chunks)
+    if chunks[index][0].operands[0] >= team:
+        return None
+    result, _ = with_command(chunks, index, at, Command(sr.REGION, (team, 1)))
+    return written(result), 8, max(offset(result, i, k) for i, k, other, _ in regions_of(result) if other == team)
+
+
+def never_forked(rng, chunks):
+    index = rng.randrange(len(chunks) + 1)
+    stray = [Command(sr.MEMBER, (FREE_TEAM, 0)), END]
+    return written([*chunks[:index], stray, *chunks[index:]]), 9, sum(length(chunk) for chunk in chunks[:index])
+
+
+def beyond_size(rng, chunks):
+    sizes = {0: 1} | {team: size for _, _, team, size in regions_of(chunks)}
+    team, size = rng.choice(sorted(sizes.items()))
+    if size > 63:
+        return None
+    index = rng.randrange(len(chunks) + 1)
+    stray = [Command(sr.MEMBER, (team, rng.choice((size, 63)))), END]
+    return written([*chunks[:index], stray, *chunks[index:]]), 9, sum(length(chunk) for chunk in chunks[:index])
+
+
+def second_chunk(rng, chunks):
+    """A second chunk of a member, without REGIONs, so that no team is forked twice; the later one is told."""
+    index, before = rng.randrange(len(chunks)), rng.randrange(len(chunks) + 1)
+    head = chunks[index][0]
+    result = [*chunks[:before], [head, END], *chunks[before:]]
+    return written(result), 9, max(offset(result, i) for i, chunk in enumerate(result) if chunk[0] == head)
+
+
+def lacking_chunk(rng, chunks):
+    """A chunk without REGIONs is left out, so that no team goes unforked."""
+    plain = [i for i, c in enumerate(chunks) if c[0].operands[0] and all(command.code != sr.REGION for command in c)]
+    if not plain:
+        return None
+    index = rng.choice(plain)
+    team = chunks[index][0].operands[0]
+    result = [chunk for chunk in chunks if chunk is not chunks[index]]
+    [place] = [offset(result, i, at) for i, at, other, _ in regions_of(result) if other == team]
+    return written(result), 10, place
+
+
+def unforked_by_lacking_chunk(rng, chunks):
+    """A chunk with REGIONs is left out: 9 at the first chunk of a team that it forks, and not 10."""
+    index, *_ = rng.choice(regions_of(chunks) or [(None,)])
+    if index is None:
+        return None
+    teams = {command.operands[0] for command in chunks[index] if command.code == sr.REGION}
+    result = [chunk for chunk in chunks if chunk is not chunks[index]]
+    return written(result), 9, min(offset(result, i) for i, c in enumerate(result) if c[0].operands[0] in teams)
+
+
+def too_deep(rng, chunks):
+    """Teams of one, each forked by the one before, from a chunk on down to depth 5."""
+    outer = {team: chunks[i][0].operands[0] for i, _, team, _ in regions_of(chunks)}
+    index, at = any_place(rng, chunks)
+    team, depth = chunks[index][0].operands[0], 0
+    while team:
+        team, depth = outer[team], depth + 1
+    fork = Command(sr.REGION, (FREE_TEAM + depth + 1, 1))
+    result, _ = with_command(chunks, index, at, fork)
+    for level in range(depth + 1, 5):
+        result.append([Command(sr.MEMBER, (FREE_TEAM + level, 0)), Command(sr.REGION, (FREE_TEAM + level + 1, 1)), END])
+    result.append([Command(sr.MEMBER, (FREE_TEAM + 5, 0)), END])
+    rng.shuffle(result)
+    [place] = [offset(result, i, k) for i, k, inner, _ in regions_of(result) if inner == FREE_TEAM + 5]
+    return written(result), 11, place
+
+
+def unlike_barriers(rng, chunks):
+    """A barrier more: told at that member, or where it is member 0, at the first of the others."""
+    index, at = any_place(rng, chunks)
+    team, member = chunks[index][0].operands
+    others = [i for i, chunk in enumerate(chunks) if chunk[0].operands[0] == team and i != index]
+    if not others:
+        return None
+    result, _ = with_command(chunks, index, at, BARRIER)
+    return written(result), 12, offset(result, index if member else min(others))
+
+
+MAKERS = (
+    unknown_byte, cut_in_command, cut_between_commands, member_inside, between_chunks, out_of_range, member_too_high,
+    acquired_twice, released_unheld, held_at_end, forked_twice, never_forked, beyond_size, second_chunk, lacking_chunk,
+    unforked_by_lacking_chunk, too_deep, unlike_barriers,
+)

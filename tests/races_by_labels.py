@@ -1,0 +1,68 @@
+"""The races of a good bundle by another way than the second reader's: from the commands that a generator made, by labels
+and sets of bytes. Nothing of the second reader's bundles, graph and races is used; ranges must be short.
+"""
+
+from collections import namedtuple
+
+from second_reader import ACQUIRE, BARRIER, REGION, RELEASE
+
+Access = namedtuple("Access", "name site writes atomic touched locks label")
+
+READ, WRITE, ATOMIC_READ, ATOMIC_WRITE = 0x30, 0x31, 0x32, 0x33
+
+
+def races(chunks):
+    """All races as (witness, first name, second name, first site, second site), in order."""
+    accesses = all_accesses(chunks)
+    found = []
+    for first in accesses:
+        for second in accesses:
+            if first.name < second.name and race(first, second):
+                found.append((min(first.touched & second.touched), first.name, second.name, first.site, second.site))
+    return sorted(found)
+
+
+def race(first, second):
+    return bool(
+        first.touched & second.touched
+        and (first.writes or second.writes)
+        and not (first.atomic and second.atomic)
+        and not first.locks & second.locks
+        and concurrent(first.label, second.label)
+    )
+
+
+def concurrent(label, other):
+    """By the first triples that differ; there are none where one label is a prefix of the other."""
+    for (offset, span, interval), (other_offset, _, other_interval) in zip(label, other):
+        if (offset, interval) != (other_offset, other_interval):
+            return interval == other_interval and offset % span != other_offset % span
+    return False
+
+
+def all_accesses(chunks):
+    """Outer teams first, so that the label of a forking segment is there before its team's labels."""
+    forks, found = {0: ((), 1)}, []  # of a team: the label of its forking segment, and its size
+    for chunk in sorted(chunks, key=lambda chunk: chunk[0].operands[0]):
+        team, member = chunk[0].operands
+        before, span = forks[team]
+        barriers = regions = number = 0
+        locks = frozenset()
+        for code, operands in chunk[1:]:
+            label = (*before, (member + span * regions, span, barriers))
+            if code == BARRIER:
+                barriers += 1
+            elif code == REGION:
+                forks[operands[0]] = label, operands[1]
+                regions += 1
+            elif code == ACQUIRE:
+                locks |= {operands[0]}
+            elif code == RELEASE:
+                locks -= {operands[0]}
+            elif code in (READ, WRITE, ATOMIC_READ, ATOMIC_WRITE):
+                site, base, stride, count, size = operands
+                touched = frozenset(base + k * stride + j for k in range(count) for j in range(size))
+                kind = code in (WRITE, ATOMIC_WRITE), code in (ATOMIC_READ, ATOMIC_WRITE)
+                found.append(Access((team, member, number), site, *kind, touched, locks, label))
+                number += 1
+    return found
