@@ -32,3 +32,9 @@ pub mod Tallies
 pub mod PairCases
 pub mod PairBlocks
 pub mod JudgeCases
+pub mod LabelOrder
+pub mod ForkJoin
+pub mod SegmentChains
+pub mod BundleForkJoin
+pub mod LabelPaths
+pub mod LabelsAgree

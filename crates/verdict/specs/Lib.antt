@@ -11,3 +11,4 @@ pub mod Filling
 pub mod Tallying
 pub mod Census
 pub mod Promise
+pub mod Agreement
