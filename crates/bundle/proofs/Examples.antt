@@ -2,7 +2,7 @@
 use Prim.Native.Nat.{ℕ}
 use mathlib.Core.Path.{_≡_, refl}
 use mathlib.Core.List.{List, [], _∷_, _++_, map}
-use Rattle.bundle.specs.Answer.{Answer, gives, refuses}
+use Rattle.bundle.specs.Answer.{gives, refuses}
 use Rattle.bundle.specs.Check.{checkOf}
 use Rattle.bundle.proofs.Computing.{bundle-computes}
 
