@@ -20,7 +20,8 @@ use Rattle.bundle.specs.declared.refusal.Cause.{Cause}
 use Rattle.bundle.proofs.Tables.{table-length}
 use Rattle.bundle.proofs.Reorder.{distinct-members}
 use Rattle.verdict.specs.Graph.{segmentsOf}
-use Rattle.verdict.specs.Races.{NamedAccess, lexLess, keyOf, raceKey, accessesOf, racesOf}
+use Rattle.verdict.specs.Accesses.{NamedAccess, lexLess, keyOf, raceKey, accessesOf}
+use Rattle.verdict.specs.RaceLists.{racesOf}
 use Rattle.verdict.specs.Working.{nodeCode, accessRowAt}
 use Rattle.verdict.specs.Tallying.{aboveKey, tallyAll, RowFits, TablesFit}
 use Rattle.verdict.specs.Judge.{verdictOf, judgementOf, raceAbove, overWork, judgedOf, judgeOf, nextAbove, nextOf, judgingOf, nextRaceOf}
