@@ -8,7 +8,7 @@ pub use Rattle.bundle.specs.Walk.{Node, Border, ofChunk, ofBarrier, ofRegion, S
 -- for the layers above
 unfoldable pub use Rattle.verdict.specs.GraphTests.{closureOf}
 
--- the edges, one case for each sentence of document 01
+-- the edges, one case for each of the four in docs/FORMAT.md
 pub data Joined (a b : Segment) : Type 0 where
   -- "each segment to the next of its chunk"
   next :
