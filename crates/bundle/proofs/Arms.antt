@@ -11,7 +11,6 @@ use lib.ListN.{length, getD}
 use Rattle.bundle.specs.Answer.{Answer, gives, refuses, whenGiven}
 use Rattle.bundle.specs.Commands.{Taken, kindOf, accessWidths, accessOf, formOf, sum, widthOf, operandsFrom, commandAt, inRange, decodeByte, decodeAt, ranged, readAt, readingOf}
 use Rattle.bundle.specs.Inner.{StandsAt, AccessAt}
-use Rattle.bundle.specs.declared.refusal.Cause.{Cause}
 use Rattle.bundle.specs.declared.command.Command.{Command}
 use Rattle.bundle.specs.declared.command.Reading.{Reading}
 use Rattle.bundle.specs.declared.command.Reading.the-variants as Read

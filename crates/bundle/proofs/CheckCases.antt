@@ -3,11 +3,10 @@ use Prim.Native.Nat.{ℕ, _+_, _-_, _≤_, _<_}
 use mathlib.Core.Path.{_≡_, refl, sym, _∙_, ap, ap₂, subst}
 use mathlib.Core.Logic.{⊎-elim}
 use mathlib.Core.Bool.{Bool, true, false, cond}
-use mathlib.Core.List.{List, [], _∷_, _++_, map, List·Memᴰ, List·Memᴰ·not-nil, List·Memᴰ·cases-cons}
+use mathlib.Core.List.{List, [], _∷_, map, List·Memᴰ, List·Memᴰ·not-nil, List·Memᴰ·cases-cons}
 use mathlib.Core.Option.{Option, none, some}
 use native.Mathlib.Omega.{arith}
 use native.Mathlib.Nat.{add-assoc}
-use lib.Dec.{ltb}
 use lib.ListN.{length, take, drop, length-append}
 use borrow.Author.Tests.{lt-ltb, le-ltb}
 use Rattle.bundle.specs.Answer.{Answer, gives, refuses, whenGiven, numberOf}
@@ -20,7 +19,7 @@ use Rattle.bundle.specs.Scan.{start, scanOf}
 use Rattle.bundle.specs.Index.{chunkRowAt, forkRowAt, table, isRow, total, logOf, chunkRow, rowsFrom, chunkRows, indexOf, Indexed}
 use Rattle.bundle.specs.Shape.{shapeByRows}
 use Rattle.bundle.specs.Survey.{InTables, Surveyed}
-use Rattle.bundle.specs.Find.{Ends, endsOf, foundOf, endsByRows, indexedAs, IndexedAs, HandedBack, handedBack}
+use Rattle.bundle.specs.Find.{Ends, endsOf, endsByRows, indexedAs, IndexedAs, handedBack}
 use Rattle.bundle.specs.declared.refusal.Cause.{Cause}
 use Rattle.bundle.specs.declared.chunk.Scan.{Scan}
 use Rattle.bundle.specs.declared.index.ChunkRow.{ChunkRow}

@@ -1,8 +1,8 @@
--- Check by computation: the empty bundle (P3), and document 01's example E with its chunks in both orders of its members.
+-- Check by computation: the empty bundle (P3), and example E (examples/e.bundle) with its chunks in both orders of its members.
 use Prim.Native.Nat.{ℕ}
 use mathlib.Core.Path.{_≡_, refl}
 use mathlib.Core.List.{List, [], _∷_, _++_, map}
-use Rattle.bundle.specs.Answer.{Answer, gives, refuses}
+use Rattle.bundle.specs.Answer.{gives, refuses}
 use Rattle.bundle.specs.Check.{checkOf}
 use Rattle.bundle.proofs.Computing.{bundle-computes}
 

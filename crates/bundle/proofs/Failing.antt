@@ -1,14 +1,14 @@
 -- When no element fails a test: for a test of the element alone, and for a test against the elements before.
 use Prim.Native.Nat.{ℕ}
 use mathlib.Core.Path.{_≡_, refl, sym, _∙_, ap}
-use mathlib.Core.Logic.{_⊎_, inl, inr, ⊎-elim, _↔_}
+use mathlib.Core.Logic.{⊎-elim}
 use mathlib.Core.Bool.{Bool, true, false, cond, _||_}
 use mathlib.Core.List.{List, [], _∷_, map, List·Memᴰ, List·Memᴰ·head, List·Memᴰ·tail, List·Memᴰ·not-nil, List·Memᴰ·cases-cons, Memᴰ·map, Memᴰ·of-map, nil≢cons}
 use native.Mathlib.Omega.{arith}
-use Rattle.bundle.specs.Answer.{Answer, gives, refuses}
+use Rattle.bundle.specs.Answer.{Answer, gives}
 use Rattle.bundle.specs.Lists.{any}
 use Rattle.bundle.specs.Check.{failing, refusedAt}
-use Rattle.bundle.proofs.Tests.{not-both, is-false, or-one, or-other, or-cases, or-false}
+use Rattle.bundle.proofs.Tests.{not-both, is-false, or-false}
 use Rattle.bundle.proofs.ListLaws.{any-elim, any-intro, Distinct, distinct-nil, distinct-cons, distinct-head, distinct-tail}
 
 -- no element fails

@@ -1,30 +1,26 @@
 -- For callers: a chunk that an accepted bundle has is found as exactly its bytes, and reading at the place of each of its commands gives
 -- that command.
-use Prim.Native.Nat.{ℕ, zero, suc, _+_, _≤_, _<_}
+use Prim.Native.Nat.{ℕ, zero, suc}
 use mathlib.Core.Path.{_≡_, refl, sym, _∙_, ap, subst}
-use mathlib.Core.Logic.{_⊎_, inl, inr, ⊎-elim}
-use mathlib.Core.Bool.{Bool, true, false, cond, _&&_, _||_}
-use mathlib.Core.List.{List, [], _∷_, map, List·Memᴰ, List·Memᴰ·head, List·Memᴰ·tail, List·Memᴰ·not-nil, List·Memᴰ·cases-cons, Memᴰ·map}
-use mathlib.Core.Option.{Option, none, some}
-use native.Mathlib.Omega.{arith}
-use lib.Dec.{eqb, ltb, leb}
+use mathlib.Core.Logic.{⊎-elim}
+use mathlib.Core.Bool.{Bool, true, false, cond}
+use mathlib.Core.List.{List, [], map, List·Memᴰ, List·Memᴰ·head, List·Memᴰ·tail, List·Memᴰ·not-nil, List·Memᴰ·cases-cons, Memᴰ·map}
+use mathlib.Core.Option.{some}
+use lib.Dec.{leb}
 use lib.ListN.{length}
 use borrow.Author.Tests.{eq-eqb}
-use Rattle.bundle.specs.Answer.{Answer, gives, refuses, whenGiven}
-use Rattle.bundle.specs.Lists.{any, first, concatMap, fromOption}
-use Rattle.bundle.specs.Commands.{Bytes, Taken, inRange, decodeAt, readAt}
-use Rattle.bundle.specs.Chunks.{Placed, Front, Chunk, follow, frontFrom, frontOf, gather, chunksOf, partOf, isOf, chunkOf}
+use Rattle.bundle.specs.Answer.{Answer, gives, refuses}
+use Rattle.bundle.specs.Lists.{first}
+use Rattle.bundle.specs.Commands.{Taken, decodeAt, readAt}
+use Rattle.bundle.specs.Chunks.{Placed, Chunk, follow, frontFrom, frontOf, chunksOf, partOf, isOf, chunkOf}
 use Rattle.bundle.specs.Walk.{forksOf}
 use Rattle.bundle.specs.declared.index.Fork.{Fork}
-use Rattle.bundle.specs.Check.{sizeOf, failing, forkedBefore, stray, lacksChunk, unlikeFirst, depthOf, refusedAt, shapeOf, checkOf, findOf, Accepted}
-use Rattle.bundle.specs.Scan.{start, scanOf}
-use Rattle.bundle.specs.declared.chunk.Scan.{Scan}
-use Rattle.bundle.specs.declared.command.Command.{Command}
-use Rattle.bundle.proofs.Tests.{both, decide, not-both, is-false, or-one, or-other}
+use Rattle.bundle.specs.Check.{sizeOf, failing, forkedBefore, stray, shapeOf, findOf, Accepted}
+use Rattle.bundle.specs.Scan.{start}
+use Rattle.bundle.proofs.Tests.{both, not-both, is-false, or-other}
 use Rattle.bundle.proofs.ListLaws.{any-intro, concatMap-intro}
 use Rattle.bundle.proofs.Failing.{NoneFails, at-end, one-more, failing-none, refused-none}
 use Rattle.bundle.proofs.Decoding.{decode-reads}
-use Rattle.bundle.proofs.Scanning.{Passed}
 use Rattle.bundle.proofs.Gathering.{placedOf, all-in-chunks}
 use Rattle.bundle.proofs.Reorder.{checked, scan-passed, orderly-range}
 

@@ -1,14 +1,12 @@
 -- Elements known by a key: in a list where no key stands twice, looking one up does not depend on the order.
-use Prim.Native.Nat.{ℕ}
 use mathlib.Core.Path.{_≡_, refl, sym, _∙_, ap}
-use mathlib.Core.Logic.{_⊎_, inl, inr, ⊎-elim}
-use mathlib.Core.Bool.{Bool, true, false}
-use mathlib.Core.List.{List, [], _∷_, map, List·Memᴰ, List·Memᴰ·head, List·Memᴰ·tail, List·Memᴰ·not-nil, List·Memᴰ·cases-cons, Memᴰ·cast, Memᴰ·map, List·Permᴰ, List·Permᴰ·nil, List·Permᴰ·cons, List·Permᴰ·swap, List·Permᴰ·trans, Permᴰ·symm}
+use mathlib.Core.Logic.{⊎-elim}
+use mathlib.Core.Bool.{Bool, true}
+use mathlib.Core.List.{List, [], _∷_, map, List·Memᴰ, List·Memᴰ·head, List·Memᴰ·tail, List·Memᴰ·cases-cons, Memᴰ·cast, Memᴰ·map, List·Permᴰ, List·Permᴰ·nil, List·Permᴰ·cons, List·Permᴰ·swap, List·Permᴰ·trans, Permᴰ·symm}
 use mathlib.Core.Option.{Option, none, some}
-use native.Mathlib.Omega.{arith}
 use Rattle.bundle.specs.Lists.{any, all, first}
 use Rattle.bundle.proofs.Tests.{same-test}
-use Rattle.bundle.proofs.ListLaws.{any-elim, any-intro, all-agree, first-some, first-of, first-none, perm-mem, Distinct, distinct-nil, distinct-cons, distinct-head, distinct-tail}
+use Rattle.bundle.proofs.ListLaws.{any-elim, any-intro, all-agree, first-some, first-none, perm-mem, Distinct, distinct-cons, distinct-head, distinct-tail}
 
 module _ {A : Type 0} where
   pub perm-distinct : {xs ys : List A} → List·Permᴰ xs ys → Distinct xs → Distinct ys

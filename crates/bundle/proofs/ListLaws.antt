@@ -1,44 +1,15 @@
 -- Laws of the plain functions on lists: membership, permutations, distinct elements.
-use Prim.Native.Nat.{ℕ, zero, suc, _+_, _<_}
+use Prim.Native.Nat.{ℕ, zero, suc, _<_}
 use mathlib.Core.Path.{_≡_, refl, sym, _∙_, ap}
 use mathlib.Core.Logic.{_⊎_, inl, inr, ⊎-elim}
-use mathlib.Core.Bool.{Bool, true, false, cond, _&&_, _||_}
-use mathlib.Core.List.{
-  List,
-  [],
-  _∷_,
-  _++_,
-  map,
-  append-assoc,
-  List·Memᴰ,
-  List·Memᴰ·head,
-  List·Memᴰ·tail,
-  List·Memᴰ·not-nil,
-  List·Memᴰ·cases-cons,
-  Memᴰ·cast,
-  Memᴰ·map,
-  Memᴰ·of-map,
-  map-append,
-  Memᴰ·append-left,
-  Memᴰ·append-right,
-  List·Memᴰ·append-cases,
-  List·Memᴰ·eq-of-singleton,
-  List·Permᴰ,
-  List·Permᴰ·nil,
-  List·Permᴰ·cons,
-  List·Permᴰ·swap,
-  List·Permᴰ·trans,
-  Permᴰ·refl,
-  Permᴰ·append-left,
-  Permᴰ·append-right,
-  List·Permᴰ·append-comm,
-}
-use mathlib.Core.Option.{Option, none, some}
+use mathlib.Core.Bool.{Bool, true, false, cond}
+use mathlib.Core.List.{List, [], _∷_, _++_, map, append-assoc, List·Memᴰ, List·Memᴰ·head, List·Memᴰ·tail, List·Memᴰ·not-nil, List·Memᴰ·cases-cons, Memᴰ·cast, Memᴰ·map, Memᴰ·of-map, map-append, Memᴰ·append-left, Memᴰ·append-right, List·Memᴰ·append-cases, List·Memᴰ·eq-of-singleton, List·Permᴰ, List·Permᴰ·nil, List·Permᴰ·cons, List·Permᴰ·swap, List·Permᴰ·trans, Permᴰ·append-left, Permᴰ·append-right, List·Permᴰ·append-comm}
+use mathlib.Core.Option.{none, some}
 use native.Mathlib.Omega.{arith}
-use lib.ListN.{length, length-append}
+use lib.ListN.{length}
 use lib.Dec.{eqb}
 use borrow.Author.Tests.{eqb-true, eq-eqb}
-use Rattle.bundle.specs.Lists.{upTo, any, all, passing, first, backToBack, concatMap, fromOption, among}
+use Rattle.bundle.specs.Lists.{upTo, any, all, passing, first, concatMap, among}
 use Rattle.bundle.proofs.Tests.{false-is-true, both, and-left, and-right, or-cases, or-one, or-other, decide, not-both}
 
 module _ {A : Type 0} where

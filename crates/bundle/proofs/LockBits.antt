@@ -1,13 +1,12 @@
 -- Locks as bits of a word of 64: a lock acquired still fits, and one released was there.
-use Prim.Native.Nat.{ℕ, zero, suc, _+_, _-_, _*_, _/_, _%_, _^_, _≤_, _<_}
-use mathlib.Core.Path.{_≡_, refl, sym, _∙_, ap}
-use mathlib.Core.Bool.{Bool, true, false}
+use Prim.Native.Nat.{ℕ, _+_, _-_, _*_, _/_, _%_, _^_, _≤_, _<_}
+use mathlib.Core.Path.{_≡_, sym, _∙_, ap}
+use mathlib.Core.Bool.{true, false}
 use native.Mathlib.Omega.{arith}
 use native.Mathlib.Nat.{one-mul, add-mul, mul-le-mul-right, mod-lt, div-eq-of-lt, lt-of-lt-of-le}
-use lib.Dec.{eqb}
 use lib.Pow.{pow-pos, pow-mono, pow-add, shl-exact, shr-lt, split}
 use borrow.Author.Tests.{eqb-true, eqb-false}
-use Rattle.bundle.specs.Locks.{holds, acquired, released}
+use Rattle.bundle.specs.Locks.{holds}
 
 -- the code's `1 << lock`
 pub one-shifted : (l : ℕ) → l < 64 → 1 * 2 ^ l % 18446744073709551616 ≡ 2 ^ l

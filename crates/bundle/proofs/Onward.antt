@@ -15,7 +15,7 @@ use Rattle.bundle.specs.Commands.{Taken, inRange, decodeAt, readAt}
 use Rattle.bundle.specs.Cases.{onRegion}
 use Rattle.bundle.specs.Chunks.{Placed, Front, Chunk, fresh, afterCommand, follow, frontFrom, frontOf, chunksOf, commandsOf}
 use Rattle.bundle.specs.Walk.{opensSegment, addsAccess, Entry, entriesFrom, entriesOf, forkAt, forksIn, forksOf}
-use Rattle.bundle.specs.Scan.{aboveOwnTeam, start, scanned, scanOf}
+use Rattle.bundle.specs.Scan.{aboveOwnTeam, start, scanned}
 use Rattle.bundle.specs.Check.{Accepted}
 use Rattle.bundle.specs.declared.index.Fork.{Fork}
 use Rattle.bundle.specs.declared.chunk.ChunkState.{ChunkState}
@@ -27,7 +27,7 @@ use Rattle.bundle.proofs.Delimiters.{on-plain, on-other, Forking, forks
 use Rattle.bundle.proofs.ListLaws.{all-elim, concatMap-elim}
 use Rattle.bundle.proofs.Decoding.{decode-reads, read-next}
 use Rattle.bundle.proofs.Printing.{front-stops, front-goes}
-use Rattle.bundle.proofs.Scanning.{total, uncounted, orderly, orderly-head, orderly-tail, Room, Passed, walk-elim}
+use Rattle.bundle.proofs.Scanning.{uncounted, orderly, orderly-head, orderly-tail, Passed}
 use Rattle.bundle.proofs.Gathering.{plain, Body, ends, goes, Formed, placedOf, logOf, all-in-chunks}
 use Rattle.bundle.proofs.ScanChunks.{scan-chunks, commands-of-chunks}
 use Rattle.bundle.proofs.Shaped.{Shaped, shaped-elim}

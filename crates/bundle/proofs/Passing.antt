@@ -1,60 +1,35 @@
 -- The pass over a bundle: each command adds its rows, and at the end the tables hold the rows of all chunks and REGIONs.
-use Prim.Native.Nat.{ℕ, zero, suc, _+_, _-_, _*_, _≤_, _<_}
+use Prim.Native.Nat.{ℕ, zero, suc, _+_, _-_, _≤_, _<_}
 use mathlib.Core.Path.{_≡_, refl, sym, _∙_, ap, ap₂, subst}
 use mathlib.Core.Bool.{Bool, true, false, cond, not}
 use mathlib.Core.List.{List, [], _∷_, _++_, map, append-assoc, append-nil}
 use native.Mathlib.Omega.{arith}
 use native.Mathlib.Nat.{add-zero, add-assoc}
-use lib.Dec.{eqb, ltb, leb}
+use lib.Dec.{eqb, ltb}
 use lib.ListN.{length}
 use borrow.Author.Tests.{eqb-true, le-leb, lt-leb, ltb-false}
-use Rattle.bundle.specs.Answer.{Answer, gives, refuses, whenGiven, numberOf}
+use Rattle.bundle.specs.Answer.{Answer, gives, refuses, whenGiven}
 use Rattle.bundle.specs.Lists.{concatMap}
-use Rattle.bundle.specs.Cases.{onDelimiter, onRegion}
-use Rattle.bundle.specs.Commands.{Taken, bytesOf, decodeAt}
-use Rattle.bundle.specs.Chunks.{Placed, Front, Chunk, Gathered, fresh, afterBarrier, afterJoin, afterAcquire, afterRelease, afterCommand, afterCommands, follow, frontFrom, frontOf, gatherOne, gather, chunksOf, commandsOf}
-use Rattle.bundle.specs.Walk.{opensSegment, addsAccess, Entry, entriesFrom, entriesOf, barriersOf, forkAt, forksIn, forksOf}
+use Rattle.bundle.specs.Cases.{onRegion}
+use Rattle.bundle.specs.Commands.{Taken, decodeAt}
+use Rattle.bundle.specs.Chunks.{Placed, Front, fresh, afterCommand, afterCommands, follow, frontFrom, frontOf, gatherOne, gather, chunksOf, commandsOf}
+use Rattle.bundle.specs.Walk.{opensSegment, addsAccess, entriesFrom, entriesOf, barriersOf, forkAt, forksIn, forksOf}
 use Rattle.bundle.specs.Scan.{isMember, misplaced, tooMany, faultOf, start, scanned, finish, walk, scanOf}
 use Rattle.bundle.specs.Index.{chunkRowAt, forkRowAt, tableFrom, table, Added, total, logOf, chunkRow, rowsFrom, chunkRows}
-use Rattle.bundle.specs.Survey.{
-  Bounded,
-  Stepped,
-  testedAt,
-  stepAt,
-  beginning,
-  openedAt,
-  closedRow,
-  forkHere,
-  passAfter,
-  newChunks,
-  newForks,
-  Near,
-  Notable,
-  Noted,
-  openRow,
-  rowsBehind,
-  chunksToCome,
-  forksToCome,
-  Surveying,
-  finished,
-  InTables,
-  Surveyed,
-}
-use Rattle.bundle.specs.declared.refusal.Cause.{Cause}
+use Rattle.bundle.specs.Survey.{Bounded, Stepped, testedAt, stepAt, beginning, openedAt, closedRow, forkHere, passAfter, newChunks, newForks, Notable, Noted, openRow, rowsBehind, chunksToCome, forksToCome, Surveying, finished, Surveyed}
 use Rattle.bundle.specs.declared.chunk.ChunkState.{ChunkState}
 use Rattle.bundle.specs.declared.chunk.Scan.{Scan}
 use Rattle.bundle.specs.declared.command.Command.{Command}
 use Rattle.bundle.specs.declared.command.Command.the-variants as Com
 use Rattle.bundle.specs.declared.index.ChunkRow.{ChunkRow}
 use Rattle.bundle.specs.declared.index.Fork.{Fork}
-use Rattle.bundle.specs.declared.survey.Open.{Open}
 use Rattle.bundle.specs.declared.survey.Pass.{Pass}
 use Rattle.bundle.specs.declared.survey.Survey.{Survey}
 use Rattle.bundle.specs.declared.survey.Survey.the-variants as Surveys
 use Rattle.bundle.specs.declared.refusal.Cause.the-variants as Causes
-use Rattle.bundle.proofs.Tests.{cond-elim, false-is-true, or-false, false-of-not}
-use Rattle.bundle.proofs.Delimiters.{plain, closes, closes-forks-none, closes-keeps, closes-width, state-counts, Delimiter, opens-chunk, closes-chunk, neither, delimits, on-plain, on-closes, forking, Forking, forks-team, forks-none, forkings, on-other}
-use Rattle.bundle.proofs.Tables.{table-none, table-added}
+use Rattle.bundle.proofs.Tests.{cond-elim, or-false, false-of-not}
+use Rattle.bundle.proofs.Delimiters.{plain, closes, closes-forks-none, closes-keeps, closes-width, state-counts, Delimiter, opens-chunk, closes-chunk, neither, delimits, on-plain, on-closes, Forking, forks-team, forks-none, forkings, on-other}
+use Rattle.bundle.proofs.Tables.{table-added}
 use Rattle.bundle.proofs.Gathering.{gather-plain, gather-closes}
 use Rattle.bundle.proofs.Decoding.{decode-next}
 use Rattle.bundle.proofs.Scanning.{no-fault, passes, tested}

@@ -1,9 +1,9 @@
 -- An accepted bundle is its chunks' bytes back to back, and every order of its chunks is accepted.
-use Prim.Native.Nat.{ℕ, _+_, _≤_}
+use Prim.Native.Nat.{ℕ}
 use mathlib.Core.Path.{_≡_, refl, sym, _∙_, ap, subst}
-use mathlib.Core.Logic.{_⊎_, inl, inr, ⊎-elim}
-use mathlib.Core.Bool.{Bool, true, false, cond, _&&_}
-use mathlib.Core.List.{List, [], _∷_, _++_, map, List·Memᴰ, List·Memᴰ·head, List·Memᴰ·tail, List·Memᴰ·not-nil, List·Memᴰ·cases-cons, List·Permᴰ, Permᴰ·symm, head-eq-of-cons-eq, tail-eq-of-cons-eq}
+use mathlib.Core.Logic.{⊎-elim}
+use mathlib.Core.Bool.{Bool, true, false, cond}
+use mathlib.Core.List.{List, [], _∷_, map, List·Memᴰ, List·Memᴰ·head, List·Memᴰ·tail, List·Memᴰ·not-nil, List·Memᴰ·cases-cons, List·Permᴰ, Permᴰ·symm, head-eq-of-cons-eq, tail-eq-of-cons-eq}
 use native.Mathlib.Omega.{arith}
 use lib.ListN.{length}
 use lib.Dec.{ltb}
@@ -17,7 +17,7 @@ use Rattle.bundle.specs.declared.chunk.Scan.{Scan}
 use Rattle.bundle.specs.declared.command.Command.{Command}
 use Rattle.bundle.proofs.ListLaws.{all-elim, all-intro, perm-mem, perm-map, perm-length, perm-concatMap, concatMap-append, Distinct}
 use Rattle.bundle.proofs.Places.{unplaced, memberKey}
-use Rattle.bundle.proofs.Scanning.{total, perm-total, uncounted, orderly, orderly-head, orderly-tail, Room, Passed, walk-elim, walk-intro}
+use Rattle.bundle.proofs.Scanning.{total, perm-total, orderly, orderly-head, orderly-tail, Room, Passed, walk-elim, walk-intro}
 use Rattle.bundle.proofs.Gathering.{Formed, placedOf, logOf, all-in-chunks}
 use Rattle.bundle.proofs.ScanChunks.{scan-chunks, commands-of-chunks}
 use Rattle.bundle.proofs.Printing.{printed, placedFrom, commands-placed, prints-front, front-of-printed}

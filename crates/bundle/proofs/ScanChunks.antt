@@ -1,6 +1,6 @@
 -- The scan chunk by chunk: chunks one after another pass where each passes by itself.
 use mathlib.Core.Path.{_≡_, refl, sym, _∙_, ap}
-use mathlib.Core.Bool.{Bool, true, false, not, _&&_, and-assoc, and-true}
+use mathlib.Core.Bool.{Bool, true, false, _&&_, and-assoc, and-true}
 use mathlib.Core.List.{List, [], _∷_, _++_, map, map-append, List·Memᴰ, List·Memᴰ·head, List·Memᴰ·tail}
 use Rattle.bundle.specs.Lists.{all, concatMap}
 use Rattle.bundle.specs.Chunks.{Placed, Chunk, fresh, afterCommand, commandsOf}

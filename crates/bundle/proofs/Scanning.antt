@@ -1,22 +1,21 @@
 -- The scan taken apart: a list of commands passes it exactly where each command passes the tests 4, 5 and 6 and the totals of segments and
 -- accesses stay within 7's limits.
-use Prim.Native.Nat.{ℕ, zero, suc, _+_, _≤_, _<_}
+use Prim.Native.Nat.{ℕ, _+_, _≤_}
 use mathlib.Core.Path.{_≡_, refl, sym, _∙_, ap}
-use mathlib.Core.Logic.{_⊎_, inl, inr, ⊎-elim}
-use mathlib.Core.Bool.{Bool, true, false, cond, not, _&&_, _||_}
+use mathlib.Core.Bool.{Bool, true, false, cond, not, _&&_}
 use mathlib.Core.List.{List, [], _∷_, _++_, map, List·Permᴰ, List·Permᴰ·nil, List·Permᴰ·cons, List·Permᴰ·swap, List·Permᴰ·trans}
 use native.Mathlib.Omega.{arith}
 use lib.Dec.{eqb, ltb}
-use borrow.Author.Tests.{eqb-true, ltb-false, le-ltb, eq-eqb}
-use Rattle.bundle.specs.Answer.{Answer, gives, refuses, whenGiven}
+use borrow.Author.Tests.{eqb-true, ltb-false, le-ltb}
+use Rattle.bundle.specs.Answer.{Answer, gives, refuses}
 use Rattle.bundle.specs.Commands.{inRange}
-use Rattle.bundle.specs.Chunks.{Placed, fresh, afterCommand}
+use Rattle.bundle.specs.Chunks.{Placed}
 use Rattle.bundle.specs.Walk.{opensSegment, addsAccess}
-use Rattle.bundle.specs.Scan.{misplaced, aboveOwnTeam, misusesLock, tooMany, faultOf, start, scanned, finish, walk}
+use Rattle.bundle.specs.Scan.{misplaced, aboveOwnTeam, misusesLock, tooMany, faultOf, scanned, finish, walk}
 unfoldable pub use Rattle.bundle.specs.Index.{total}
 use Rattle.bundle.specs.declared.chunk.Scan.{Scan}
 use Rattle.bundle.specs.declared.command.Command.{Command}
-use Rattle.bundle.proofs.Tests.{false-is-true, both, and-left, and-right, decide, not-both, is-false, not-of-false, or-false}
+use Rattle.bundle.proofs.Tests.{false-is-true, both, and-left, and-right, not-both, is-false, or-false}
 
 -- a sum over a list, and over a permutation of it
 pub total-append : {A : Type 0} (f : A → ℕ) (xs ys : List A) → total f (xs ++ ys) ≡ total f xs + total f ys

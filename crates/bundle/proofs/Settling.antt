@@ -1,22 +1,19 @@
 -- Chunks put one after another get their places anew; nothing else of them changes.
-use Prim.Native.Nat.{ℕ, zero, suc, _+_, _-_, _≤_, _<_}
+use Prim.Native.Nat.{ℕ, _+_}
 use mathlib.Core.Path.{_≡_, refl, sym, _∙_, ap, subst}
-use mathlib.Core.Logic.{_⊎_, inl, inr, ⊎-elim}
-use mathlib.Core.Bool.{true, false}
+use mathlib.Core.Logic.{⊎-elim}
 use mathlib.Core.List.{List, [], _∷_, _++_, map, append-assoc, append-nil, List·Memᴰ, List·Memᴰ·head, List·Memᴰ·tail, List·Memᴰ·not-nil, List·Memᴰ·cases-cons}
-use native.Mathlib.Omega.{arith}
-use native.Mathlib.Nat.{add-zero, zero-add, add-assoc, add-sub-cancel-left}
-use lib.ListN.{length, take, drop, length-append}
+use native.Mathlib.Nat.{add-assoc, add-sub-cancel-left}
+use lib.ListN.{length, length-append}
 use lib.Seq.{take-append-seam, drop-append-seam}
 use Rattle.bundle.specs.Lists.{concatMap}
 use Rattle.bundle.specs.Commands.{bytesOf}
 use Rattle.bundle.specs.Chunks.{Placed, Chunk, gather, commandsOf, partOf}
-use Rattle.bundle.specs.declared.command.Command.{Command}
 use Rattle.bundle.specs.declared.command.Command.the-variants as Com
 use Rattle.bundle.proofs.ListLaws.{concatMap-append}
 use Rattle.bundle.proofs.Places.{unplacedCommand, unplaced}
 use Rattle.bundle.proofs.Gathering.{Body, ends, goes, gather-plain, gather-closes, Formed, placedOf, logOf, gather-chunks}
-use Rattle.bundle.proofs.Printing.{printed, placedFrom, commands-placed, placed-append}
+use Rattle.bundle.proofs.Printing.{printed, placedFrom, placed-append}
 
 -- a chunk at an offset, and chunks one after another from an offset on
 unfoldable pub settled : ℕ → Chunk → Chunk

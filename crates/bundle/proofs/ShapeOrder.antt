@@ -1,14 +1,14 @@
 -- Neither the order of the chunks nor their places matter to the shape of a bundle.
 use Prim.Native.Nat.{ℕ, zero, suc}
-use mathlib.Core.Path.{_≡_, refl, sym, _∙_, ap, subst, fun-ext}
-use mathlib.Core.Bool.{Bool, true, false, cond, not, _&&_, _||_}
-use mathlib.Core.List.{List, [], _∷_, _++_, map, map-append, List·Memᴰ, Memᴰ·map, Memᴰ·of-map, List·Permᴰ, Permᴰ·symm}
+use mathlib.Core.Path.{_≡_, refl, sym, _∙_, ap, subst}
+use mathlib.Core.Bool.{Bool, true, false, cond, not}
+use mathlib.Core.List.{List, [], _∷_, map, List·Memᴰ, Memᴰ·map, Memᴰ·of-map, List·Permᴰ, Permᴰ·symm}
 use mathlib.Core.Option.{Option, none, some}
 use lib.Dec.{eqb, ltb, leb}
 use borrow.Author.Tests.{eqb-true}
-use Rattle.bundle.specs.Lists.{upTo, any, all, first, concatMap, fromOption}
+use Rattle.bundle.specs.Lists.{upTo, any, first, concatMap, fromOption}
 use Rattle.bundle.specs.Cases.{onRegion}
-use Rattle.bundle.specs.Chunks.{Chunk, fresh, afterCommands, commandsOf, isOf, chunkOf}
+use Rattle.bundle.specs.Chunks.{Chunk, fresh, afterCommands, isOf, chunkOf}
 use Rattle.bundle.specs.Walk.{Entry, entriesOf, barriersOf, forkAt, forksIn, forksOf}
 use Rattle.bundle.specs.declared.index.Fork.{Fork}
 use Rattle.bundle.specs.Check.{forkOf, sizeOf, depthFrom, depthOf, lacksChunk, unlikeFirst}

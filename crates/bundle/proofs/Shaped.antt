@@ -1,22 +1,18 @@
 -- The shape of a bundle, 8 to 12: what it is that passes, and that neither places nor the order of the chunks matter to it.
-use Prim.Native.Nat.{ℕ, zero, suc, _<_, _≤_}
-use mathlib.Core.Path.{_≡_, refl, sym, _∙_, ap, subst, fun-ext}
-use mathlib.Core.Logic.{_⊎_, inl, inr, ⊎-elim}
-use mathlib.Core.Bool.{Bool, true, false, cond, not, _&&_, _||_}
-use mathlib.Core.List.{List, [], _∷_, _++_, map, map-append, List·Memᴰ, List·Memᴰ·head, List·Memᴰ·tail, List·Memᴰ·not-nil, List·Memᴰ·cases-cons, Memᴰ·map, Memᴰ·of-map, List·Permᴰ, Permᴰ·symm}
-use mathlib.Core.Option.{Option, none, some}
+use Prim.Native.Nat.{ℕ}
+use mathlib.Core.Path.{_≡_, refl, sym, ap}
+use mathlib.Core.Bool.{Bool, true, false, cond}
+use mathlib.Core.List.{List, [], _∷_, map, List·Memᴰ, List·Memᴰ·not-nil}
 use native.Mathlib.Omega.{arith}
 use lib.Dec.{eqb, ltb, leb}
 use borrow.Author.Tests.{eqb-true, eq-eqb}
-use Rattle.bundle.specs.Answer.{Answer, gives, refuses}
-use Rattle.bundle.specs.Lists.{upTo, any, all, first, concatMap, fromOption}
-use Rattle.bundle.specs.Chunks.{Chunk, isOf, chunkOf}
+use Rattle.bundle.specs.Answer.{gives}
+use Rattle.bundle.specs.Chunks.{Chunk, isOf}
 use Rattle.bundle.specs.Walk.{forksOf}
 use Rattle.bundle.specs.declared.index.Fork.{Fork}
-use Rattle.bundle.specs.Check.{forkOf, sizeOf, depthOf, failing, forkedBefore, stray, lacksChunk, unlikeFirst, refusedAt, shapeOf}
-use Rattle.bundle.proofs.Tests.{both, and-left, and-right, is-false, not-both}
-use Rattle.bundle.proofs.ListLaws.{Distinct, perm-mem, perm-map, perm-concatMap}
-use Rattle.bundle.proofs.Keys.{perm-distinct, perm-any, perm-first, all-same, distinct-key}
+use Rattle.bundle.specs.Check.{sizeOf, depthOf, forkedBefore, stray, lacksChunk, unlikeFirst, shapeOf}
+use Rattle.bundle.proofs.Tests.{both, and-left, and-right}
+use Rattle.bundle.proofs.ListLaws.{Distinct}
 use Rattle.bundle.proofs.Failing.{failing-none, none-failing, each-passes, passes-each, once-elim, once-intro, refused-none, none-refused}
 use Rattle.bundle.proofs.Places.{memberKey}
 

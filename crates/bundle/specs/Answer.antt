@@ -32,7 +32,7 @@ abbrev pub whenGiven : {A B : Type 0} → Answer A → (A → Answer B) → Answ
 whenGiven (gives a) f = f a
 whenGiven (refuses n p) f = refuses n p
 
--- document 01's number of each cause ("What each operation turns away")
+-- the number of each cause (docs/FORMAT.md, "Refusals")
 abbrev pub numberOf : Cause → ℕ
 numberOf BundleTooLong = 1
 numberOf UnknownCommand = 2

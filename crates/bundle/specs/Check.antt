@@ -1,13 +1,13 @@
 -- Check a bundle, and find a member's chunk.
-use Prim.Native.Nat.{ℕ, zero, suc, _+_}
+use Prim.Native.Nat.{ℕ, zero, suc}
 use mathlib.Core.Path.{_≡_}
-use mathlib.Core.Bool.{Bool, true, false, cond, not, _&&_, _||_}
-use mathlib.Core.List.{List, [], _∷_, _++_, map, List·Permᴰ}
-use mathlib.Core.Option.{Option, none, some}
+use mathlib.Core.Bool.{Bool, cond, not, _||_}
+use mathlib.Core.List.{List, [], _∷_, map, List·Permᴰ}
+use mathlib.Core.Option.{Option}
 use lib.ListN.{length}
 use lib.Dec.{eqb, ltb, leb}
 use Rattle.bundle.specs.Answer.{Answer, gives, refuses, whenGiven, numberOf}
-use Rattle.bundle.specs.Lists.{upTo, any, all, first, backToBack, concatMap, fromOption}
+use Rattle.bundle.specs.Lists.{upTo, any, all, first, backToBack, fromOption}
 use Rattle.bundle.specs.Chunks.{Chunk, chunksOf, partOf, isOf, chunkOf}
 unfoldable pub use Rattle.bundle.specs.Walk.{forksIn, forksOf, barriersOf}
 pub use Rattle.bundle.specs.declared.index.Fork.{Fork}

@@ -1,12 +1,12 @@
 -- Chunks: the state while a chunk is read, the commands of a bundle with their offsets, and its chunks.
 use Prim.Native.Nat.{ℕ, zero, suc, _+_, _-_}
-use mathlib.Core.Bool.{Bool, true, false, cond, _&&_}
-use mathlib.Core.List.{List, [], _∷_, _++_, map}
-use mathlib.Core.Option.{Option, none, some}
+use mathlib.Core.Bool.{Bool, cond, _&&_}
+use mathlib.Core.List.{List, [], _∷_, map}
+use mathlib.Core.Option.{Option}
 use lib.ListN.{length, take, drop}
 use lib.Dec.{eqb, leb}
 use Rattle.bundle.specs.Answer.{Answer, gives, refuses}
-use Rattle.bundle.specs.Lists.{first, concatMap}
+use Rattle.bundle.specs.Lists.{first}
 use Rattle.bundle.specs.Locks.{acquired, released}
 use Rattle.bundle.specs.Commands.{Taken, decodeAt, bytesOf}
 use Rattle.bundle.specs.Cases.{onDelimiter}

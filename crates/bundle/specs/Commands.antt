@@ -10,7 +10,6 @@ use Rattle.bundle.specs.Lists.{fromOption}
 use Rattle.bundle.specs.declared.command.AccessKind.{AccessKind}
 use Rattle.bundle.specs.declared.command.AccessKind.the-variants as Kind
 use Rattle.bundle.specs.declared.command.Range.{Range}
-use Rattle.bundle.specs.declared.command.Access.{Access}
 use Rattle.bundle.specs.declared.command.Command.{Command}
 use Rattle.bundle.specs.declared.command.Command.the-variants as Com
 use Rattle.bundle.specs.declared.command.Reading.{Reading}
@@ -119,7 +118,7 @@ commandAt s at b = fromOption Com.End (λ f. f .command (operandsFrom s at 1 (f 
 unfoldable pub bytesOf : Command → List ℕ
 bytesOf c = codeOf c .byte ∷ operandBytes (widthsOf (codeOf c .byte)) (codeOf c .operands)
 
--- the ranges of document 01. A range of bytes: count at least 1; stride 0 exactly when count is 1; size 1, 2, 4 or 8; last
+-- the ranges of docs/FORMAT.md. A range of bytes: count at least 1; stride 0 exactly when count is 1; size 1, 2, 4 or 8; last
 -- byte at most 4,294,967,295
 unfoldable pub sizeOk : ℕ → Bool
 sizeOk z = eqb z 1 || eqb z 2 || eqb z 4 || eqb z 8
@@ -198,7 +197,7 @@ putAt command buffer at =
     (record { answer = refuses 17 at; buffer = buffer }))
     (record { answer = refuses 5 at; buffer = buffer })
 
--- what the answers of the code say, in document 01's numbers and values
+-- what the answers of the code say, in the format's numbers and values
 abbrev pub readingOf : Reading → Answer Taken
 readingOf (Read.Taken next command) = gives (record { command = command; next = next })
 readingOf (Read.Refused place cause) = refuses (numberOf cause) place

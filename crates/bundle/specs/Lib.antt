@@ -1,4 +1,4 @@
--- Document 01's definitions for commands, chunks and the check of a bundle.
+-- The definitions of docs/FORMAT.md for commands, chunks and the check of a bundle.
 pub mod Answer
 pub mod Lists
 pub mod Commands

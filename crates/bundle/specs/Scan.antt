@@ -2,12 +2,12 @@
 use Prim.Native.Nat.{ℕ, _+_}
 use mathlib.Core.Bool.{Bool, true, false, cond, not, _&&_, _||_}
 use mathlib.Core.List.{List, [], _∷_}
-use lib.Dec.{eqb, ltb, leb}
+use lib.Dec.{eqb, ltb}
 use Rattle.bundle.specs.Answer.{Answer, gives, refuses, whenGiven}
 use Rattle.bundle.specs.Locks.{holds}
 use Rattle.bundle.specs.Commands.{inRange}
 use Rattle.bundle.specs.Cases.{onDelimiter, onRegion}
-use Rattle.bundle.specs.Chunks.{Placed, Front, fresh, afterCommand, frontOf}
+use Rattle.bundle.specs.Chunks.{Placed, fresh, afterCommand, frontOf}
 unfoldable pub use Rattle.bundle.specs.Walk.{opensSegment, addsAccess}
 use Rattle.bundle.specs.declared.chunk.Scan.{Scan}
 use Rattle.bundle.specs.declared.command.Command.{Command}

@@ -1,9 +1,9 @@
 -- The scan as the code goes: one command at a position, and the rows of the chunks and REGIONs that it has met so far.
 use Prim.Native.Nat.{ℕ, _+_, _*_, _≤_, _<_}
 use mathlib.Core.Path.{_≡_}
-use mathlib.Core.Bool.{Bool, true, false, cond, not, _&&_, _||_}
+use mathlib.Core.Bool.{Bool, cond}
 use mathlib.Core.List.{List, [], _∷_, _++_, map}
-use lib.Dec.{eqb, ltb, leb}
+use lib.Dec.{eqb}
 use lib.ListN.{length}
 use Rattle.bundle.specs.Answer.{Answer, gives, refuses, whenGiven, numberOf}
 use Rattle.bundle.specs.Commands.{Taken, decodeAt}
@@ -13,12 +13,10 @@ use Rattle.bundle.specs.Chunks.{Placed, Chunk, Gathered, afterCommands, 
 use Rattle.bundle.specs.Walk.{opensSegment, addsAccess, entriesFrom, forkAt, forksOf}
 use Rattle.bundle.specs.Scan.{faultOf, start, scanned, walk, scanOf}
 use Rattle.bundle.specs.Index.{table, chunkRowAt, forkRowAt, total, rowsFrom, chunkRows}
-use Rattle.bundle.specs.declared.refusal.Cause.{Cause}
 use Rattle.bundle.specs.declared.refusal.Cause.the-variants as Causes
 use Rattle.bundle.specs.declared.chunk.ChunkState.{ChunkState}
 use Rattle.bundle.specs.declared.chunk.Scan.{Scan}
 use Rattle.bundle.specs.declared.command.Command.{Command}
-use Rattle.bundle.specs.declared.command.Command.the-variants as Com
 use Rattle.bundle.specs.declared.index.ChunkRow.{ChunkRow}
 use Rattle.bundle.specs.declared.index.Fork.{Fork}
 use Rattle.bundle.specs.declared.survey.Open.{Open}

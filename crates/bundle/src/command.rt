@@ -78,7 +78,7 @@ fn last_ok(range: Range) -> bool
     base + (count - 1) * stride + (size - 1) <= 4294967295
 }
 
-// Whether a range of bytes is one that document 01 allows.
+// Whether a range of bytes is one that the format allows (docs/FORMAT.md).
 pub fn range_ok(range: Range) -> bool
     ensures { λ r. ⌜ r ≡ rangeOk range ⌝ }
 {

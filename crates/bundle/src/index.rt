@@ -1,7 +1,7 @@
 // The index of a bundle: a row for each chunk and one for each REGION, in words of 64 bits that are lent.
 use crate::chunk::ChunkState;
 ghost use mathlib.Core.Path.{_≡_};
-ghost use Prim.Native.Nat.{_+_, _*_, _<_, _≤_};
+ghost use Prim.Native.Nat.{_+_, _*_, _<_};
 ghost use lib.Dec.{eqb};
 ghost use lib.ListN.{length, getD};
 ghost use Rattle.bundle.specs.Index.{partsOf, chunkRowAt, forkRowAt, ChunkFits, ForkFits, Added, isRow, indexOf, table};

@@ -2,7 +2,7 @@
 ghost use mathlib.Core.Path.{_≡_};
 ghost use Rattle.bundle.specs.Answer.{numberOf};
 
-// Each cause with document 01's number.
+// Each cause with its number (docs/FORMAT.md).
 pub enum Cause {
     BundleTooLong, // 1
     UnknownCommand, // 2
@@ -24,7 +24,7 @@ pub enum Cause {
     PastEnd, // 18
 }
 
-// Document 01's number of a cause.
+// The number of a cause.
 pub fn number(cause: Cause) -> u8
     ensures { λ r. ⌜ r ≡ numberOf cause ⌝ }
 {

@@ -1,14 +1,14 @@
 -- Two lock sets have a lock in common exactly when the bits that both have set make a number other than 0.
 use Prim.Native.Nat.{ℕ, zero, suc, _+_, _/_, _%_, _^_, _<_, min}
-use mathlib.Core.Path.{_≡_, sym, ap, _∙_}
-use mathlib.Core.Bool.{true, false, not, _&&_}
-use native.Mathlib.Nat.{zero-div, div-one, div-eq-of-lt}
+use mathlib.Core.Path.{_≡_, ap, _∙_}
+use mathlib.Core.Bool.{true, not, _&&_}
+use native.Mathlib.Nat.{zero-div, div-one}
 use native.Mathlib.Decide.{ℕ-discrete}
 use native.Mathlib.Numerals.{add-one}
 use native.Mathlib.Omega.{arith}
 use lib.Arith.{digits-mod}
 use lib.Bits.{bitAnd, and-step, and-shr, and-le-l}
-use lib.Pow.{pow-mono, shr-shr, shr-lt}
+use lib.Pow.{shr-shr, shr-lt}
 use lib.Dec.{eqb}
 use borrow.Author.Tests.{eqb-true, eq-eqb, ne-eqb}
 use Rattle.bundle.specs.Lists.{upTo, any}

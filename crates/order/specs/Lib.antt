@@ -1,4 +1,4 @@
--- Document 01's definitions for labels, their comparison and shared bytes.
+-- The definitions of docs/FORMAT.md for labels, their comparison and shared bytes.
 pub mod Labels
 pub mod Ranges
 pub mod Pairs

@@ -1,10 +1,9 @@
 -- The bytes that a range touches, and the lowest byte that two ranges share.
-use Prim.Native.Nat.{ℕ, _+_, _*_, _<_, _≤_, min}
+use Prim.Native.Nat.{ℕ, _+_, _*_, _<_, min}
 use mathlib.Core.Path.{_≡_}
-use mathlib.Core.Bool.{Bool, true, false, cond}
+use mathlib.Core.Bool.{cond}
 use mathlib.Core.List.{List, [], _∷_, map}
 use mathlib.Core.Option.{Option, none, some}
-use lib.Dec.{leb}
 use Rattle.bundle.specs.Answer.{Answer, gives, refuses, numberOf}
 use Rattle.bundle.specs.Lists.{upTo, passing, concatMap, among}
 use Rattle.bundle.specs.Commands.{rangeOk}

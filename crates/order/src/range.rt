@@ -165,7 +165,7 @@ fn touches_some(range: Range) -> bool
     (1 <= range.count) & (1 <= range.size)
 }
 
-// The lowest byte that both ranges touch, whether or not document 01 allows the ranges.
+// The lowest byte that both ranges touch, whether or not the format allows the ranges.
 pub fn shared_byte(first: Range, second: Range) -> Lowest
     ensures { λ r. ⌜ lowestOf r ≡ sharedByte first second ⌝ }
 {

@@ -15,7 +15,7 @@ use Rattle.bundle.specs.declared.command.Command.{Command}
 use Rattle.bundle.specs.declared.command.Command.the-variants as Com
 use Rattle.bundle.proofs.Delimiters.{Accessing, accesses-some, accesses-none, accessings, on-no-access}
 use Rattle.bundle.proofs.WalkLaws.{chunks-total, accepted-room}
-use Rattle.verdict.specs.Races.{accessAt, accessesIn, accessesOf}
+use Rattle.verdict.specs.Accesses.{accessAt, accessesIn, accessesOf}
 
 access-one : (t m : ℕ) (e : Entry) → length (accessAt t m e) ≡ addsAccess (e .command)
 access-one t m e = go (e .command) (accessings (e .command))

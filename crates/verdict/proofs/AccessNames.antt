@@ -13,7 +13,7 @@ use Rattle.bundle.specs.declared.command.Command.{Command}
 use Rattle.bundle.proofs.ListLaws.{Distinct, distinct-nil, distinct-cons, distinct-concatMap}
 use Rattle.bundle.proofs.Delimiters.{Accessing, accesses-some, accesses-none, accessings, on-no-access}
 use Rattle.bundle.proofs.Places.{memberKey}
-use Rattle.verdict.specs.Races.{NamedAccess, accessAt, accessesIn, accessesOf, nameKey}
+use Rattle.verdict.specs.Accesses.{NamedAccess, accessAt, accessesIn, accessesOf, nameKey}
 
 -- the accesses of a chunk are numbered on
 pub data Run (t m : ℕ) : ℕ → List NamedAccess → Type 0 where

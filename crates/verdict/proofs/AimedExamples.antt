@@ -12,7 +12,7 @@ use Rattle.order.specs.declared.label.Triple.{Triple}
 use Rattle.order.specs.declared.label.Label.{Label}
 use Rattle.order.specs.declared.label.Order.{Order}
 use Rattle.order.specs.declared.label.Order.the-variants as Ord
-use Rattle.verdict.specs.Races.{keyOf}
+use Rattle.verdict.specs.Accesses.{keyOf}
 use Rattle.verdict.specs.Judge.{judgeOf, raceAbove, nextOf}
 use Rattle.verdict.specs.Table.{triple}
 use Rattle.verdict.specs.declared.race.Name.{Name}

@@ -1,7 +1,8 @@
 -- To unfold this is to unfold all definitions of the three crates, so that examples compute.
-use Rattle.verdict.specs.Graph.{sameNode, sameBorder, isBarrier, joins, samePair, linked, edgesOf, through, closed, closureOf, reaches}
+use Rattle.verdict.specs.GraphTests.{sameNode, sameBorder, isBarrier, joins, samePair, linked, edgesOf, through, closed, closureOf, reaches}
 use Rattle.verdict.specs.Judge.{verdictOf, judgementOf, raceAbove, overWork, judgedOf, judgeOf, nextAbove, nextOf}
-use Rattle.verdict.specs.Races.{accessAt, accessesIn, accessesOf, lexLess, nameKey, nameBelow, keyOf, raceKey, raceBelow, writes, atomic, clashes, raceAt, raceOf, insertRace, inOrder, racesAmong, racesOf}
+use Rattle.verdict.specs.Accesses.{accessAt, accessesIn, accessesOf, lexLess, nameKey, nameBelow, keyOf, raceKey, raceBelow, writes, atomic, raceAt}
+use Rattle.verdict.specs.RaceLists.{clashes, raceOf, insertRace, inOrder, racesAmong, racesOf}
 use Rattle.verdict.specs.Table.{triple, lent, answered, root, member0, member1, member1-later, E, counts, range, lastRead, lastTaken, row, after, table}
 use Rattle.bundle.proofs.Computing.{bundle-computes}
 use Rattle.order.proofs.Computing.{order-computes}

@@ -12,7 +12,8 @@ use Rattle.bundle.specs.Chunks.{Chunk, chunksOf}
 use Rattle.bundle.specs.Check.{Accepted}
 use Rattle.bundle.proofs.ListLaws.{Distinct}
 use Rattle.bundle.proofs.Places.{memberKey}
-use Rattle.verdict.specs.Races.{raceBelow, racesOf}
+use Rattle.verdict.specs.Accesses.{raceBelow}
+use Rattle.verdict.specs.RaceLists.{racesOf}
 use Rattle.verdict.specs.Judge.{verdictOf, judgementOf, overWork, judgedOf, judgeOf}
 use Rattle.verdict.specs.Demand.{Ascending, Exact, Demand3}
 use Rattle.verdict.specs.declared.race.Race.{Race}

@@ -12,7 +12,8 @@ use lib.ListN.{length}
 use borrow.Author.Tests.{eqb-true, eq-eqb}
 use Rattle.bundle.proofs.Tests.{or-cases, or-one, or-other, same-test}
 use Rattle.bundle.specs.Walk.{Border, ofChunk, ofBarrier, ofRegion, Segment}
-use Rattle.verdict.specs.Graph.{Joined, next, fork, join, barrier, joins}
+use Rattle.verdict.specs.Graph.{Joined, next, fork, join, barrier}
+use Rattle.verdict.specs.GraphTests.{joins}
 use Rattle.verdict.specs.Matrix.{EdgeBits, Closed}
 use Rattle.verdict.specs.Working.{endCode, openCode, nodeCode, SegmentTables}
 use Rattle.verdict.specs.Edges.{edgeTest, tableEdge, Filled, Regular, Reached}

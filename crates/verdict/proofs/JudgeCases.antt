@@ -1,5 +1,5 @@
 -- Judge and next race, case by case: the tables in the work area, the counts, the answers, and demand 3.
-use Prim.Native.Nat.{ℕ, suc, _+_, _≤_, _<_}
+use Prim.Native.Nat.{ℕ, suc, _≤_, _<_}
 use mathlib.Core.Path.{_≡_, refl, sym, _∙_, ap, subst}
 use mathlib.Core.Bool.{Bool, true, false, cond, not, _||_}
 use mathlib.Core.List.{List, [], _∷_, _++_, append-nil}
@@ -20,11 +20,11 @@ use Rattle.bundle.specs.declared.refusal.Cause.{Cause}
 use Rattle.bundle.proofs.Tables.{table-length}
 use Rattle.bundle.proofs.Reorder.{distinct-members}
 use Rattle.verdict.specs.Graph.{segmentsOf}
-use Rattle.verdict.specs.Races.{NamedAccess, lexLess, keyOf, raceKey, accessesOf, racesOf}
+use Rattle.verdict.specs.Accesses.{NamedAccess, lexLess, keyOf, raceKey, accessesOf}
+use Rattle.verdict.specs.RaceLists.{racesOf}
 use Rattle.verdict.specs.Working.{nodeCode, accessRowAt}
 use Rattle.verdict.specs.Tallying.{aboveKey, tallyAll, RowFits, TablesFit}
 use Rattle.verdict.specs.Judge.{verdictOf, judgementOf, raceAbove, overWork, judgedOf, judgeOf, nextAbove, nextOf, judgingOf, nextRaceOf}
-use Rattle.verdict.specs.Demand.{Judged}
 use Rattle.verdict.specs.Promise.{Promise}
 use Rattle.verdict.specs.Census.{matrixPart, rowsPart, MatrixFilled, AreaFilled, leastOf, Tallies, Counted, verdictIn, nextIn}
 use Rattle.verdict.specs.declared.race.Name.{Name}

@@ -8,7 +8,7 @@ use native.Mathlib.Omega.{arith}
 use lib.Dec.{eqb, ltb}
 use borrow.Author.Tests.{eqb-true, eq-eqb, ltb-true, lt-ltb, ltb-false, eqb-false}
 use Rattle.bundle.proofs.Tests.{false-is-true, both, and-left, and-right, or-cases, or-one, or-other, decide}
-use Rattle.verdict.specs.Races.{lexLess, nameKey, keyOf, raceKey}
+use Rattle.verdict.specs.Accesses.{lexLess, nameKey, keyOf, raceKey}
 use Rattle.verdict.specs.declared.race.Name.{Name}
 use Rattle.verdict.specs.declared.race.Race.{Race}
 

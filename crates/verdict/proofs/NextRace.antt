@@ -10,7 +10,9 @@ use Rattle.bundle.specs.Chunks.{Chunk, chunksOf}
 use Rattle.bundle.specs.Check.{Accepted}
 use Rattle.bundle.proofs.Tests.{not-both}
 use Rattle.bundle.proofs.ListLaws.{first-some, first-none}
-use Rattle.verdict.specs.Races.{IsRace, lexLess, raceKey, raceBelow, racesOf}
+use Rattle.verdict.specs.Accesses.{lexLess, raceKey, raceBelow}
+use Rattle.verdict.specs.Races.{IsRace}
+use Rattle.verdict.specs.RaceLists.{racesOf}
 use Rattle.verdict.specs.Judge.{raceAbove, nextAbove}
 use Rattle.verdict.specs.Demand.{Ascending}
 use Rattle.verdict.specs.declared.race.Race.{Race}

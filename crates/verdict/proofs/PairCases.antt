@@ -17,7 +17,7 @@ use Rattle.order.specs.declared.range.Lowest.{Lowest}
 use Rattle.order.specs.declared.range.Lowest.the-variants as Lo
 use Rattle.order.proofs.SharedByte.{shared-some}
 use Rattle.order.proofs.PairBytes.{base-shared, touch-fits}
-use Rattle.verdict.specs.Races.{lexLess, nameKey, nameBelow, keyOf, raceKey, raceBelow}
+use Rattle.verdict.specs.Accesses.{lexLess, nameKey, nameBelow, keyOf, raceKey, raceBelow}
 use Rattle.verdict.specs.Working.{accessRowAt}
 use Rattle.verdict.specs.Tallying.{rowRange, rowName, rowsMeet, rowsClash, raceFrom, raceBetween, raceAtByte, aboveKey, clashRace, pairRace, replaces, comesLater, SideOf, tallyIn, keeping, counting, addRace, addPair, tallyRow, tallyAll, RowFits, TablesFit}
 use Rattle.verdict.specs.declared.race.Name.{Name}

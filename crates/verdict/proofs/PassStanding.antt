@@ -18,7 +18,7 @@ use Rattle.bundle.proofs.Delimiters.{plain, on-plain, state-counts}
 use Rattle.bundle.proofs.Scanning.{uncounted, orderly, orderly-tail}
 use Rattle.bundle.proofs.WalkLaws.{first-segment, few-segments}
 use Rattle.verdict.specs.Graph.{Segment, segmentsIn, segmentsOf}
-use Rattle.verdict.specs.Races.{NamedAccess, accessAt, accessesIn, accessesOf}
+use Rattle.verdict.specs.Accesses.{NamedAccess, accessAt, accessesIn, accessesOf}
 use Rattle.verdict.specs.Filling.{nodeHere, entered, left, advanced}
 use Rattle.verdict.specs.declared.fill.Cursor.{Cursor}
 use Rattle.verdict.proofs.AccessCount.{few-accesses}

@@ -13,7 +13,7 @@ use Rattle.bundle.specs.declared.chunk.ChunkState.{ChunkState}
 use Rattle.bundle.specs.declared.command.Access.{Access}
 use Rattle.bundle.proofs.Tests.{false-is-true}
 use Rattle.verdict.specs.Graph.{Segment}
-use Rattle.verdict.specs.Races.{NamedAccess}
+use Rattle.verdict.specs.Accesses.{NamedAccess}
 use Rattle.verdict.specs.Working.{endCode, openCode, nodeCode, SegmentTables, RowOf, AccessTable}
 use Rattle.verdict.specs.Filling.{nodeHere, entered, left, advanced, rowHere, Room}
 use Rattle.verdict.specs.declared.fill.Cursor.{Cursor}

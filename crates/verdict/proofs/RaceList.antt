@@ -12,8 +12,11 @@ use Rattle.bundle.proofs.Tests.{both, and-left, and-right, or-cases, or-one, or
 use Rattle.bundle.proofs.ListLaws.{any-elim, any-intro, upTo-elim, upTo-intro, concatMap-elim, concatMap-intro, Distinct, distinct-nil, distinct-cons, distinct-concatMap}
 use Rattle.bundle.proofs.Places.{memberKey}
 use Rattle.order.specs.Ranges.{sharedByte}
-use Rattle.verdict.specs.Graph.{Pair, segmentsOf, closureOf, reaches}
-use Rattle.verdict.specs.Races.{NamedAccess, IsRace, accessesOf, nameKey, nameBelow, raceKey, writes, atomic, clashes, raceAt, raceOf, racesAmong, racesOf}
+use Rattle.verdict.specs.Graph.{segmentsOf}
+use Rattle.verdict.specs.GraphTests.{Pair, closureOf, reaches}
+use Rattle.verdict.specs.Accesses.{NamedAccess, accessesOf, nameKey, nameBelow, raceKey, writes, atomic, raceAt}
+use Rattle.verdict.specs.Races.{IsRace}
+use Rattle.verdict.specs.RaceLists.{clashes, raceOf, racesAmong, racesOf}
 use Rattle.verdict.specs.Demand.{Ascending}
 use Rattle.verdict.specs.declared.race.Race.{Race}
 use Rattle.order.proofs.SharedByte.{shared-some, shared-is}
@@ -173,17 +176,11 @@ module _ (cs : List Chunk) where
         no-lock = λ lock h p q. refuted (common-lock-intro (x .locks) (y .locks) lock h p q) (c .no-lock);
         no-path = λ p. refuted (path-reaches ss (x .node) (y .node) p) (c .no-path);
         no-path-back = λ p. refuted (path-reaches ss (y .node) (x .node) p) (c .no-path-back);
-        one-touches = s .one;
-        other-touches = s .other;
-        lowest = s .lowest;
-        first-name = refl;
-        first-site = refl;
-        second-name = refl;
-        second-site = refl;
+        shared = s;
+        carried = refl;
       })
 
   pub race-found : {r : Race} (i : IsRace cs r) → Found (closureOf (segmentsOf cs)) (i .one) (i .other) r
-  unfolding raceAt
   race-found {r} i =
       let x = i .one in
       let y = i .other in
@@ -204,18 +201,8 @@ module _ (cs : List Chunk) where
               no-path-back = fails _ (λ h. i .no-path-back (reaches-path ss (y .node) (x .node) h));
             });
         witness = r .witness;
-        shared =
-            shared-is (x .access .range) (y .access .range) (r .witness)
-            (record { one = i .one-touches; other = i .other-touches; lowest = i .lowest });
-        is =
-            λ j.
-            record {
-              witness = r .witness;
-              first = i .first-name j;
-              «first_site» = i .first-site j;
-              second = i .second-name j;
-              «second_site» = i .second-site j;
-            };
+        shared = shared-is (x .access .range) (y .access .range) (r .witness) (i .shared);
+        is = i .carried;
       }
 
   -- the list holds the races and nothing else

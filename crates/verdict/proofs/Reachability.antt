@@ -9,7 +9,8 @@ use borrow.Author.Tests.{eqb-true, eq-eqb}
 use Rattle.bundle.specs.Lists.{passing, concatMap}
 use Rattle.bundle.proofs.Tests.{false-is-true, both, and-left, and-right, or-cases, or-one, or-other, decide, not-of-false, same-test}
 use Rattle.bundle.proofs.ListLaws.{any-elim, any-intro, passing-elim, passing-intro, concatMap-elim, concatMap-intro}
-use Rattle.verdict.specs.Graph.{Node, sameNode, Border, ofChunk, ofBarrier, ofRegion, Segment, Joined, next, fork, join, barrier, Edge, GraphPath, here, step, sameBorder, isBarrier, joins, Pair, samePair, linked, edgesOf, through, closed, closureOf, reaches}
+use Rattle.verdict.specs.Graph.{Node, Border, ofChunk, ofBarrier, ofRegion, Segment, Joined, next, fork, join, barrier, Edge, GraphPath, here, step}
+use Rattle.verdict.specs.GraphTests.{sameNode, sameBorder, isBarrier, joins, Pair, samePair, linked, edgesOf, through, closed, closureOf, reaches}
 
 -- tests and records in parts
 all-three : (a b c : Bool) → (a && b && c) ≡ true → (a ≡ true) × (b ≡ true) × (c ≡ true)

@@ -1,5 +1,5 @@
 -- The rows of two accesses give the race of the two, whichever comes first.
-use Prim.Native.Nat.{ℕ, _+_, _-_, _≤_, _/_, _%_}
+use Prim.Native.Nat.{ℕ, _-_, _≤_, _/_, _%_}
 use mathlib.Core.Path.{_≡_, refl, sym, _∙_, ap, ap₂, subst}
 use mathlib.Core.Bool.{Bool, true, false, cond, not, _&&_, _||_}
 use mathlib.Core.List.{List, [], _∷_, _++_, append-nil}
@@ -18,8 +18,9 @@ use Rattle.bundle.specs.declared.command.Range.{Range}
 use Rattle.bundle.proofs.Tests.{both, not-both, is-false, same-test}
 use Rattle.order.specs.Ranges.{Touches, sharedByte}
 use Rattle.order.proofs.SharedByte.{shared-some, shared-swap}
-use Rattle.verdict.specs.Graph.{closureOf, reaches}
-use Rattle.verdict.specs.Races.{NamedAccess, nameKey, nameBelow, writes, atomic, clashes, raceAt, raceOf}
+use Rattle.verdict.specs.GraphTests.{closureOf, reaches}
+use Rattle.verdict.specs.Accesses.{NamedAccess, nameKey, nameBelow, writes, atomic, raceAt}
+use Rattle.verdict.specs.RaceLists.{clashes, raceOf}
 use Rattle.verdict.specs.Matrix.{bitAt, PathBits}
 use Rattle.verdict.specs.Working.{kindCode, RowOf}
 use Rattle.verdict.specs.Tallying.{rowRange, rowName, boundsMeet, kindsClash, rowsClash, raceFrom, raceBetween, clashRace, pairRace}

@@ -8,7 +8,9 @@ use Rattle.bundle.specs.Walk.{entriesOf, openingAt, segmentsFrom}
 use Rattle.bundle.proofs.ListLaws.{perm-mem, perm-length, perm-concatMap, Distinct, concatMap-map}
 use Rattle.bundle.proofs.Places.{unplaced, unplacedEntry, memberKey, entries-unplaced}
 use Rattle.verdict.specs.Graph.{Node, Segment, GraphPath, here, step, segmentsIn, segmentsOf}
-use Rattle.verdict.specs.Races.{IsRace, accessAt, accessesIn, accessesOf, racesOf}
+use Rattle.verdict.specs.Accesses.{accessAt, accessesIn, accessesOf}
+use Rattle.verdict.specs.Races.{IsRace}
+use Rattle.verdict.specs.RaceLists.{racesOf}
 use Rattle.verdict.specs.Judge.{judgementOf}
 use Rattle.verdict.specs.declared.race.Race.{Race}
 use Rattle.verdict.proofs.Sorting.{ascending-unique}
@@ -81,13 +83,8 @@ same-race cs ds same i =
       no-lock = i .no-lock;
       no-path = λ p. i .no-path (same-path ds cs (Permᴰ·symm same) p);
       no-path-back = λ p. i .no-path-back (same-path ds cs (Permᴰ·symm same) p);
-      one-touches = i .one-touches;
-      other-touches = i .other-touches;
-      lowest = i .lowest;
-      first-name = i .first-name;
-      first-site = i .first-site;
-      second-name = i .second-name;
-      second-site = i .second-site;
+      shared = i .shared;
+      carried = i .carried;
     }
 
 -- the counts

@@ -5,7 +5,7 @@ use mathlib.Core.List.{List, [], _∷_, _++_, map}
 use Rattle.bundle.specs.Answer.{Answer, gives, refuses, whenGiven}
 use Rattle.bundle.specs.Chunks.{chunksOf}
 use Rattle.bundle.specs.Check.{checkOf}
-use Rattle.verdict.specs.Races.{racesOf}
+use Rattle.verdict.specs.RaceLists.{racesOf}
 use Rattle.verdict.specs.Judge.{judgementOf}
 use Rattle.verdict.specs.declared.race.Race.{Race}
 use Rattle.verdict.specs.declared.race.Verdict.{Verdict}

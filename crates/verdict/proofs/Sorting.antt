@@ -25,7 +25,8 @@ use mathlib.Core.List.{
 use lib.ListN.{length}
 use Rattle.bundle.proofs.Tests.{not-both}
 use Rattle.bundle.proofs.ListLaws.{perm-mem, perm-length, Distinct, distinct-cons}
-use Rattle.verdict.specs.Races.{lexLess, raceKey, raceBelow, insertRace, inOrder}
+use Rattle.verdict.specs.Accesses.{lexLess, raceKey, raceBelow}
+use Rattle.verdict.specs.RaceLists.{insertRace, inOrder}
 use Rattle.verdict.specs.Demand.{Ascending}
 use Rattle.verdict.specs.declared.race.Race.{Race}
 use Rattle.verdict.proofs.Lexical.{Compared, less, same, more, compare, less-trans, less-asymmetric}

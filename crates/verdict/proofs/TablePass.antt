@@ -25,7 +25,7 @@ use Rattle.bundle.proofs.Scanning.{orderly, orderly-head}
 use Rattle.bundle.proofs.Reorder.{checked, scan-passed}
 use Rattle.bundle.proofs.Onward.{Onward, onward-next, onward-read, onward-end, legible}
 use Rattle.verdict.specs.Graph.{Segment, segmentsOf}
-use Rattle.verdict.specs.Races.{NamedAccess, accessAt, accessesOf}
+use Rattle.verdict.specs.Accesses.{NamedAccess, accessAt, accessesOf}
 use Rattle.verdict.specs.Working.{endCode, openCode, nodeCode, accessRowAt, SegmentTables, AccessTable}
 use Rattle.verdict.specs.Filling.{beginning, advanced, cursorAfter, onCrossing, endsAfter, opensAfter, nodesAfter, rowHere, Room, Notable, Noted, Filled}
 use Rattle.verdict.specs.declared.fill.Cursor.{Cursor}

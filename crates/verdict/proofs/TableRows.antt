@@ -6,7 +6,7 @@ use native.Mathlib.Omega.{arith}
 use lib.ListN.{length, getD, length-append}
 use Rattle.bundle.specs.Index.{Added}
 use Rattle.verdict.specs.Graph.{Segment}
-use Rattle.verdict.specs.Races.{NamedAccess}
+use Rattle.verdict.specs.Accesses.{NamedAccess}
 use Rattle.verdict.specs.Working.{endCode, openCode, nodeCode, accessRowAt, SegmentTables, RowOf, AccessTable}
 use Rattle.verdict.specs.declared.rows.AccessRow.{AccessRow}
 use Rattle.verdict.proofs.ListPlaces.{at-below, more-behind}

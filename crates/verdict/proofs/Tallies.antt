@@ -33,8 +33,10 @@ use Rattle.bundle.specs.Chunks.{Chunk}
 use Rattle.bundle.proofs.Tests.{and-left, and-right, both, not-both, is-false}
 use Rattle.bundle.proofs.ListLaws.{perm-mem, perm-length, Distinct}
 use Rattle.bundle.proofs.Places.{memberKey}
-use Rattle.verdict.specs.Graph.{closureOf, segmentsOf}
-use Rattle.verdict.specs.Races.{NamedAccess, nameKey, nameBelow, raceBelow, clashes, raceOf, racesAmong, accessesOf, racesOf}
+use Rattle.verdict.specs.Graph.{segmentsOf}
+use Rattle.verdict.specs.GraphTests.{closureOf}
+use Rattle.verdict.specs.Accesses.{NamedAccess, nameKey, nameBelow, raceBelow, accessesOf}
+use Rattle.verdict.specs.RaceLists.{clashes, raceOf, racesAmong, racesOf}
 use Rattle.verdict.specs.Matrix.{PathBits}
 use Rattle.verdict.specs.Working.{accessRowAt, AccessTable}
 use Rattle.verdict.specs.Tallying.{aboveKey, replaces, keeping, counting, addRace, addPair, pairRace, tallyRow, noTally, tallyAll}

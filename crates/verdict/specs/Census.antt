@@ -8,7 +8,8 @@ use lib.ListN.{length, take, drop}
 use Rattle.bundle.specs.Lists.{first}
 use Rattle.bundle.specs.Chunks.{chunksOf}
 use Rattle.verdict.specs.Graph.{segmentsOf}
-use Rattle.verdict.specs.Races.{accessesOf, racesOf}
+use Rattle.verdict.specs.Accesses.{accessesOf}
+use Rattle.verdict.specs.RaceLists.{racesOf}
 use Rattle.verdict.specs.Matrix.{PathBits}
 use Rattle.verdict.specs.Working.{AccessTable}
 use Rattle.verdict.specs.Tallying.{aboveKey}

@@ -10,10 +10,10 @@ use Rattle.bundle.specs.Chunks.{chunksOf}
 use Rattle.bundle.specs.Commands.{Bytes}
 use Rattle.bundle.specs.Check.{Accepted, Reordered}
 use Rattle.verdict.specs.Graph.{segmentsOf}
-use Rattle.verdict.specs.Races.{IsRace, accessesOf, raceBelow}
+use Rattle.verdict.specs.Accesses.{accessesOf, raceBelow}
+use Rattle.verdict.specs.Races.{IsRace}
 use Rattle.verdict.specs.Judge.{judgeOf}
 use Rattle.verdict.specs.declared.race.Race.{Race}
-use Rattle.verdict.specs.declared.race.Verdict.{Verdict}
 use Rattle.verdict.specs.declared.race.Verdict.the-variants as Ver
 use Rattle.verdict.specs.declared.race.Judgement.{Judgement}
 

@@ -15,7 +15,7 @@ use Rattle.bundle.specs.declared.command.Access.{Access}
 use Rattle.bundle.specs.declared.command.Command.{Command}
 use Rattle.bundle.specs.declared.command.Command.the-variants as Com
 use Rattle.verdict.specs.Graph.{segmentsOf}
-use Rattle.verdict.specs.Races.{accessesOf}
+use Rattle.verdict.specs.Accesses.{accessesOf}
 use Rattle.verdict.specs.Working.{endCode, openCode, nodeCode, kindCode, accessRowAt, SegmentTables, AccessTable}
 use Rattle.verdict.specs.declared.fill.Counts.{Counts}
 use Rattle.verdict.specs.declared.fill.Cursor.{Cursor}

@@ -11,7 +11,8 @@ use Rattle.bundle.specs.Commands.{Lent}
 use Rattle.bundle.specs.Chunks.{Chunk, chunksOf}
 use Rattle.bundle.specs.Check.{checkOf}
 use Rattle.verdict.specs.Graph.{segmentsOf}
-use Rattle.verdict.specs.Races.{accessesOf, racesOf, lexLess, keyOf, raceKey}
+use Rattle.verdict.specs.Accesses.{accessesOf, lexLess, keyOf, raceKey}
+use Rattle.verdict.specs.RaceLists.{racesOf}
 use Rattle.verdict.specs.declared.race.Name.{Name}
 use Rattle.verdict.specs.declared.race.Race.{Race}
 use Rattle.verdict.specs.declared.race.Verdict.{Verdict}

@@ -1,5 +1,8 @@
--- Document 01's definitions for the fork-join graph, races, the judgement and the next race, and demand 3.
+-- The definitions of docs/FORMAT.md for the fork-join graph, races, the judgement and the next race; and demand 3.
+pub mod GraphTests
 pub mod Graph
+pub mod Accesses
+pub mod RaceLists
 pub mod Races
 pub mod Judge
 pub mod Demand

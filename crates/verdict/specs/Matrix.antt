@@ -7,7 +7,8 @@ use mathlib.Core.List.{List}
 use mathlib.Core.Option.{some}
 use lib.Dec.{eqb}
 use lib.ListN.{length, getD, getElem?}
-use Rattle.verdict.specs.Graph.{Segment, joins, closureOf, reaches}
+use Rattle.verdict.specs.Graph.{Segment}
+use Rattle.verdict.specs.GraphTests.{joins, closureOf, reaches}
 
 -- the bit in row i and column j
 unfoldable pub bitAt : List ℕ → ℕ → ℕ → Bool

@@ -1,4 +1,4 @@
--- Document 01's proved cases P1 to P14 as data, each with what is wanted. `proofs/Examples.antt` proves that the definitions agree.
+-- The settled cases P1 to P14 of the format (docs/FORMAT.md) as data, each with what is wanted. `proofs/Examples.antt` proves that the definitions agree.
 use Prim.Native.Nat.{ℕ}
 use mathlib.Core.List.{List, [], _∷_, _++_}
 use mathlib.Core.Option.{Option, none, some}

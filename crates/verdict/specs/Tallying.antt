@@ -11,7 +11,7 @@ use Rattle.bundle.specs.Locks.{commonLock}
 use Rattle.bundle.specs.Commands.{rangeOk}
 use Rattle.bundle.specs.declared.command.Range.{Range}
 use Rattle.order.specs.Ranges.{sharedByte}
-use Rattle.verdict.specs.Races.{lexLess, keyOf, raceKey, nameBelow, raceBelow}
+use Rattle.verdict.specs.Accesses.{lexLess, keyOf, raceKey, nameBelow, raceBelow}
 use Rattle.verdict.specs.Matrix.{bitAt}
 use Rattle.verdict.specs.Working.{accessRowAt}
 use Rattle.verdict.specs.declared.race.Name.{Name}

@@ -9,7 +9,7 @@ use Rattle.bundle.specs.Commands.{rangeOk, lastByte}
 use Rattle.bundle.specs.declared.command.AccessKind.{AccessKind}
 use Rattle.bundle.specs.declared.command.AccessKind.the-variants as Kind
 use Rattle.bundle.specs.Walk.{Node, Border, ofChunk, ofBarrier, ofRegion, Segment}
-use Rattle.verdict.specs.Races.{NamedAccess}
+use Rattle.verdict.specs.Accesses.{NamedAccess}
 use Rattle.verdict.specs.declared.rows.AccessRow.{AccessRow}
 
 -- an event at which segments end and are opened, as a number: the fork of a team (0), its join (1), its barrier of a number (2).

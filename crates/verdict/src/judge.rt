@@ -19,7 +19,7 @@ ghost use Prim.Native.Nat.{_≤_};
 ghost use lib.ListN.{length, replicate};
 ghost use Rattle.bundle.specs.Check.{Accepted};
 ghost use Rattle.verdict.specs.Judge.{judgedOf, judgeOf, nextAbove, nextOf, judgingOf, nextRaceOf};
-ghost use Rattle.verdict.specs.Races.{keyOf};
+ghost use Rattle.verdict.specs.Accesses.{keyOf};
 ghost use Rattle.verdict.specs.Tallying.{tallyAll, TablesFit};
 ghost use Rattle.verdict.specs.Edges.{Tables};
 ghost use Rattle.verdict.specs.Filling.{Room, Filled};

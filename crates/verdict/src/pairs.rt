@@ -14,7 +14,7 @@ ghost use lib.Dec.{eqb, ltb, leb};
 ghost use Prim.Native.Nat.{_+_, _%_, _≤_, _<_, min};
 ghost use Rattle.order.specs.Ranges.{sharedByte};
 ghost use Rattle.order.specs.Pairs.{lowestOf};
-ghost use Rattle.verdict.specs.Races.{lexLess, nameBelow, keyOf, raceKey, raceBelow};
+ghost use Rattle.verdict.specs.Accesses.{lexLess, nameBelow, keyOf, raceKey, raceBelow};
 ghost use Rattle.verdict.specs.Matrix.{Within, TestWord};
 ghost use Rattle.verdict.specs.Working.{accessRowAt, RowIn};
 ghost use Rattle.verdict.specs.Tallying.{

@@ -1,6 +1,5 @@
 -- `bundle::command::range_ok` meets its contract: each test that failed is one of `rangeOk`'s. Assumes nothing.
 use mathlib.Core.Path.{sym, _∙_}
-use borrow.Author.Needs.{needs}
 use borrow.Author.Tests.{le-leb, lt-leb, not-true, not-false}
 use Rattle.bundle.specs.Commands.{rangeOk}
 use Rattle.bundle.proofs.Ranges.{size-within}

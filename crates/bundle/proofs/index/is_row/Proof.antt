@@ -1,6 +1,5 @@
 -- `bundle::index::is_row` meets its contract. Assumes nothing.
 use Rattle.bundle.specs.Index.{isRow}
-use borrow.Author.Needs.{needs}
 use Rattle.bundle.proofs.index.is_row.Statement.{statement}
 use Rattle.bundle.proofs.index.is_row.Tie as tie
 

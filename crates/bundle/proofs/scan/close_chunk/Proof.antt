@@ -1,5 +1,4 @@
 -- `bundle::scan::close_chunk` meets its contract. Assumes nothing.
-use borrow.Author.Needs.{needs}
 use Rattle.bundle.proofs.scan.close_chunk.Statement.{statement}
 use Rattle.bundle.proofs.scan.close_chunk.Tie as tie
 

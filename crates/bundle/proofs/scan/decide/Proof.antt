@@ -1,5 +1,4 @@
 -- `bundle::scan::decide` meets its contract. Assumes nothing.
-use borrow.Author.Needs.{needs}
 use Rattle.bundle.proofs.scan.decide.Statement.{statement}
 use Rattle.bundle.proofs.scan.decide.Tie as tie
 

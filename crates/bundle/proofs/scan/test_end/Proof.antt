@@ -1,7 +1,6 @@
 -- `bundle::scan::test_end` meets its contract. Assumes nothing.
 use mathlib.Core.Path.{refl, sym, _∙_}
 use native.Mathlib.Nat.{add-zero}
-use borrow.Author.Needs.{needs}
 use Rattle.bundle.specs.Commands.{formOf, codeOf, widthsOf, operandsOk, fitWidths, inRange}
 use Rattle.bundle.specs.Scan.{isMember, misplaced, aboveOwnTeam, misusesLock, opensSegment, addsAccess, scanned}
 use Rattle.bundle.proofs.Stepping.{tested, many-none}

@@ -1,5 +1,4 @@
 -- `bundle::shape::at_fork` meets its contract. Assumes nothing.
-use borrow.Author.Needs.{needs}
 use Rattle.bundle.proofs.shape.at_fork.Statement.{statement}
 use Rattle.bundle.proofs.shape.at_fork.Tie as tie
 

@@ -1,5 +1,4 @@
 -- `bundle::shape::lacks_chunk` meets its contract. Assumes nothing.
-use borrow.Author.Needs.{needs}
 use Rattle.bundle.proofs.shape.lacks_chunk.Statement.{statement}
 use Rattle.bundle.proofs.shape.lacks_chunk.Tie as tie
 

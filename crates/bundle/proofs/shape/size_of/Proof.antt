@@ -1,6 +1,5 @@
 -- `bundle::shape::size_of` meets its contract. Assumes nothing.
 use Rattle.bundle.proofs.Slots.{size-root, size-none, size-some}
-use borrow.Author.Needs.{needs}
 use Rattle.bundle.proofs.shape.size_of.Statement.{statement}
 use Rattle.bundle.proofs.shape.size_of.Tie as tie
 

@@ -1,7 +1,6 @@
 -- `bundle::survey::begin` meets its contract. Assumes nothing.
 use Rattle.bundle.specs.Scan.{start}
 use Rattle.bundle.specs.Survey.{beginning}
-use borrow.Author.Needs.{needs}
 use Rattle.bundle.proofs.survey.begin.Statement.{statement}
 use Rattle.bundle.proofs.survey.begin.Tie as tie
 

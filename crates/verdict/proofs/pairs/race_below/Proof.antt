@@ -1,5 +1,5 @@
 -- `verdict::pairs::race_below` meets its contract. Assumes nothing.
-use Rattle.verdict.specs.Races.{raceBelow, raceKey}
+use Rattle.verdict.specs.Accesses.{raceBelow, raceKey}
 use Rattle.verdict.proofs.pairs.race_below.Statement.{statement}
 use Rattle.verdict.proofs.pairs.race_below.Tie as tie
 

@@ -1,0 +1,45 @@
+-- The bundle's races as a list that computes. What a race is stands in `Races`; laws of `proofs/RaceList` say that the list holds exactly
+-- the races.
+use mathlib.Core.Bool.{Bool, cond, not, _&&_, _||_}
+use mathlib.Core.List.{List, [], _∷_}
+use Rattle.bundle.specs.Lists.{concatMap, fromOption}
+use Rattle.bundle.specs.Locks.{commonLock}
+use Rattle.bundle.specs.Chunks.{Chunk}
+use Rattle.bundle.specs.Walk.{segmentsOf}
+use Rattle.order.specs.Ranges.{sharedByte}
+use Rattle.verdict.specs.GraphTests.{Pair, closureOf, reaches}
+use Rattle.verdict.specs.Accesses.{NamedAccess, accessesOf, nameBelow, raceBelow, writes, atomic, raceAt}
+use Rattle.verdict.specs.declared.race.Race.{Race}
+
+-- what `IsRace` asks of two accesses besides a shared byte, as a test over the closure of the graph
+unfoldable pub clashes : List Pair → NamedAccess → NamedAccess → Bool
+clashes closure x y =
+    nameBelow (x .name) (y .name)
+    && (writes (x .access .kind) || writes (y .access .kind))
+    && not (atomic (x .access .kind) && atomic (y .access .kind))
+    && not (commonLock (x .locks) (y .locks))
+    && not (reaches closure (x .node) (y .node))
+    && not (reaches closure (y .node) (x .node))
+
+unfoldable pub raceOf : List Pair → NamedAccess → NamedAccess → List Race
+raceOf closure x y =
+    cond (clashes closure x y)
+    (fromOption [] (λ witness. raceAt x y witness ∷ []) (sharedByte (x .access .range) (y .access .range)))
+    []
+
+-- a list of races put into their order
+unfoldable pub insertRace : Race → List Race → List Race
+insertRace r [] = r ∷ []
+insertRace r (q ∷ qs) = cond (raceBelow r q) (r ∷ q ∷ qs) (q ∷ insertRace r qs)
+
+unfoldable pub inOrder : List Race → List Race
+inOrder [] = []
+inOrder (r ∷ rs) = insertRace r (inOrder rs)
+
+unfoldable pub racesAmong : List Pair → List NamedAccess → List Race
+racesAmong closure xs = concatMap (λ x. concatMap (raceOf closure x) xs) xs
+
+-- the bundle's races in their order: by races-elim and races-intro exactly those of `IsRace`, and in an accepted bundle by
+-- races-ascending each once
+unfoldable pub racesOf : List Chunk → List Race
+racesOf cs = inOrder (racesAmong (closureOf (segmentsOf cs)) (accessesOf cs))
