@@ -1,4 +1,4 @@
--- The shape of a bundle, 8 to 12: what it is that passes, and that neither places nor the order of the chunks matter to it.
+-- The shape of a bundle, 8 to 12: what the chunks have that pass.
 use Prim.Native.Nat.{ℕ}
 use mathlib.Core.Path.{_≡_, refl, sym, ap}
 use mathlib.Core.Bool.{Bool, true, false, cond}

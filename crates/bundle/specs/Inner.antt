@@ -1,4 +1,4 @@
--- What the inner functions of reading and putting ask and promise.
+-- Inner: what the functions of reading and putting ask and promise.
 use mathlib.Core.Path.{_≡_}
 use Prim.Native.Nat.{ℕ, _<_, _≤_}
 use mathlib.Core.List.{List}

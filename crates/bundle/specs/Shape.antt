@@ -1,4 +1,4 @@
--- The tests 8 to 12 over the rows of a bundle's chunks, and by the tables of the code.
+-- Inner: the tests 8 to 12 over the rows of a bundle's chunks, and by the tables of the code.
 use Prim.Native.Nat.{ℕ, zero, suc, _+_, _*_, _/_, _%_, _^_, _≤_, _<_}
 use mathlib.Core.Path.{_≡_}
 use mathlib.Core.Bool.{Bool, true, false, cond, not, _||_}

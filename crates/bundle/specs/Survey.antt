@@ -1,4 +1,4 @@
--- The scan as the code goes: one command at a position, and the rows of the chunks and REGIONs that it has met so far.
+-- Inner: the scan as the code goes: one command at a position, and the rows of the chunks and REGIONs that it has met so far.
 use Prim.Native.Nat.{ℕ, _+_, _*_, _≤_, _<_}
 use mathlib.Core.Path.{_≡_}
 use mathlib.Core.Bool.{Bool, cond}

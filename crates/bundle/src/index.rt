@@ -6,7 +6,7 @@ ghost use lib.Dec.{eqb};
 ghost use lib.ListN.{length, getD};
 ghost use Rattle.bundle.specs.Index.{partsOf, chunkRowAt, forkRowAt, ChunkFits, ForkFits, Added, isRow, indexOf, table};
 
-// A chunk: the offset of its MEMBER and the offset after its end, its team and member, the barriers that it passes, and how many segments
+// A chunk: the offset of its MEMBER and the offset after its END, its team and member, the barriers that it passes, and how many segments
 // and accesses of the bundle stand before it.
 pub struct ChunkRow {
     pub place: usize,

@@ -1,4 +1,4 @@
--- What the inner functions of a segment's label ask and promise.
+-- Inner: what the functions of a segment's label ask and promise.
 use Prim.Native.Nat.{ℕ, suc, _+_, _-_, _*_, _≤_, _<_}
 use mathlib.Core.Bool.{cond, _&&_}
 use mathlib.Core.List.{List, List·Memᴰ}

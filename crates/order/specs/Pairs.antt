@@ -1,4 +1,4 @@
--- Pairs of elements, one of each of two ranges, that share a byte: what the inner functions promise.
+-- Inner: pairs of elements, one of each of two ranges, that share a byte, and what the functions promise.
 use Prim.Native.Nat.{ℕ, _+_, _-_, _*_, _<_, _≤_, max}
 use mathlib.Core.Bool.{Bool, cond, _&&_}
 use mathlib.Core.Option.{Option, none, some}

@@ -1,4 +1,4 @@
--- Examples aimed at single points of document 01, with the second reader's answers. tests/write_examples writes this file.
+-- Examples aimed at single points of docs/FORMAT.md, with the second reader's answers. tests/write_examples writes this file.
 use Prim.Native.Nat.{ℕ}
 use mathlib.Core.Path.{_≡_, refl}
 use mathlib.Core.List.{List, [], _∷_, map}

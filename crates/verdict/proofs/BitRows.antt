@@ -1,62 +1,20 @@
 -- The matrix word by word and row by row: what a store changes, and what each loop has done so far.
-use Prim.Native.Nat.{ℕ, zero, suc, _+_, _-_, _*_, _/_, _%_, _^_, _≤_, _<_, max}
-use mathlib.Core.Path.{_≡_, refl, sym, _∙_, ap}
+use Prim.Native.Nat.{ℕ, _+_, _*_, _/_, _%_, _^_, _≤_, _<_}
+use mathlib.Core.Path.{_≡_, refl, sym, _∙_}
 use mathlib.Core.Bool.{Bool, true, false, _&&_, _||_, or-true, or-false}
 use mathlib.Core.List.{List}
-use native.Mathlib.Nat.{one-mul, div-eq-of-lt, mul-mod-left}
 use native.Mathlib.Decide.{ℕ-discrete, decLt}
 use native.Mathlib.Numerals.{add-one}
 use native.Mathlib.Omega.{arith}
-use lib.Arith.{digits-mod}
-use lib.Bits.{bitOr, or-step, or-shr}
+use lib.Bits.{bitOr}
 use lib.Dec.{eqb}
 use lib.ListN.{length, getD, set, length-set}
-use lib.Pow.{pow-lt, pow-add, shl-exact, shl-shr}
 use lib.Seq.{getD-set-same, getD-set-other}
 use borrow.Author.Count.{below-more}
 use borrow.Author.Tests.{eq-eqb, ne-eqb}
 use Rattle.verdict.specs.Matrix.{bitAt, Within, BitSet, DiagonalSet, RowJoined, RowRelaxed, Passed, stage, Staged, Closed}
+use Rattle.verdict.proofs.WordBits.{bitOf, bit-or, one-shifted, bit-itself, bit-other}
 use Rattle.verdict.proofs.Warshall.{withSelf, stage-same, stage-walk, walk-stage}
-
--- a bit of a word
-abbrev pub bitOf : ℕ → ℕ → Bool
-bitOf x k = eqb (x / 2 ^ k % 2) 1
-
-pub bit-or : (a b k : ℕ) → bitOf (bitOr a b) k ≡ (bitOf a k || bitOf b k)
-bit-or a b k = go (a / 2 ^ k % 2) (b / 2 ^ k % 2) (omega arith) (omega arith) larger
-  where
-    larger : bitOr a b / 2 ^ k % 2 ≡ max (a / 2 ^ k % 2) (b / 2 ^ k % 2)
-    larger =
-        ap (λ (n : ℕ). n % 2) (or-shr a b k ∙ or-step (a / 2 ^ k) (b / 2 ^ k))
-        ∙ digits-mod (bitOr (a / 2 ^ k / 2) (b / 2 ^ k / 2)) (omega arith)
-
-    go : (x y : ℕ) → x < 2 → y < 2 → bitOr a b / 2 ^ k % 2 ≡ max x y → bitOf (bitOr a b) k ≡ (eqb x 1 || eqb y 1)
-    go zero zero h l e = rw e
-    go zero (suc zero) h l e = rw e
-    go (suc zero) zero h l e = rw e
-    go (suc zero) (suc zero) h l e = rw e
-    go (suc (suc x)) y h l e = absurd (omega arith)
-    go zero (suc (suc y)) h l e = absurd (omega arith)
-    go (suc zero) (suc (suc y)) h l e = absurd (omega arith)
-
--- the code's `1 << k`
-one-shifted : (k : ℕ) → k < 32 → 1 * 2 ^ k % 4294967296 ≡ 2 ^ k
-one-shifted k h = shl-exact {a = 1} 1 k 32 (omega arith) (omega arith) ∙ one-mul (2 ^ k)
-
-pub bit-itself : (k : ℕ) → bitOf (2 ^ k) k ≡ true
-bit-itself k =
-    let e : 2 ^ k / 2 ^ k ≡ 1 = ap (λ (n : ℕ). n / 2 ^ k) (sym (one-mul (2 ^ k))) ∙ shl-shr 1 k in
-    rw e
-
-pub bit-other : (k l : ℕ) → (l ≡ k → ⊥) → bitOf (2 ^ k) l ≡ false
-bit-other k l ne = go (decLt k l)
-  where
-    higher : (d : ℕ) → k ≡ d + 1 + l → bitOf (2 ^ k) l ≡ false
-    higher d q = rw (q, pow-add 2 (d + 1) l, shl-shr, pow-add 2 d 1, mul-mod-left)
-
-    go : Dec (k < l) → bitOf (2 ^ k) l ≡ false
-    go (yes h) = rw (div-eq-of-lt {n = 2 ^ k} {m = 2 ^ l} (pow-lt h))
-    go (no g) = higher (k - l - 1) (omega arith)
 
 -- a word of the matrix that x is joined to
 module _ (m : List ℕ) (p x : ℕ) where

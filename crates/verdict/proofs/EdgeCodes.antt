@@ -72,7 +72,7 @@ module _ {ss : List Segment} (g : Regular ss) (a b : Segment) (a-in : List·Mem�
       go (ofRegion u) (ofBarrier n) q r e = absurd (omega arith)
       go (ofRegion u) (ofRegion t) q r e = absurd (omega arith)
 
-  -- the one's number is that after the other's
+  -- the other's number is that after the one's
   node-joined : placeOf a + 1 ≡ placeOf b → Joined a b
   unfolding nodeCode
   node-joined e =

@@ -1,66 +1,15 @@
 -- The edges word by word and row by row: what each loop has done so far.
-use Prim.Native.Nat.{ℕ, _+_, _*_, _/_, _%_, _^_, _≤_, _<_}
+use Prim.Native.Nat.{ℕ, _+_, _*_, _/_, _%_, _≤_, _<_}
 use mathlib.Core.Path.{_≡_, refl, _∙_, ap}
-use mathlib.Core.Bool.{Bool, true, false, or-false}
+use mathlib.Core.Bool.{Bool}
 use mathlib.Core.List.{List}
-use native.Mathlib.Nat.{zero-mul, one-mul, zero-div}
 use native.Mathlib.Omega.{arith}
-use lib.Bits.{bitOr}
 use lib.ListN.{length, getD, set}
-use lib.Pow.{shl-exact}
 use lib.Seq.{getD-set-same, getD-set-other}
-use mir.Val.{boolByte}
 use borrow.Author.Count.{below-more}
-use Rattle.verdict.specs.Matrix.{bitAt, TestWord}
+use Rattle.verdict.specs.Matrix.{bitAt}
 use Rattle.verdict.specs.Edges.{RowFilled, Filled}
-use Rattle.verdict.proofs.BitRows.{bitOf, bit-or, bit-itself, bit-other}
-
--- a test as the bit of column k, and the code's shift of it
-module _ (k : ℕ) where
-  shifted : (t : Bool) → k < 32 → boolByte t * 2 ^ k % 4294967296 ≡ boolByte t * 2 ^ k
-  shifted true h = shl-exact {a = 1} 1 k 32 (omega arith) (omega arith)
-  shifted false h = shl-exact {a = 0} 0 k 32 (omega arith) (omega arith)
-
-  no-bit : (l : ℕ) → bitOf (boolByte false * 2 ^ k) l ≡ false
-  no-bit l = rw (zero-mul, zero-div)
-
-  test-here : (t : Bool) → bitOf (boolByte t * 2 ^ k) k ≡ t
-  test-here true = rw one-mul (bit-itself k)
-  test-here false = no-bit k
-
-  test-other : (t : Bool) (l : ℕ) → (l ≡ k → ⊥) → bitOf (boolByte t * 2 ^ k) l ≡ false
-  test-other true l ne = rw one-mul (bit-other k l ne)
-  test-other false l ne = no-bit l
-
--- the lowest k bits of a word are the tests of the columns from `first` on, the others are not set
-pub record BitsTo (test : ℕ → Bool) (first word k : ℕ) : Type 0 where
-  pub done : (l : ℕ) → l < k → bitOf word l ≡ test (first + l)
-  pub rest : (l : ℕ) → k ≤ l → bitOf word l ≡ false
-
-pub bits-none : (test : ℕ → Bool) (first : ℕ) → BitsTo test first 0 0
-bits-none test first = record { done = λ l h. absurd (omega arith); rest = λ l h. rw zero-div }
-
-pub bits-more :
-    {test : ℕ → Bool} {first word k : ℕ} (t : Bool)
-    → BitsTo test first word k
-    → k < 32
-    → t ≡ test (first + k)
-    → BitsTo test first (bitOr word (boolByte t * 2 ^ k % 4294967296)) (k + 1)
-bits-more {test} {first} {word} {k} t b h e =
-    rw (shifted k t h)
-    record {
-      done =
-          below-more (λ (l : ℕ). bitOf (bitOr word x) l ≡ test (first + l)) k
-          (λ l a. bit-or word x l ∙ rw (b .done l a, test-other k t l (λ q. omega arith), or-false))
-          (bit-or word x k ∙ rw (b .rest k (omega arith), test-here k t) e);
-      rest = λ l a. bit-or word x l ∙ rw (b .rest l (omega arith)) (test-other k t l (λ q. omega arith));
-    }
-  where
-    x : ℕ
-    x = boolByte t * 2 ^ k
-
-pub bits-all : {test : ℕ → Bool} {first word k : ℕ} → 32 ≤ k → BitsTo test first word k → TestWord test first word
-bits-all h b = record { bits = λ l a. b .done l (omega arith) }
+use Rattle.verdict.proofs.WordBits.{bitOf}
 
 -- the first w words of row i have the tests of their columns, the others are as before
 pub record CellsTo (test : ℕ → Bool) (i : ℕ) (before now : List ℕ) (w : ℕ) : Type 0 where

@@ -12,6 +12,7 @@ pub mod SameRaces
 pub mod Demand3
 pub mod NextRace
 pub mod Warshall
+pub mod WordBits
 pub mod BitRows
 pub mod ListPlaces
 pub mod AccessRows

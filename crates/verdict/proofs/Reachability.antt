@@ -55,7 +55,7 @@ sameBorder-self (ofRegion t) = eq-eqb t t refl
 pub eq-sameBorder : (a b : Border) → a ≡ b → sameBorder a b ≡ true
 eq-sameBorder a b e = rw e (sameBorder-self b)
 
--- a border that passes has a number
+-- a border that is a barrier has a number
 barrier-number : (o : Border) → isBarrier o ≡ true → (n : ℕ) × (o ≡ ofBarrier n)
 unfolding isBarrier
 barrier-number ofChunk e = false-is-true e

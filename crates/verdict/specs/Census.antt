@@ -1,4 +1,4 @@
--- What the judge's parts give: the tables in the work area, and the counts of an accepted bundle.
+-- Inner: what the judge's parts give: the tables in the work area, and the counts of an accepted bundle.
 use Prim.Native.Nat.{ℕ, _≤_}
 use mathlib.Core.Path.{_≡_}
 use mathlib.Core.Bool.{cond}

@@ -1,4 +1,4 @@
--- The edges between a bundle's segments as a test on the numbers in the judge's tables.
+-- Inner: the edges between a bundle's segments as a test on the numbers in the judge's tables.
 use Prim.Native.Nat.{ℕ, _+_, _≤_, _<_}
 use mathlib.Core.Path.{_≡_}
 use mathlib.Core.Bool.{Bool, _||_}

@@ -1,4 +1,4 @@
--- The pass that fills the judge's tables: where it is, what each command changes, and what the tables hold at the end.
+-- Inner: the pass that fills the judge's tables: where it is, what each command changes, and what the tables hold at the end.
 use Prim.Native.Nat.{ℕ, _+_, _≤_, _<_}
 use mathlib.Core.Path.{_≡_}
 use mathlib.Core.Bool.{true, false}

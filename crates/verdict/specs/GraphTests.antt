@@ -7,6 +7,7 @@ use lib.Dec.{eqb}
 use Rattle.bundle.specs.Lists.{any, passing, concatMap}
 use Rattle.bundle.specs.Walk.{Node, Border, ofChunk, ofBarrier, ofRegion, Segment}
 
+-- equal nodes, and equal borders
 unfoldable pub sameNode : Node → Node → Bool
 sameNode a b = eqb (a .team) (b .team) && eqb (a .member) (b .member) && eqb (a .number) (b .number)
 

@@ -1,4 +1,4 @@
--- Reachability as bits: 512 rows of 512 bits in 8,192 words of 32 bits, 16 words a row.
+-- Inner: reachability as bits: 512 rows of 512 bits in 8,192 words of 32 bits, 16 words a row.
 use Prim.Native.Nat.{ℕ, zero, suc, _+_, _*_, _/_, _%_, _^_, _≤_, _<_}
 use mathlib.Core.Path.{_≡_}
 use mathlib.Core.Logic.{_↔_}

@@ -1,4 +1,4 @@
--- What the loops over all pairs of accesses compute, from the rows of the accesses and the bits of the matrix.
+-- Inner: what the loops over all pairs of accesses compute, from the rows of the accesses and the bits of the matrix.
 use Prim.Native.Nat.{ℕ, zero, suc, _+_, _*_, _/_, _%_, _≤_, _<_}
 use mathlib.Core.Path.{_≡_}
 use mathlib.Core.Bool.{Bool, true, false, cond, not, _&&_, _||_}

@@ -1,4 +1,4 @@
--- What the judge's tables hold: of a segment three numbers, of an access a row of eight words.
+-- Inner: what the judge's tables hold: of a segment three numbers, of an access a row of eight words.
 use Prim.Native.Nat.{ℕ, _+_, _*_, _/_, _%_, _≤_, _<_}
 use mathlib.Core.Path.{_≡_}
 use mathlib.Core.Bool.{true}
@@ -13,7 +13,8 @@ use Rattle.verdict.specs.Accesses.{NamedAccess}
 use Rattle.verdict.specs.declared.rows.AccessRow.{AccessRow}
 
 -- an event at which segments end and are opened, as a number: the fork of a team (0), its join (1), its barrier of a number (2).
--- A bundle has at most 512 segments, so that these numbers have 32 bits
+-- In an accepted bundle a barrier's number is below 512, and the remainder changes nothing; with it these numbers have 32 bits whatever the
+-- barrier's number is
 abbrev pub eventCode : ℕ → ℕ → ℕ → ℕ
 eventCode kind number team = kind + 4 * (number % 512 + 512 * team)
 
@@ -29,7 +30,9 @@ openCode team ofChunk = eventCode 0 0 team
 openCode team (ofBarrier n) = eventCode 2 n team
 openCode team (ofRegion t) = eventCode 1 0 t
 
--- a segment's team, member and number as one number
+-- a segment's team, member and number as one number. In an accepted bundle the segment's number is below 512 and the member's below 64, and
+-- the remainders change nothing; with them the number has 32 bits whatever the segment is. By 1024 and not 512, so that one more than the
+-- last segment's is not the number of the next member's segment 0
 unfoldable pub nodeCode : Node → ℕ
 nodeCode n = n .number % 1024 + 1024 * (n .member % 64 + 64 * n .team)
 

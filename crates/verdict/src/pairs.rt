@@ -117,7 +117,7 @@ fn pack_key(witness: u32, first: Name, second: Name) -> Packed
     }
 }
 
-// Whether one key comes before another.
+// Whether a witness and two names come before those of a race.
 fn key_below(witness: u32, first: Name, second: Name, race: Race) -> bool
     ensures { λ r. ⌜ r ≡ lexLess (keyOf witness first second) (raceKey race) ⌝ }
 {

@@ -2,7 +2,7 @@
 use borrow.Author.Needs.{needs}
 use Prim.Native.Nat.{_≤_, _-_}
 use Rattle.verdict.specs.Edges.{edgeColumn}
-use Rattle.verdict.proofs.EdgeWords.{BitsTo, bits-none, bits-more, bits-all}
+use Rattle.verdict.proofs.WordBits.{BitsTo, bits-none, bits-more, bits-all}
 use Rattle.verdict.proofs.edges.edge_word.Statement.{statement}
 use Rattle.verdict.proofs.edges.edge_word.Tie as tie
 

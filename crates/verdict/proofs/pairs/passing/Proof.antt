@@ -3,7 +3,7 @@ use Prim.Native.Nat.{ℕ, _≤_, _-_}
 use borrow.Author.Needs.{needs}
 use Rattle.verdict.specs.Working.{accessRowAt}
 use Rattle.verdict.specs.Tallying.{rowsPass}
-use Rattle.verdict.proofs.EdgeWords.{BitsTo, bits-none, bits-more, bits-all}
+use Rattle.verdict.proofs.WordBits.{BitsTo, bits-none, bits-more, bits-all}
 use Rattle.verdict.proofs.pairs.passing.Statement.{statement}
 use Rattle.verdict.proofs.pairs.passing.Tie as tie
 
