@@ -1,6 +1,7 @@
 -- Laws over the definitions.
 pub mod Widths
 pub mod Making
+pub mod SideTable
 pub mod Assembling
 pub mod LineEnds
 pub mod Printing

@@ -35,7 +35,7 @@ pub numberIn : ℕ → List ℕ → ℕ
 numberIn base [] = 0
 numberIn base (byte ∷ bytes) = valueOf byte * base ^ length bytes + numberIn base bytes
 
-length-digits : (base k n : ℕ) → length (digits base k n) ≡ k
+pub length-digits : (base k n : ℕ) → length (digits base k n) ≡ k
 unfolding digits
 length-digits base zero n = refl
 length-digits base (suc k) n = ap suc (length-digits base k n)

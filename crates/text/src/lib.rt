@@ -2,3 +2,4 @@
 mod digits;
 pub mod lines;
 mod pieces;
+pub mod sides;

@@ -12,7 +12,7 @@ ghost use Rattle.text.specs.Lines.{countsLine, raceLine, pairsLine, race
 ghost use Rattle.text.specs.Inner.{Extended};
 
 // Puts a line at a position.
-fn put_line(line: &[u8], buffer: &mut [u8], position: usize) -> Putting
+pub fn put_line(line: &[u8], buffer: &mut [u8], position: usize) -> Putting
     requires { ⌜ 1 ≤ length (now line) ⌝ }
     ensures { λ r. ⌜ printedAt (now (line .entry)) (now (buffer .entry)) position ≡ record { answer = puttingOf r; buffer = now (buffer .exit) } ⌝ }
 {

@@ -1,0 +1,6 @@
+-- Laws over the definitions.
+pub mod Indexing
+pub mod Lengths
+pub mod Texts
+pub mod Paging
+pub mod WholeText

@@ -1,0 +1,46 @@
+// Prints the listing of the bundle on standard input: the counts, each race, and the last line; or the refusal.
+mod print;
+
+use libc::STDIN_FILENO;
+use listing::list::Listed;
+use listing::list::list_races;
+use print::print_few;
+use print::print_many;
+use print::print_refused;
+
+// Lists with room for the races of any bundle. Where even that were too little it would call itself: the compiler keeps a function that
+// does so apart from its caller, so that a small bundle does not pay for 6 MB of stack.
+fn list_many(bytes: &[u8], turns: u32) {
+    if turns < 1 {
+        return;
+    }
+    let mut work = [0u32; 16384];
+    let mut names = [0u64; 1024];
+    let mut numbers = [0u64; 523776];
+    let mut spare = [0u64; 261888];
+    match list_races(bytes, &mut work, &mut names, &mut numbers, &mut spare) {
+        Listed::Whole(totals) => print_many(totals, &names, &numbers),
+        Listed::TooMany(_) => list_many(bytes, turns - 1),
+        Listed::Refused { place, cause } => print_refused(place, cause),
+    }
+}
+
+// Lists with room for few races first: most bundles have no more.
+fn list(bytes: &[u8]) {
+    let mut work = [0u32; 16384];
+    let mut names = [0u64; 1024];
+    let mut numbers = [0u64; 4096];
+    let mut spare = [0u64; 2048];
+    match list_races(bytes, &mut work, &mut names, &mut numbers, &mut spare) {
+        Listed::Whole(totals) => print_few(totals, &names, &numbers),
+        Listed::TooMany(_) => list_many(bytes, 1),
+        Listed::Refused { place, cause } => print_refused(place, cause),
+    }
+}
+
+// One byte more than a bundle may have is read, so that a longer input is refused as too long.
+fn main() {
+    let mut bytes = [0u8; 65537];
+    let size = io::read_full(STDIN_FILENO, &mut bytes);
+    list(&bytes[..size]);
+}
