@@ -17,9 +17,9 @@ use Rattle.bundle.proofs.Tests.{cond-elim}
 use Rattle.verdict.specs.declared.race.Race.{Race}
 use Rattle.text.specs.Lines.{countsLine, raceLine, pairsLine, raceFreeLine, printedAt}
 use Rattle.text.proofs.LineEnds.{line-some, counts-ends, race-ends, pairs-ends, race-free-ends}
-use Rattle.listing.specs.Listing.{raceIn}
+use Rattle.listing.specs.Listing.{racesIn, raceIn}
 use Rattle.listing.specs.declared.list.Totals.{Totals}
-use Rattle.pages.specs.Listings.{lastLine, linesOf, racesIn, linesIn}
+use Rattle.pages.specs.Listings.{lastLine, linesOf, linesIn}
 
 -- how many of the races have a number
 pub shown-few : (races : ℕ) (numbers : List ℕ) → length numbers < races → length numbers ≡ length (take races numbers)

@@ -20,9 +20,9 @@ use Rattle.bundle.specs.declared.command.Putting.the-variants as Put
 use Rattle.verdict.specs.Races.{racesOf}
 use Rattle.text.specs.Lines.{printedAt}
 use Rattle.text.proofs.Making.{word-written}
-use Rattle.listing.specs.Listing.{totalsOf, over}
+use Rattle.listing.specs.Listing.{racesIn, totalsOf, over}
 use Rattle.pages.specs.declared.fill.Page.{Page}
-use Rattle.pages.specs.Listings.{listingText, linesOf, racesIn, linesIn, pageOf, Filled, pageFrom}
+use Rattle.pages.specs.Listings.{listingText, linesOf, linesIn, pageOf, Filled, pageFrom}
 use Rattle.pages.specs.Inner.{PutNext}
 use Rattle.pages.proofs.Paging.{page-more, page-none, page-over, back-append, over-length, next-written}
 use Rattle.pages.proofs.Lengths.{Small, line-within}

@@ -5,7 +5,7 @@ use Prim.Native.Nat.{ℕ, _+_, _-_}
 use mathlib.Core.Bool.{true, false, cond}
 use mathlib.Core.List.{List, [], _∷_, _++_, map}
 use lib.Dec.{eqb, leb}
-use lib.ListN.{length, take, drop}
+use lib.ListN.{length, drop}
 use Rattle.bundle.specs.Lists.{backToBack}
 use Rattle.bundle.specs.Answer.{gives, refuses}
 use Rattle.bundle.specs.Chunks.{chunksOf}
@@ -13,7 +13,7 @@ use Rattle.bundle.specs.Check.{checkOf}
 use Rattle.verdict.specs.Races.{racesOf}
 use Rattle.verdict.specs.declared.race.Race.{Race}
 use Rattle.text.specs.Lines.{countsLine, raceLine, pairsLine, raceFreeLine, refusedLine}
-use Rattle.listing.specs.Listing.{raceIn, totalsOf, over}
+use Rattle.listing.specs.Listing.{racesIn, totalsOf, over}
 use Rattle.listing.specs.declared.list.Totals.{Totals}
 use Rattle.pages.specs.declared.fill.Page.{Page}
 
@@ -33,11 +33,7 @@ listingText s =
       | refuses n p ↦ refusedLine n p
     ]
 
--- the races that stand in lent memory: so many of the numbers as there are races
-abbrev pub racesIn : Totals → List ℕ → List ℕ → List Race
-racesIn t names numbers = map (raceIn names) (take (t .races) numbers)
-
--- and the lines of their listing
+-- the lines of the listing that stands in lent memory
 unfoldable pub linesIn : Totals → List ℕ → List ℕ → List (List ℕ)
 linesIn t names numbers = linesOf t (racesIn t names numbers)
 

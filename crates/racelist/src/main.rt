@@ -25,12 +25,16 @@ fn list_many(bytes: &[u8], turns: u32) {
     }
 }
 
-// Lists with room for few races first: most bundles have no more.
+// Lists with room for as many races as a short bundle can have: in 1,568 bytes there are at most 130 accesses, and so 8,385 pairs.
 fn list(bytes: &[u8]) {
+    if 1568 < bytes.len() {
+        list_many(bytes, 1);
+        return;
+    }
     let mut work = [0u32; 16384];
     let mut names = [0u64; 1024];
-    let mut numbers = [0u64; 4096];
-    let mut spare = [0u64; 2048];
+    let mut numbers = [0u64; 8448];
+    let mut spare = [0u64; 4224];
     match list_races(bytes, &mut work, &mut names, &mut numbers, &mut spare) {
         Listed::Whole(totals) => print_few(totals, &names, &numbers),
         Listed::TooMany(_) => list_many(bytes, 1),
