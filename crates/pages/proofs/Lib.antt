@@ -3,4 +3,5 @@ pub mod Indexing
 pub mod Lengths
 pub mod Texts
 pub mod Paging
+pub mod Counts
 pub mod WholeText

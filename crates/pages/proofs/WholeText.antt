@@ -25,7 +25,8 @@ use Rattle.pages.specs.declared.fill.Page.{Page}
 use Rattle.pages.specs.Listings.{listingText, linesOf, linesIn, pageOf, Filled, pageFrom}
 use Rattle.pages.specs.Inner.{PutNext}
 use Rattle.pages.proofs.Paging.{page-more, page-none, page-over, back-append, over-length, next-written}
-use Rattle.pages.proofs.Lengths.{Small, line-within}
+use Rattle.pages.proofs.Lengths.{line-within}
+use Rattle.pages.proofs.Counts.{counts-small}
 
 -- a page takes no more than its room
 pub page-room : (lines : List (List ℕ)) (room : ℕ) → length (backToBack (pageOf room lines)) ≤ room
@@ -115,13 +116,13 @@ pages-whole (suc turns) room lines from fit h = go (pages-whole turns room lines
         ∙ sym (ap backToBack cut ∙ back-append page (drop (from + length page) lines))
 
 -- the pages of the program: with buffers of 96 bytes or more, so many turns as there are lines write the listing of the bundle
-pub whole-text : (s names numbers : List ℕ) (room turns : ℕ) → Accepted s → Small (totalsOf (chunksOf s))
+pub whole-text : (s names numbers : List ℕ) (room turns : ℕ) → Accepted s
     → racesIn (totalsOf (chunksOf s)) names numbers ≡ racesOf (chunksOf s) → 96 ≤ room
     → length (linesIn (totalsOf (chunksOf s)) names numbers) ≤ turns
     → pagesFrom turns room (linesIn (totalsOf (chunksOf s)) names numbers) 0 ≡ listingText s
 unfolding linesIn listingText
-whole-text s names numbers room turns a small races h enough =
+whole-text s names numbers room turns a races h enough =
     let t = totalsOf (chunksOf s) in
-    pages-whole turns room (linesIn t names numbers) 0 (λ i l. omega (arith, line-within t names numbers small i l)) (omega (arith, enough))
+    pages-whole turns room (linesIn t names numbers) 0 (λ i l. omega (arith, line-within t names numbers (counts-small s a) i l)) (omega (arith, enough))
     ∙ ap (λ (rs : List _). backToBack (linesOf t rs)) races
     ∙ rw (a, listingText)
