@@ -2,14 +2,12 @@
 use verdict::race::Name;
 use verdict::race::Race;
 ghost use mathlib.Core.Path.{_≡_};
-ghost use Prim.Native.Nat.{_<_};
 ghost use lib.ListN.{getD};
 ghost use Rattle.verdict.specs.Tallying.{nameIn};
 ghost use Rattle.listing.specs.Listing.{numberFor, raceIn};
 
-// The number of a race: 32 bits, and 10 and 10.
+// The number of a race: 32 bits, and 10 and 10 for ranks below 1,024.
 pub fn number_of(witness: u32, first: u32, second: u32) -> u64
-    requires { ⌜ (first < 1024) × (second < 1024) ⌝ }
     ensures { λ r. ⌜ r ≡ numberFor witness first second ⌝ }
 {
     witness as u64 * 1048576 + first as u64 * 1024 + second as u64
