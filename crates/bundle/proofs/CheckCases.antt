@@ -21,7 +21,7 @@ use Rattle.bundle.specs.Shape.{shapeByRows}
 use Rattle.bundle.specs.Survey.{InTables, Surveyed}
 use Rattle.bundle.specs.Find.{Ends, endsOf, endsByRows, indexedAs, IndexedAs, handedBack}
 use Rattle.bundle.specs.declared.refusal.Cause.{Cause}
-use Rattle.bundle.specs.declared.chunk.Scan.{Scan}
+use Rattle.bundle.specs.declared.scan.Scan.{Scan}
 use Rattle.bundle.specs.declared.index.ChunkRow.{ChunkRow}
 use Rattle.bundle.specs.declared.survey.Survey.{Survey}
 use Rattle.bundle.specs.declared.survey.Survey.the-variants as Surveys

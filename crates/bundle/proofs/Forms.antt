@@ -11,7 +11,7 @@ use borrow.Author.Tests.{leb-true, ltb-true, eqb-true, ne-eqb}
 use lib.Dec.{eqb, ltb, leb}
 use Rattle.bundle.specs.Commands.{
   kindOf,
-  byteOf,
+  kindByte,
   Form,
   accessWidths,
   accessForm,
@@ -36,8 +36,8 @@ pub record Known (b : ℕ) : Type 0 where
   pub is : formOf b ≡ some form
 
 -- what holds of the four kinds' bytes holds of 0x30 to 0x33
-access-elim : (P : ℕ → Type 0) → ((k : AccessKind) → P (byteOf k)) → (b : ℕ) → 0x30 ≤ b → b < 0x34 → P b
-unfolding byteOf
+access-elim : (P : ℕ → Type 0) → ((k : AccessKind) → P (kindByte k)) → (b : ℕ) → 0x30 ≤ b → b < 0x34 → P b
+unfolding kindByte
 access-elim P f b l h = go (ℕ-discrete b 0x30) (ℕ-discrete b 0x31) (ℕ-discrete b 0x32)
   where
     go : Dec (b ≡ 0x30) → Dec (b ≡ 0x31) → Dec (b ≡ 0x32) → P b
@@ -48,15 +48,15 @@ access-elim P f b l h = go (ℕ-discrete b 0x30) (ℕ-discrete b 0x31) (ℕ-disc
         let e : b ≡ 0x33 = omega arith in
         subst P (sym e) (f Kind.AtomicWrite)
 
-kind-byte : (k : AccessKind) → kindOf (byteOf k) ≡ k
-unfolding kindOf byteOf
+kind-byte : (k : AccessKind) → kindOf (kindByte k) ≡ k
+unfolding kindOf kindByte
 kind-byte Kind.Read = refl
 kind-byte Kind.Write = refl
 kind-byte Kind.AtomicRead = refl
 kind-byte Kind.AtomicWrite = refl
 
-access-form : (k : AccessKind) → formOf (byteOf k) ≡ accessForm (kindOf (byteOf k))
-unfolding formOf kindOf byteOf
+access-form : (k : AccessKind) → formOf (kindByte k) ≡ accessForm (kindOf (kindByte k))
+unfolding formOf kindOf kindByte
 access-form Kind.Read = refl
 access-form Kind.Write = refl
 access-form Kind.AtomicRead = refl
@@ -65,10 +65,10 @@ access-form Kind.AtomicWrite = refl
 pub form-of-access : (b : ℕ) → 0x30 ≤ b → b < 0x34 → formOf b ≡ accessForm (kindOf b)
 form-of-access = access-elim (λ (b : ℕ). formOf b ≡ accessForm (kindOf b)) access-form
 
-byte-kind : (b : ℕ) → 0x30 ≤ b → b < 0x34 → byteOf (kindOf b) ≡ b
-byte-kind = access-elim (λ (b : ℕ). byteOf (kindOf b) ≡ b) (λ k. ap byteOf (kind-byte k))
+byte-kind : (b : ℕ) → 0x30 ≤ b → b < 0x34 → kindByte (kindOf b) ≡ b
+byte-kind = access-elim (λ (b : ℕ). kindByte (kindOf b) ≡ b) (λ k. ap kindByte (kind-byte k))
 
-access-known : (k : AccessKind) → formOf (byteOf k) ≡ accessForm k
+access-known : (k : AccessKind) → formOf (kindByte k) ≡ accessForm k
 access-known k = access-form k ∙ ap accessForm (kind-byte k)
 
 -- a command's byte has a form, which makes the command of its operands
@@ -152,11 +152,11 @@ same-cons e q = rw (e, q)
 
 -- an access's widths, whatever its kind
 module _ (a : Access) where
-  access-widths : widthsOf (byteOf (a .kind)) ≡ accessWidths
+  access-widths : widthsOf (kindByte (a .kind)) ≡ accessWidths
   unfolding widthsOf
   access-widths = rw (access-known (a .kind))
 
-  pub access-bytes : bytesOf (Com.Access a) ≡ byteOf (a .kind) ∷ operandBytes accessWidths (codeOf (Com.Access a) .operands)
+  pub access-bytes : bytesOf (Com.Access a) ≡ kindByte (a .kind) ∷ operandBytes accessWidths (codeOf (Com.Access a) .operands)
   unfolding bytesOf codeOf
   access-bytes = rw access-widths
 

@@ -11,7 +11,7 @@ use Rattle.bundle.specs.Commands.{bytesOf}
 use Rattle.bundle.specs.Chunks.{Placed, Chunk, Gathered, gatherOne, gather}
 unfoldable pub use Rattle.bundle.specs.Index.{logOf}
 use Rattle.bundle.specs.Scan.{isMember, misplaced, start, scanned}
-use Rattle.bundle.specs.declared.chunk.Scan.{Scan}
+use Rattle.bundle.specs.declared.scan.Scan.{Scan}
 use Rattle.bundle.specs.declared.command.Command.{Command}
 use Rattle.bundle.specs.declared.command.Command.the-variants as Com
 use Rattle.bundle.proofs.Tests.{false-is-true}

@@ -19,7 +19,7 @@ use Rattle.bundle.specs.Scan.{aboveOwnTeam, start, scanned}
 use Rattle.bundle.specs.Check.{Accepted}
 use Rattle.bundle.specs.declared.index.Fork.{Fork}
 use Rattle.bundle.specs.declared.chunk.ChunkState.{ChunkState}
-use Rattle.bundle.specs.declared.chunk.Scan.{Scan}
+use Rattle.bundle.specs.declared.scan.Scan.{Scan}
 use Rattle.bundle.specs.declared.command.Command.{Command}
 use Rattle.bundle.specs.declared.command.Command.the-variants as Com
 use Rattle.bundle.proofs.Tests.{decide}

@@ -18,12 +18,12 @@ use Rattle.bundle.specs.Scan.{isMember, misplaced, tooMany, faultOf, sta
 use Rattle.bundle.specs.Index.{chunkRowAt, forkRowAt, tableFrom, table, Added, total, logOf, chunkRow, rowsFrom, chunkRows}
 use Rattle.bundle.specs.Survey.{Bounded, Stepped, testedAt, stepAt, beginning, openedAt, closedRow, forkHere, passAfter, newChunks, newForks, Notable, Noted, openRow, rowsBehind, chunksToCome, forksToCome, Surveying, finished, Surveyed}
 use Rattle.bundle.specs.declared.chunk.ChunkState.{ChunkState}
-use Rattle.bundle.specs.declared.chunk.Scan.{Scan}
+use Rattle.bundle.specs.declared.scan.Scan.{Scan}
 use Rattle.bundle.specs.declared.command.Command.{Command}
 use Rattle.bundle.specs.declared.command.Command.the-variants as Com
 use Rattle.bundle.specs.declared.index.ChunkRow.{ChunkRow}
 use Rattle.bundle.specs.declared.index.Fork.{Fork}
-use Rattle.bundle.specs.declared.survey.Pass.{Pass}
+use Rattle.bundle.specs.declared.survey.Progress.{Progress}
 use Rattle.bundle.specs.declared.survey.Survey.{Survey}
 use Rattle.bundle.specs.declared.survey.Survey.the-variants as Surveys
 use Rattle.bundle.specs.declared.refusal.Cause.the-variants as Causes
@@ -52,7 +52,7 @@ inside-closes k c h e = out (k .inside) (rw (on-closes false (λ t m. true) fals
     out false q = sym q
 
 -- neither a plain command's scan nor the chunk that is open changes but for the state and the counts
-record Continued (p : Pass) (c : Command) (next : ℕ) : Type 0 where
+record Continued (p : Progress) (c : Command) (next : ℕ) : Type 0 where
   scan :
       scanned (p .scan) c
       ≡ record {
@@ -72,7 +72,7 @@ record Continued (p : Pass) (c : Command) (next : ℕ) : Type 0 where
         forks = onRegion (p .forks) (λ t z. p .forks + 1) c;
       }
 
-continued : (p : Pass) (c : Command) (next : ℕ) → plain c ≡ true → Continued p c next
+continued : (p : Progress) (c : Command) (next : ℕ) → plain c ≡ true → Continued p c next
 continued p c next h =
     record {
       scan =
@@ -88,11 +88,11 @@ continued p c next h =
     }
 
 -- what is to come of the rows, with the scan's parts by name
-module _ (p : Pass) (next : ℕ) (ps : List Placed) (c : Command) where
+module _ (p : Progress) (next : ℕ) (ps : List Placed) (c : Command) where
   abbrev here : Placed
   here = record { at = p .at; command = c }
 
-  abbrev after : Pass
+  abbrev after : Progress
   after = passAfter p c (scanned (p .scan) c) next
 
   abbrev Comes : Type 0
@@ -110,7 +110,7 @@ forks-any t m k g n (p ∷ ps) =
     let n′ = addsAccess (p .command) in
     rw (forks-any t m k′ (g + g′) (n + n′) ps, forks-any t m k′ (0 + g′) (0 + n′) ps)
 
-comes-opens : (p : Pass) (next : ℕ) (ps : List Placed) (t m : ℕ) → p .scan .inside ≡ false → Comes p next ps (Com.Member t m)
+comes-opens : (p : Progress) (next : ℕ) (ps : List Placed) (t m : ℕ) → p .scan .inside ≡ false → Comes p next ps (Com.Member t m)
 unfolding chunksToCome forksToCome newChunks newForks passAfter scanned gatherOne openRow rowsBehind openedAt rowsFrom chunkRow total logOf barriersOf commandsOf forksOf forksIn entriesOf opensSegment addsAccess
 comes-opens p next ps t m e =
     let cs = map (λ (q : Placed). q .command) (gather ps .body) in
@@ -121,7 +121,7 @@ comes-opens p next ps t m e =
       refl,
     )
 
-comes-closes : (p : Pass) (next : ℕ) (ps : List Placed) (c : Command) → closes c ≡ true → p .scan .inside ≡ true → Comes p next ps c
+comes-closes : (p : Progress) (next : ℕ) (ps : List Placed) (c : Command) → closes c ≡ true → p .scan .inside ≡ true → Comes p next ps c
 unfolding chunksToCome forksToCome newChunks newForks passAfter scanned openRow rowsBehind closedRow forkHere total afterCommands entriesFrom forkAt gather rowsFrom forksOf
 comes-closes p next ps c h e =
     rw (
@@ -136,7 +136,7 @@ comes-closes p next ps c h e =
     )
     (refl, ap (λ (fs : List Fork). fs ++ forksOf (gather ps .chunks)) (append-nil (newForks p c)))
 
-comes-plain : (p : Pass) (next : ℕ) (ps : List Placed) (c : Command) → plain c ≡ true → p .scan .inside ≡ true → Comes p next ps c
+comes-plain : (p : Progress) (next : ℕ) (ps : List Placed) (c : Command) → plain c ≡ true → p .scan .inside ≡ true → Comes p next ps c
 unfolding chunksToCome forksToCome newChunks newForks openRow rowsBehind forkHere total afterCommands entriesFrom forkAt gather rowsFrom closedRow forksOf
 comes-plain p next ps c h e =
     let d = continued p c next h in
@@ -156,7 +156,7 @@ comes-plain p next ps c h e =
           ∙ ap (λ (fs : List Fork). newForks p c ++ (fs ++ forksOf (gather ps .chunks))) (forks-any (p .scan .team) (p .chunk .member) k (0 + opensSegment c) (0 + addsAccess c) (gather ps .body)),
     )
 
-comes : (p : Pass) (next : ℕ) (ps : List Placed) (c : Command) → misplaced (p .scan) c ≡ false → Comes p next ps c
+comes : (p : Progress) (next : ℕ) (ps : List Placed) (c : Command) → misplaced (p .scan) c ≡ false → Comes p next ps c
 comes p next ps c e = go c (delimits c) e
   where
     go : (c : Command) → Delimiter c → misplaced (p .scan) c ≡ false → Comes p next ps c
@@ -181,7 +181,7 @@ fork-opens n c = go c (forkings c)
     go c (forks-team t z) = unfold opensSegment in (omega arith)
     go c (forks-none h) = rw (on-other n (λ t z. n + 1) c h) (omega arith)
 
-module _ (p : Pass) (next : ℕ) where
+module _ (p : Progress) (next : ℕ) where
   abbrev Counts : Command → Type 0
   Counts c =
       Bounded (scanned (p .scan) c)
@@ -278,7 +278,7 @@ not-misplaced k c e =
     (false-of-not (misplaced k c) (tested k c (n .0) .in-place), n .1)
 
 -- the fuel left, where the bundle goes on
-record More (s : List ℕ) (p : Pass) (chunks forks : List ℕ) : Type 0 where
+record More (s : List ℕ) (p : Progress) (chunks forks : List ℕ) : Type 0 where
   fuel : ℕ
   enough : length s ≤ p .at + suc fuel
   scan-rest : walk (follow (frontFrom fuel s) (p .at) (decodeAt s (p .at)) .placed) (follow (frontFrom fuel s) (p .at) (decodeAt s (p .at)) .stop) (p .scan) ≡ scanOf s
@@ -287,7 +287,7 @@ record More (s : List ℕ) (p : Pass) (chunks forks : List ℕ) : Type 0 where
   fork-rest :
       table (forkRowAt forks) (p .forks) ++ forksToCome p (gather (follow (frontFrom fuel s) (p .at) (decodeAt s (p .at)) .placed)) ≡ forksOf (chunksOf s)
 
-more : {s : List ℕ} {p : Pass} {chunks forks : List ℕ} → p .at < length s → Surveying s p chunks forks → More s p chunks forks
+more : {s : List ℕ} {p : Progress} {chunks forks : List ℕ} → p .at < length s → Surveying s p chunks forks → More s p chunks forks
 more {s} {p} {chunks} {forks} h v = go (v .fuel) (v .enough) (v .scan-rest) (v .chunk-rest) (v .fork-rest)
   where
     go :
@@ -303,7 +303,7 @@ more {s} {p} {chunks} {forks} h v = go (v .fuel) (v .enough) (v .scan-rest) (v .
         record { fuel = f; enough = e; scan-rest = rw q at w; chunk-rest = rw q at x; fork-rest = rw q at y }
 
 pub stopped :
-    {s : List ℕ} {p : Pass} {chunks forks : List ℕ} (n q : ℕ)
+    {s : List ℕ} {p : Progress} {chunks forks : List ℕ} (n q : ℕ)
     → p .at < length s
     → Surveying s p chunks forks
     → stepAt s (p .at) (p .scan) ≡ refuses n q
@@ -315,7 +315,7 @@ stopped {s} {p} n q h v e =
 
 -- before a command that passes there is room for a row
 room-for :
-    (p : Pass) (c : Command)
+    (p : Progress) (c : Command)
     → misplaced (p .scan) c ≡ false
     → tooMany (p .scan) c ≡ false
     → Bounded (p .scan)
@@ -335,7 +335,7 @@ room-for p c e l b f = go c (delimits c) e (room (p .scan) c l .0)
     go c (closes-chunk h) q r = inner (inside-closes (p .scan) c h q)
     go c (neither h) q r = inner (inside-plain (p .scan) c h q)
 
-module _ {s : List ℕ} {p : Pass} {chunks forks : List ℕ} (h : p .at < length s) (v : Surveying s p chunks forks) (st : Stepped)
+module _ {s : List ℕ} {p : Progress} {chunks forks : List ℕ} (h : p .at < length s) (v : Surveying s p chunks forks) (st : Stepped)
     (e : stepAt s (p .at) (p .scan) ≡ gives st) where
   given : Gave (p .scan) (decodeAt s (p .at)) st
   unfolding stepAt
@@ -354,7 +354,7 @@ module _ {s : List ℕ} {p : Pass} {chunks forks : List ℕ} (h : p .at < length
 
   -- with the scan's own step
   went :
-      (r : Pass) (chunks′ forks′ : List ℕ)
+      (r : Progress) (chunks′ forks′ : List ℕ)
       → length chunks′ ≡ 1024
       → length forks′ ≡ 1536
       → r ≡ passAfter p (st .command) (scanned (p .scan) (st .command)) (st .next)
@@ -369,8 +369,8 @@ module _ {s : List ℕ} {p : Pass} {chunks forks : List ℕ} (h : p .at < length
       let o = not-misplaced (p .scan) c (g .sound) in
       let n = counts p (st .next) c (o .0) (o .1) (v .bounded) (v .few) in
       let d = decode-next s (p .at) (record { command = c; next = st .next }) (g .decodes) in
-      let at : r .at ≡ st .next = ap (λ (z : Pass). z .at) q ∙ unfold passAfter in refl in
-      let scan : r .scan ≡ k = ap (λ (z : Pass). z .scan) q ∙ unfold passAfter in refl in
+      let at : r .at ≡ st .next = ap (λ (z : Progress). z .at) q ∙ unfold passAfter in refl in
+      let scan : r .scan ≡ k = ap (λ (z : Progress). z .scan) q ∙ unfold passAfter in refl in
       let rest = frontFrom (m .fuel) s (st .next) in
       let to-come = comes p (st .next) (rest .placed) c (o .0) in (
         omega (arith, d .0, at),
@@ -388,14 +388,14 @@ module _ {s : List ℕ} {p : Pass} {chunks forks : List ℕ} (h : p .at < length
               ap (λ (z : ℕ). table (chunkRowAt chunks′) (r .chunks) ++ chunksToCome r (gather (frontFrom (m .fuel) s z .placed))) at
               ∙ ap (λ (l : List ChunkRow). l ++ chunksToCome r (gather (rest .placed))) x
               ∙ append-assoc (table (chunkRowAt chunks) (p .chunks)) (newChunks p c) (chunksToCome r (gather (rest .placed)))
-              ∙ ap (λ (z : Pass). table (chunkRowAt chunks) (p .chunks) ++ (newChunks p c ++ chunksToCome z (gather (rest .placed)))) q
+              ∙ ap (λ (z : Progress). table (chunkRowAt chunks) (p .chunks) ++ (newChunks p c ++ chunksToCome z (gather (rest .placed)))) q
               ∙ ap (λ (l : List ChunkRow). table (chunkRowAt chunks) (p .chunks) ++ l) (sym (to-come .0))
               ∙ placed-chunks (m .fuel) (g .decodes) (m .chunk-rest);
           fork-rest =
               ap (λ (z : ℕ). table (forkRowAt forks′) (r .forks) ++ forksToCome r (gather (frontFrom (m .fuel) s z .placed))) at
               ∙ ap (λ (l : List Fork). l ++ forksToCome r (gather (rest .placed))) y
               ∙ append-assoc (table (forkRowAt forks) (p .forks)) (newForks p c) (forksToCome r (gather (rest .placed)))
-              ∙ ap (λ (z : Pass). table (forkRowAt forks) (p .forks) ++ (newForks p c ++ forksToCome z (gather (rest .placed)))) q
+              ∙ ap (λ (z : Progress). table (forkRowAt forks) (p .forks) ++ (newForks p c ++ forksToCome z (gather (rest .placed)))) q
               ∙ ap (λ (l : List Fork). table (forkRowAt forks) (p .forks) ++ l) (sym (to-come .1))
               ∙ placed-forks (m .fuel) (g .decodes) (m .fork-rest);
         },
@@ -427,7 +427,7 @@ module _ {s : List ℕ} {p : Pass} {chunks forks : List ℕ} (h : p .at < length
       placed-forks f w a = unfold follow gather in (rw w at a)
 
   pub went-on :
-      (r : Pass) (chunks′ forks′ : List ℕ)
+      (r : Progress) (chunks′ forks′ : List ℕ)
       → Noted p (st .command) (st .scan) (st .next) r chunks forks chunks′ forks′
       → (p .at < r .at) × Surveying s r chunks′ forks′
   went-on r chunks′ forks′ n =
@@ -435,7 +435,7 @@ module _ {s : List ℕ} {p : Pass} {chunks forks : List ℕ} (h : p .at < length
 
 -- the pass at the front, and at the end
 pub surveying-start :
-    (s : List ℕ) (p : Pass) (chunks forks : List ℕ)
+    (s : List ℕ) (p : Progress) (chunks forks : List ℕ)
     → p ≡ beginning
     → length s ≤ 65536
     → length chunks ≡ 1024
@@ -464,7 +464,7 @@ pick-true b x y e = rw e
 pick-false : {A : Type 0} (b : Bool) (x y : A) → b ≡ false → cond b x y ≡ y
 pick-false b x y e = rw e
 
-module _ {s : List ℕ} {p : Pass} {chunks forks : List ℕ} (h : length s ≤ p .at) (v : Surveying s p chunks forks) where
+module _ {s : List ℕ} {p : Progress} {chunks forks : List ℕ} (h : length s ≤ p .at) (v : Surveying s p chunks forks) where
   at-end : p .at ≡ length s
   at-end = omega (arith, v .within)
 
@@ -518,7 +518,7 @@ module _ {s : List ℕ} {p : Pass} {chunks forks : List ℕ} (h : length s ≤ p
       })
 
 -- what each command notes
-module _ (p : Pass) (k : Scan) (next : ℕ) (r : Pass) (chunks forks : List ℕ) where
+module _ (p : Progress) (k : Scan) (next : ℕ) (r : Progress) (chunks forks : List ℕ) where
   -- no row is added
   pub noted-none :
       (c : Command)
@@ -584,7 +584,7 @@ pub fewer-left : (n a b : ℕ) → a < n → a < b → n - b < n - a
 fewer-left n a b h l = omega arith
 
 pub surveyed-finish :
-    (s : List ℕ) (p : Pass) (chunks forks : List ℕ) {r : Survey}
+    (s : List ℕ) (p : Progress) (chunks forks : List ℕ) {r : Survey}
     → length s ≤ p .at
     → Surveying s p chunks forks
     → r ≡ finished p (length s)

@@ -5,7 +5,7 @@ use mathlib.Core.List.{List, [], _∷_, _++_, map, map-append, List·Memᴰ, Lis
 use Rattle.bundle.specs.Lists.{all, concatMap}
 use Rattle.bundle.specs.Chunks.{Placed, Chunk, fresh, afterCommand, commandsOf}
 use Rattle.bundle.specs.Scan.{start, scanned}
-use Rattle.bundle.specs.declared.chunk.Scan.{Scan}
+use Rattle.bundle.specs.declared.scan.Scan.{Scan}
 use Rattle.bundle.specs.declared.command.Command.{Command}
 use Rattle.bundle.specs.declared.command.Command.the-variants as Com
 use Rattle.bundle.proofs.Delimiters.{closes, on-closes}

@@ -13,7 +13,7 @@ use Rattle.bundle.specs.Chunks.{Placed}
 use Rattle.bundle.specs.Walk.{opensSegment, addsAccess}
 use Rattle.bundle.specs.Scan.{misplaced, aboveOwnTeam, misusesLock, tooMany, faultOf, scanned, finish, walk}
 unfoldable pub use Rattle.bundle.specs.Index.{total}
-use Rattle.bundle.specs.declared.chunk.Scan.{Scan}
+use Rattle.bundle.specs.declared.scan.Scan.{Scan}
 use Rattle.bundle.specs.declared.command.Command.{Command}
 use Rattle.bundle.proofs.Tests.{false-is-true, both, and-left, and-right, not-both, is-false, or-false}
 

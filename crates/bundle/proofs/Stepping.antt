@@ -12,10 +12,10 @@ use Rattle.bundle.specs.Commands.{Taken, operandsOk, inRange, decodeAt, 
 use Rattle.bundle.specs.Chunks.{afterBarrier, afterJoin, afterAcquire, afterRelease, afterCommand}
 use Rattle.bundle.specs.Walk.{opensSegment, addsAccess}
 use Rattle.bundle.specs.Scan.{misplaced, aboveOwnTeam, misusesLock, tooMany, faultOf, scanned}
-use Rattle.bundle.specs.Survey.{Bounded, counted, Stepped, unmoved, decided, testedAt, stepAt}
+use Rattle.bundle.specs.Survey.{Bounded, scanWith, Stepped, unmoved, decided, testedAt, stepAt}
 use Rattle.bundle.specs.declared.refusal.Cause.{Cause}
 use Rattle.bundle.specs.declared.chunk.ChunkState.{ChunkState}
-use Rattle.bundle.specs.declared.chunk.Scan.{Scan}
+use Rattle.bundle.specs.declared.scan.Scan.{Scan}
 use Rattle.bundle.specs.declared.command.Access.{Access}
 use Rattle.bundle.specs.declared.command.Command.{Command}
 use Rattle.bundle.specs.declared.command.Command.the-variants as Com
@@ -28,19 +28,19 @@ module _ {k r : Scan} {st : ChunkState} (b : Bounded k) where
   pub after-region :
       (t z : ℕ)
       → st ≡ cond (ltb (k .state .regions) 4294967295) (afterJoin (k .state)) (k .state)
-      → r ≡ counted k st 1 0
+      → r ≡ scanWith k st 1 0
       → r ≡ scanned k (Com.Region t z)
   unfolding scanned afterCommand opensSegment addsAccess
   after-region t z e q =
-      q ∙ ap (λ (x : ChunkState). counted k x 1 0) (e ∙ rw (lt-ltb (k .state .regions) 4294967295 (omega (arith, b .segments, b .opened))))
+      q ∙ ap (λ (x : ChunkState). scanWith k x 1 0) (e ∙ rw (lt-ltb (k .state .regions) 4294967295 (omega (arith, b .segments, b .opened))))
 
   pub after-barrier :
       st ≡ cond (ltb (k .state .barriers) 4294967295) (afterBarrier (k .state)) (k .state)
-      → r ≡ counted k st 1 0
+      → r ≡ scanWith k st 1 0
       → r ≡ scanned k Com.Barrier
   unfolding scanned afterCommand opensSegment addsAccess
   after-barrier e q =
-      q ∙ ap (λ (x : ChunkState). counted k x 1 0) (e ∙ rw (lt-ltb (k .state .barriers) 4294967295 (omega (arith, b .segments, b .opened))))
+      q ∙ ap (λ (x : ChunkState). scanWith k x 1 0) (e ∙ rw (lt-ltb (k .state .barriers) 4294967295 (omega (arith, b .segments, b .opened))))
 
 module _ (k : Scan) {r : Scan} {st : ChunkState} where
   pub after-acquire :
@@ -48,27 +48,27 @@ module _ (k : Scan) {r : Scan} {st : ChunkState} where
       → inRange (Com.Acquire l) ≡ true
       → misusesLock (k .state .locks) (Com.Acquire l) ≡ false
       → st ≡ cond (ltb l 64 && not (holds l (k .state .locks))) (afterAcquire l (k .state)) (k .state)
-      → r ≡ counted k st 0 0
+      → r ≡ scanWith k st 0 0
       → r ≡ scanned k (Com.Acquire l)
   unfolding scanned afterCommand opensSegment addsAccess operandsOk misusesLock
   after-acquire l i o e q =
-      q ∙ ap (λ (x : ChunkState). counted k x 0 0) (e ∙ rw (in-range-ok (Com.Acquire l) i, o))
+      q ∙ ap (λ (x : ChunkState). scanWith k x 0 0) (e ∙ rw (in-range-ok (Com.Acquire l) i, o))
 
   pub after-release :
       (l : ℕ)
       → misusesLock (k .state .locks) (Com.Release l) ≡ false
       → st ≡ cond (holds l (k .state .locks)) (afterRelease l (k .state)) (k .state)
-      → r ≡ counted k st 0 0
+      → r ≡ scanWith k st 0 0
       → r ≡ scanned k (Com.Release l)
   unfolding scanned afterCommand opensSegment addsAccess misusesLock
   after-release l o e q =
-      q ∙ ap (λ (x : ChunkState). counted k x 0 0) (e ∙ rw (held (holds l (k .state .locks)) o))
+      q ∙ ap (λ (x : ChunkState). scanWith k x 0 0) (e ∙ rw (held (holds l (k .state .locks)) o))
     where
       held : (t : Bool) → not t ≡ false → t ≡ true
       held true h = refl
       held false h = sym h
 
-pub after-access : (k : Scan) {r : Scan} (a : Access) → r ≡ counted k (k .state) 0 1 → r ≡ scanned k (Com.Access a)
+pub after-access : (k : Scan) {r : Scan} (a : Access) → r ≡ scanWith k (k .state) 0 1 → r ≡ scanned k (Com.Access a)
 unfolding scanned afterCommand opensSegment addsAccess
 after-access k a q = q
 

@@ -34,11 +34,11 @@ numberAt (suc k) s at = getD s at 0 + 256 * numberAt k s (at + 1)
 unfoldable pub kindOf : ℕ → AccessKind
 kindOf b = cond (eqb b 0x30) Kind.Read (cond (eqb b 0x31) Kind.Write (cond (eqb b 0x32) Kind.AtomicRead Kind.AtomicWrite))
 
-unfoldable pub byteOf : AccessKind → ℕ
-byteOf Kind.Read = 0x30
-byteOf Kind.Write = 0x31
-byteOf Kind.AtomicRead = 0x32
-byteOf Kind.AtomicWrite = 0x33
+unfoldable pub kindByte : AccessKind → ℕ
+kindByte Kind.Read = 0x30
+kindByte Kind.Write = 0x31
+kindByte Kind.AtomicRead = 0x32
+kindByte Kind.AtomicWrite = 0x33
 
 -- what a command byte says: the widths of the operands in bytes, and the command that operands make
 pub record Form : Type 0 where
@@ -85,7 +85,7 @@ codeOf (Com.Acquire l) = record { byte = 0x20; operands = l ∷ [] }
 codeOf (Com.Release l) = record { byte = 0x21; operands = l ∷ [] }
 codeOf (Com.Access a) =
     record {
-      byte = byteOf (a .kind);
+      byte = kindByte (a .kind);
       operands = a .site ∷ a .range .base ∷ a .range .stride ∷ a .range .count ∷ a .range .size ∷ [];
     }
 

@@ -9,7 +9,7 @@ use Rattle.bundle.specs.Commands.{inRange}
 use Rattle.bundle.specs.Cases.{onDelimiter, onRegion}
 use Rattle.bundle.specs.Chunks.{Placed, fresh, afterCommand, frontOf}
 unfoldable pub use Rattle.bundle.specs.Walk.{opensSegment, addsAccess}
-use Rattle.bundle.specs.declared.chunk.Scan.{Scan}
+use Rattle.bundle.specs.declared.scan.Scan.{Scan}
 use Rattle.bundle.specs.declared.command.Command.{Command}
 use Rattle.bundle.specs.declared.command.Command.the-variants as Com
 

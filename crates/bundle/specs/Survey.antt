@@ -15,12 +15,12 @@ use Rattle.bundle.specs.Scan.{faultOf, start, scanned, walk, scanOf}
 use Rattle.bundle.specs.Index.{table, chunkRowAt, forkRowAt, total, rowsFrom, chunkRows}
 use Rattle.bundle.specs.declared.refusal.Cause.the-variants as Causes
 use Rattle.bundle.specs.declared.chunk.ChunkState.{ChunkState}
-use Rattle.bundle.specs.declared.chunk.Scan.{Scan}
+use Rattle.bundle.specs.declared.scan.Scan.{Scan}
 use Rattle.bundle.specs.declared.command.Command.{Command}
 use Rattle.bundle.specs.declared.index.ChunkRow.{ChunkRow}
 use Rattle.bundle.specs.declared.index.Fork.{Fork}
 use Rattle.bundle.specs.declared.survey.Open.{Open}
-use Rattle.bundle.specs.declared.survey.Pass.{Pass}
+use Rattle.bundle.specs.declared.survey.Progress.{Progress}
 use Rattle.bundle.specs.declared.survey.Survey.{Survey}
 use Rattle.bundle.specs.declared.survey.Survey.the-variants as Surveys
 use Rattle.bundle.specs.declared.scan.Step.{Step}
@@ -32,8 +32,8 @@ pub record Bounded (k : Scan) : Type 0 where
   pub accesses : k .accesses ≤ 1024
   pub opened : k .state .barriers + k .state .regions ≤ k .segments
 
-abbrev pub counted : Scan → ChunkState → ℕ → ℕ → Scan
-counted k state opens adds =
+abbrev pub scanWith : Scan → ChunkState → ℕ → ℕ → Scan
+scanWith k state opens adds =
     record {
       inside = k .inside;
       team = k .team;
@@ -71,7 +71,7 @@ stepOf (Steps.Onward next scan command) = gives (record { scan = scan; command =
 stepOf (Steps.Refused place cause) = refuses (numberOf cause) place
 
 -- the pass at the front of a bundle
-unfoldable pub beginning : Pass
+unfoldable pub beginning : Progress
 beginning =
     record {
       at = 0;
@@ -82,10 +82,10 @@ beginning =
     }
 
 -- the chunk that MEMBER opens at the position, the row of the one that is closed there, and a REGION there
-unfoldable pub openedAt : Pass → ℕ → Open
+unfoldable pub openedAt : Progress → ℕ → Open
 openedAt p m = record { place = p .at; member = m; segments = p .scan .segments; accesses = p .scan .accesses }
 
-unfoldable pub closedRow : Pass → ChunkRow
+unfoldable pub closedRow : Progress → ChunkRow
 closedRow p =
     record {
       place = p .chunk .place;
@@ -97,12 +97,12 @@ closedRow p =
       accesses = p .chunk .accesses;
     }
 
-unfoldable pub forkHere : Pass → ℕ → ℕ → Fork
+unfoldable pub forkHere : Progress → ℕ → ℕ → Fork
 forkHere p t z =
     record { place = p .at; team = t; size = z; parent = p .scan .team; member = p .chunk .member; state = p .scan .state }
 
 -- the pass after a command, and the rows that the command adds
-unfoldable pub passAfter : Pass → Command → Scan → ℕ → Pass
+unfoldable pub passAfter : Progress → Command → Scan → ℕ → Progress
 passAfter p c k next =
     record {
       at = next;
@@ -112,25 +112,25 @@ passAfter p c k next =
       forks = onRegion (p .forks) (λ t z. p .forks + 1) c;
     }
 
-unfoldable pub newChunks : Pass → Command → List ChunkRow
+unfoldable pub newChunks : Progress → Command → List ChunkRow
 newChunks p = onDelimiter [] (λ t m. []) (closedRow p ∷ [])
 
-unfoldable pub newForks : Pass → Command → List Fork
+unfoldable pub newForks : Progress → Command → List Fork
 newForks p = onRegion [] (λ t z. forkHere p t z ∷ [])
 
 -- the position and the counts fit a row
-pub record Near (p : Pass) : Type 0 where
+pub record Near (p : Progress) : Type 0 where
   pub at : p .at < 65536
   pub bounded : Bounded (p .scan)
 
 -- there is room for one more row, and its numbers fit
-pub record Notable (p : Pass) (chunks forks : List ℕ) : Type 0 where
+pub record Notable (p : Progress) (chunks forks : List ℕ) : Type 0 where
   pub chunk-room : 2 * p .chunks + 1 < length chunks
   pub fork-room : 3 * p .forks + 2 < length forks
   pub few : p .chunks + p .forks < 512
   pub near : Near p
 
-pub record Noted (p : Pass) (c : Command) (k : Scan) (next : ℕ) (r : Pass) (chunks forks chunks′ forks′ : List ℕ) : Type 0 where
+pub record Noted (p : Progress) (c : Command) (k : Scan) (next : ℕ) (r : Progress) (chunks forks chunks′ forks′ : List ℕ) : Type 0 where
   pub pass : r ≡ passAfter p c k next
   pub chunk-long : length chunks′ ≡ length chunks
   pub fork-long : length forks′ ≡ length forks
@@ -138,7 +138,7 @@ pub record Noted (p : Pass) (c : Command) (k : Scan) (next : ℕ) (r : Pass) (ch
   pub fork-rows : table (forkRowAt forks′) (r .forks) ≡ table (forkRowAt forks) (p .forks) ++ newForks p c
 
 -- the row of the open chunk, whose commands to come are these and which ends there
-unfoldable pub openRow : Pass → List Command → ℕ → ChunkRow
+unfoldable pub openRow : Progress → List Command → ℕ → ChunkRow
 openRow p cs past =
     record {
       place = p .chunk .place;
@@ -154,21 +154,21 @@ openRow p cs past =
 unfoldable pub rowsBehind : Scan → List Command → List Chunk → List ChunkRow
 rowsBehind k cs = rowsFrom (k .segments + total opensSegment cs) (k .accesses + total addsAccess cs)
 
-unfoldable pub chunksToCome : Pass → Gathered → List ChunkRow
+unfoldable pub chunksToCome : Progress → Gathered → List ChunkRow
 chunksToCome p g =
     let cs = map (λ (q : Placed). q .command) (g .body) in
     cond (p .scan .inside)
     (openRow p cs (g .past) ∷ rowsBehind (p .scan) cs (g .chunks))
     (rowsFrom (p .scan .segments) (p .scan .accesses) (g .chunks))
 
-unfoldable pub forksToCome : Pass → Gathered → List Fork
+unfoldable pub forksToCome : Progress → Gathered → List Fork
 forksToCome p g =
     cond (p .scan .inside)
     (concatMap (forkAt (p .scan .team) (p .chunk .member)) (entriesFrom (p .scan .state) 0 0 (g .body)) ++ forksOf (g .chunks))
     (forksOf (g .chunks))
 
 -- the pass is at a position of the bundle: what the rest of the commands adds to it is the whole
-pub record Surveying (s : List ℕ) (p : Pass) (chunks forks : List ℕ) : Type 0 where
+pub record Surveying (s : List ℕ) (p : Progress) (chunks forks : List ℕ) : Type 0 where
   pub fuel : ℕ
   pub enough : length s ≤ p .at + fuel
   pub within : p .at ≤ length s
@@ -183,7 +183,7 @@ pub record Surveying (s : List ℕ) (p : Pass) (chunks forks : List ℕ) : Type 
   pub fork-rest :
       table (forkRowAt forks) (p .forks) ++ forksToCome p (gather (frontFrom fuel s (p .at) .placed)) ≡ forksOf (chunksOf s)
 
-unfoldable pub finished : Pass → ℕ → Survey
+unfoldable pub finished : Progress → ℕ → Survey
 finished p end = cond (p .scan .inside) (Surveys.Refused end Causes.Misplaced) (Surveys.Complete (p .chunks) (p .forks))
 
 -- the bundle passes the scan, and the tables hold its rows

@@ -1,4 +1,4 @@
-// The state of a chunk while it is read, and the state of the scan over a whole bundle.
+// The state of a chunk while it is read.
 ghost use mathlib.Core.Path.{_≡_};
 ghost use mathlib.Core.Bool.{cond, not, _&&_};
 ghost use lib.Dec.{ltb};
@@ -10,15 +10,6 @@ pub struct ChunkState {
     pub barriers: u32,
     pub regions: u32,
     pub locks: u64,
-}
-
-// Whether a chunk is open, its team and state, and the segments and accesses of the bundle so far.
-pub struct Scan {
-    pub inside: bool,
-    pub team: u16,
-    pub state: ChunkState,
-    pub segments: u32,
-    pub accesses: u32,
 }
 
 // Whether a lock is in the set.

@@ -5,7 +5,7 @@ ghost use Prim.Native.Nat.{_+_, _-_, _%_, _≤_};
 ghost use lib.Dec.{leb};
 ghost use mathlib.Core.List.{[], _∷_};
 ghost use lib.ListN.{length};
-ghost use Rattle.bundle.specs.Commands.{numberAt, kindOf, sizeOk, strideOk, lastByte, rangeOk, inRange, decodeAt, readAt, readingOf, byteOf, operandBytes, bytesOf, written, putAt, puttingOf, ranged};
+ghost use Rattle.bundle.specs.Commands.{numberAt, kindOf, sizeOk, strideOk, lastByte, rangeOk, inRange, decodeAt, readAt, readingOf, kindByte, operandBytes, bytesOf, written, putAt, puttingOf, ranged};
 ghost use Rattle.bundle.specs.Inner.{StandsAt, AccessAt, Holds};
 ghost use Rattle.bundle.specs.Answer.{refuses, whenGiven};
 
@@ -363,8 +363,8 @@ fn encode_team(byte: u8, team: u16, last: u8) -> Encoded
     }
 }
 
-fn byte_of(kind: AccessKind) -> u8
-    ensures { λ r. ⌜ r ≡ byteOf kind ⌝ }
+fn kind_byte(kind: AccessKind) -> u8
+    ensures { λ r. ⌜ r ≡ kindByte kind ⌝ }
 {
     match kind {
         AccessKind::Read => 0x30,
@@ -378,7 +378,7 @@ fn encode_access(access: Access) -> Encoded
     ensures { λ r. ⌜ Holds r (bytesOf (Command.Access access)) ⌝ }
 {
     let kind = access.kind;
-    let byte = byte_of(kind);
+    let byte = kind_byte(kind);
     let site = access.site as u32;
     let range = access.range;
     let base = range.base;

@@ -1,6 +1,5 @@
 // The scan, front to back: the tests 2 to 7 of each command in that order.
 use crate::chunk::ChunkState;
-use crate::chunk::Scan;
 use crate::chunk::holds_lock;
 use crate::command::Access;
 use crate::command::Command;
@@ -15,7 +14,16 @@ ghost use lib.Dec.{ltb};
 ghost use Rattle.bundle.specs.Answer.{refuses, numberOf};
 ghost use Rattle.bundle.specs.Chunks.{fresh};
 ghost use Rattle.bundle.specs.Commands.{readingOf};
-ghost use Rattle.bundle.specs.Survey.{Bounded, stepOf, unmoved, decided, testedAt, stepAt, counted};
+ghost use Rattle.bundle.specs.Survey.{Bounded, stepOf, unmoved, decided, testedAt, stepAt, scanWith};
+
+// Whether a chunk is open, its team and state, and the segments and accesses of the bundle so far.
+pub struct Scan {
+    pub inside: bool,
+    pub team: u16,
+    pub state: ChunkState,
+    pub segments: u32,
+    pub accesses: u32,
+}
 
 // What the scan says to a command.
 pub enum Step {
@@ -34,7 +42,7 @@ pub enum Step {
 // The scan with another state, and so many segments and accesses more.
 fn count(scan: Scan, state: ChunkState, opens: u32, adds: u32) -> Scan
     requires { ⌜ (scan .segments + opens < 65536) × (scan .accesses + adds < 65536) ⌝ }
-    ensures { λ r. ⌜ r ≡ counted scan state opens adds ⌝ }
+    ensures { λ r. ⌜ r ≡ scanWith scan state opens adds ⌝ }
 {
     Scan {
         inside: scan.inside,

@@ -1,12 +1,12 @@
 // The pass over a bundle: the scan, and a row for each chunk and each REGION.
 use crate::chunk::ChunkState;
-use crate::chunk::Scan;
 use crate::command::Command;
 use crate::index::ChunkRow;
 use crate::index::Fork;
 use crate::index::add_chunk;
 use crate::index::add_fork;
 use crate::refusal::Cause;
+use crate::scan::Scan;
 use crate::scan::Step;
 use crate::scan::step_at;
 ghost use mathlib.Core.Path.{_≡_};
@@ -24,7 +24,7 @@ pub struct Open {
 }
 
 // How far the pass is: the position and the scan there, the open chunk, and the rows so far.
-pub struct Pass {
+pub struct Progress {
     pub at: usize,
     pub scan: Scan,
     pub chunk: Open,
@@ -38,10 +38,10 @@ pub enum Survey {
     Refused { place: usize, cause: Cause },
 }
 
-fn begin() -> Pass
+fn begin() -> Progress
     ensures { λ r. ⌜ r ≡ beginning ⌝ }
 {
-    Pass {
+    Progress {
         at: 0,
         scan: Scan {
             inside: false,
@@ -62,7 +62,7 @@ fn begin() -> Pass
 }
 
 // The chunk that is opened at the position.
-fn opened(pass: Pass, member: u8) -> Open
+fn opened(pass: Progress, member: u8) -> Open
     requires { ⌜ Near pass ⌝ }
     ensures { λ r. ⌜ r ≡ openedAt pass member ⌝ }
 {
@@ -76,7 +76,7 @@ fn opened(pass: Pass, member: u8) -> Open
 }
 
 // The row of the chunk that is closed at the position.
-fn closed_row(pass: Pass) -> ChunkRow
+fn closed_row(pass: Progress) -> ChunkRow
     requires { ⌜ Near pass ⌝ }
     ensures { λ r. ⌜ (r ≡ closedRow pass) × ChunkFits r ⌝ }
 {
@@ -95,7 +95,7 @@ fn closed_row(pass: Pass) -> ChunkRow
 }
 
 // The row of a REGION at the position.
-fn fork_row(pass: Pass, team: u16, size: u8) -> Fork
+fn fork_row(pass: Progress, team: u16, size: u8) -> Fork
     requires { ⌜ Near pass ⌝ }
     ensures { λ r. ⌜ (r ≡ forkHere pass team size) × ForkFits r ⌝ }
 {
@@ -113,11 +113,11 @@ fn fork_row(pass: Pass, team: u16, size: u8) -> Fork
 }
 
 // The pass after a command, with the open chunk and the rows as they are.
-fn move_on(pass: Pass, scan: Scan, next: usize) -> Pass
+fn move_on(pass: Progress, scan: Scan, next: usize) -> Progress
     ensures { λ r. ⌜ r ≡ record { at = next; scan = scan; chunk = pass .chunk; chunks = pass .chunks; forks = pass .forks } ⌝ }
 {
     let chunk = pass.chunk;
-    Pass {
+    Progress {
         at: next,
         scan,
         chunk,
@@ -128,13 +128,13 @@ fn move_on(pass: Pass, scan: Scan, next: usize) -> Pass
 
 // Notes a command that passed the tests.
 fn note(
-    pass: Pass,
+    pass: Progress,
     command: Command,
     scan: Scan,
     next: usize,
     chunks: &mut [u64],
     forks: &mut [u64],
-) -> Pass
+) -> Progress
     requires { ⌜ Notable pass (now chunks) (now forks) ⌝ }
     ensures { λ r. ⌜ Noted pass command scan next r (now (chunks .entry)) (now (forks .entry)) (now (chunks .exit)) (now (forks .exit)) ⌝ }
 {
@@ -163,7 +163,7 @@ fn note(
 }
 
 // 4: the bundle ending inside a chunk, at its length.
-fn finish(pass: Pass, end: usize) -> Survey
+fn finish(pass: Progress, end: usize) -> Survey
     ensures { λ r. ⌜ r ≡ finished pass end ⌝ }
 {
     let scan = pass.scan;

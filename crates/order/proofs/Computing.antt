@@ -1,10 +1,10 @@
 -- To unfold this is to unfold all definitions of this crate and of bundle, so that examples compute.
 use Rattle.order.specs.Climbing.{joinsBefore, joinedBefore, openedIn, stateByRows, tripleOf, extended, chunkLabelOf}
 use Rattle.order.specs.Labels.{lastTriple, forkLabel, segmentLabel, labelOf, counted, blank, holding, spanOk, rootSpan, labelOk, sameTriple, compareTriples, compareFrom, compareOf}
-use Rattle.order.specs.Pairs.{touchesSome, outerOf, byteOf}
+use Rattle.order.specs.Pairs.{touchesSome, outerOf, pairByte}
 use Rattle.order.specs.Ranges.{touched, leastWith, least, sharedByte, sharedOf}
 use Rattle.bundle.proofs.Computing.{bundle-computes}
 
 unfoldable pub order-computes : Unit {0}
-unfolding joinsBefore joinedBefore openedIn stateByRows tripleOf extended chunkLabelOf lastTriple forkLabel segmentLabel labelOf counted blank holding spanOk rootSpan labelOk sameTriple compareTriples compareFrom compareOf touchesSome outerOf byteOf touched leastWith least sharedByte sharedOf bundle-computes
+unfolding joinsBefore joinedBefore openedIn stateByRows tripleOf extended chunkLabelOf lastTriple forkLabel segmentLabel labelOf counted blank holding spanOk rootSpan labelOk sameTriple compareTriples compareFrom compareOf touchesSome outerOf pairByte touched leastWith least sharedByte sharedOf bundle-computes
 order-computes = tt

@@ -17,8 +17,8 @@ use lib.Dec.{ltb}
 use borrow.Author.Tests.{lt-ltb, le-ltb, ltb-true, ltb-false}
 use Rattle.bundle.proofs.Tests.{cond-elim}
 use Rattle.order.specs.Pairs.{FirstFrom, Near, Least, FirstPair, PairGiven, PairFits, outerOf}
-use Rattle.order.specs.declared.range.Pair.{Pair}
-use Rattle.order.specs.declared.range.Pair.the-variants as Pr
+use Rattle.order.specs.declared.range.ElementPair.{ElementPair}
+use Rattle.order.specs.declared.range.ElementPair.the-variants as Pr
 
 -- the first element at or past low
 pub first-from : (stride low : ℕ) → 1 ≤ stride → FirstFrom stride low ((low + (stride - 1)) / stride)
@@ -53,7 +53,7 @@ found-at-once stride spacing low high count limit element c long counted limited
     }
 
 -- one step of Euclid's algorithm: the first pair of the inner step makes the first pair
-abbrev pub FirstInner : (stride rest low high count limit element : ℕ) → Pair → Type 0
+abbrev pub FirstInner : (stride rest low high count limit element : ℕ) → ElementPair → Type 0
 FirstInner stride rest low high count limit element =
     FirstPair rest stride (element * stride - high) (element * stride - low) limit (count - element)
 
@@ -100,7 +100,7 @@ module _ (stride spacing low high quotient rest element : ℕ)
       record { inner = x; same = e; near = step-down x j (subst (λ k. Near stride spacing low high k j) e near) }
 
   module _ (count limit : ℕ) where
-    abbrev Inner : Pair → Type 0
+    abbrev Inner : ElementPair → Type 0
     Inner = FirstInner stride rest low high count limit element
 
     made-least : (one other i j : ℕ) → Inner (Pr.Elements one other) → i < count → j < limit → Made i j
@@ -123,7 +123,7 @@ module _ (stride spacing low high quotient rest element : ℕ)
         → FirstPair stride spacing low high count limit Pr.Nothing
     up-none one other l over i j hi hj near = omega (arith, made-least one other i j l hi hj (made i j near) .0)
 
-    pub step-first : (pair : Pair) → Inner pair → FirstPair stride spacing low high count limit (outerOf pair element quotient count)
+    pub step-first : (pair : ElementPair) → Inner pair → FirstPair stride spacing low high count limit (outerOf pair element quotient count)
     unfolding outerOf
     step-first (Pr.Elements one other) l =
         cond-elim
@@ -150,7 +150,7 @@ product-fits x y hx hy =
     omega (arith, mul-le-mul x′ y′)
 
 -- the two elements of a pair that fits
-module _ {pair : Pair} {one other : ℕ} (e : pair ≡ Pr.Elements one other) where
+module _ {pair : ElementPair} {one other : ℕ} (e : pair ≡ Pr.Elements one other) where
   pub elements-fit : PairFits pair → (one < 65536) × (other < 65536)
   elements-fit h = subst PairFits e h
 
@@ -174,7 +174,7 @@ module _ {pair : Pair} {one other : ℕ} (e : pair ≡ Pr.Elements one other) wh
         sym (ap (λ p. outerOf p element quotient count) e
         ∙ simp (le-ltb (element + other + quotient * one) count over))
 
-pub outer-nothing : {pair : Pair} (element quotient count : ℕ) → pair ≡ Pr.Nothing
+pub outer-nothing : {pair : ElementPair} (element quotient count : ℕ) → pair ≡ Pr.Nothing
     → Pr.Nothing ≡ outerOf pair element quotient count
 unfolding outerOf
 outer-nothing element quotient count e = sym (ap (λ p. outerOf p element quotient count) e)
@@ -216,15 +216,15 @@ module _ {stride spacing low high count limit : ℕ} (g : PairGiven stride spaci
               limit-fits = omega arith;
             }
 
-        pub pair-fits : (pair : Pair) → FirstInner stride (spacing % stride) low high count limit element pair
+        pub pair-fits : (pair : ElementPair) → FirstInner stride (spacing % stride) low high count limit element pair
             → PairFits pair × (element < 65536) × (spacing / stride < 65536)
         pair-fits pair h = (fits pair h, omega (arith, element-below), omega (arith, div-le-self spacing stride))
           where
-            fits : (pair : Pair) → FirstInner stride (spacing % stride) low high count limit element pair → PairFits pair
+            fits : (pair : ElementPair) → FirstInner stride (spacing % stride) low high count limit element pair → PairFits pair
             fits (Pr.Elements one other) l = (omega (arith, l .one-below), omega (arith, l .other-below))
             fits Pr.Nothing h = tt
 
-        pub pair-outer : {r : Pair} (pair : Pair)
+        pub pair-outer : {r : ElementPair} (pair : ElementPair)
             → FirstInner stride (spacing % stride) low high count limit element pair
             → r ≡ outerOf pair element (spacing / stride) count
             → FirstPair stride spacing low high count limit r

@@ -13,9 +13,9 @@ use Rattle.bundle.specs.declared.command.Range.{Range}
 use Rattle.bundle.proofs.Tests.{both, and-left, and-right, not-both}
 use Rattle.bundle.proofs.Ranges.{range-parts}
 use Rattle.order.specs.Ranges.{Touches, sharedByte, sharedOf}
-use Rattle.order.specs.Pairs.{touchesSome, Near, PairFits, InOrder, PairOf, byteOf, lowestOf}
-use Rattle.order.specs.declared.range.Pair.{Pair}
-use Rattle.order.specs.declared.range.Pair.the-variants as Pr
+use Rattle.order.specs.Pairs.{touchesSome, Near, PairFits, InOrder, PairOf, pairByte, lowestOf}
+use Rattle.order.specs.declared.range.ElementPair.{ElementPair}
+use Rattle.order.specs.declared.range.ElementPair.the-variants as Pr
 use Rattle.order.specs.declared.range.Lowest.{Lowest}
 use Rattle.order.specs.declared.range.Lowest.the-variants as Lo
 use Rattle.order.proofs.SharedByte.{SharedIs, shared-unique, shared-some}
@@ -61,8 +61,8 @@ module _ (lower upper : Range) (o : InOrder lower upper) where
           to = omega (arith, s .at, t .at, t .within-below, o .bases);
         }
 
-    pair-least : (pair : Pair) → PairOf lower upper pair → SharedIs lower upper (lowestOf (byteOf pair lower upper))
-    unfolding byteOf
+    pair-least : (pair : ElementPair) → PairOf lower upper pair → SharedIs lower upper (lowestOf (pairByte pair lower upper))
+    unfolding pairByte
     pair-least (Pr.Elements i j) l =
         let start : ℕ = lower .base + i * lower .stride in
         let other-start : ℕ = upper .base + j * upper .stride in
@@ -95,30 +95,30 @@ module _ (lower upper : Range) (o : InOrder lower upper) where
     pair-least Pr.Nothing h =
         λ byte s t. h (s .element) (t .element) (s .element-below) (t .element-below) (near-elements byte s t)
 
-    pub pair-shared : {r : Lowest} (pair : Pair) → PairOf lower upper pair → r ≡ byteOf pair lower upper
+    pub pair-shared : {r : Lowest} (pair : ElementPair) → PairOf lower upper pair → r ≡ pairByte pair lower upper
         → lowestOf r ≡ sharedByte lower upper
     pair-shared pair h e =
-        ap lowestOf e ∙ shared-unique lower upper (lowestOf (byteOf pair lower upper)) (pair-least pair h)
+        ap lowestOf e ∙ shared-unique lower upper (lowestOf (pairByte pair lower upper)) (pair-least pair h)
 
 -- the elements of a pair are below the counts
-pub pair-of-fits : (lower upper : Range) (pair : Pair) → PairOf lower upper pair → lower .count < 65536 → upper .count < 65536
+pub pair-of-fits : (lower upper : Range) (pair : ElementPair) → PairOf lower upper pair → lower .count < 65536 → upper .count < 65536
     → PairFits pair
 pair-of-fits lower upper (Pr.Elements one other) l hl hu = (omega (arith, l .one-below), omega (arith, l .other-below))
 pair-of-fits lower upper Pr.Nothing h hl hu = tt
 
 -- the byte of a pair
-module _ {pair : Pair} (lower upper : Range) where
+module _ {pair : ElementPair} (lower upper : Range) where
   pub byte-some : {one other start upper-start byte : ℕ} → pair ≡ Pr.Elements one other
       → start ≡ lower .base + one * lower .stride
       → upper-start ≡ upper .base + other * upper .stride
       → byte ≡ max start upper-start
-      → Lo.Byte byte ≡ byteOf pair lower upper
-  unfolding byteOf
+      → Lo.Byte byte ≡ pairByte pair lower upper
+  unfolding pairByte
   byte-some e s t m = cc
 
-  pub byte-nothing : pair ≡ Pr.Nothing → Lo.Nothing ≡ byteOf pair lower upper
-  unfolding byteOf
-  byte-nothing e = sym (ap (λ p. byteOf p lower upper) e)
+  pub byte-nothing : pair ≡ Pr.Nothing → Lo.Nothing ≡ pairByte pair lower upper
+  unfolding pairByte
+  byte-nothing e = sym (ap (λ p. pairByte p lower upper) e)
 
 -- a range that touches no byte
 touch-some : (r : Range) (byte : ℕ) → Touches r byte → touchesSome r ≡ true

@@ -20,7 +20,7 @@ use Rattle.order.specs.declared.climb.LabelAnswer.{LabelAnswer}
 use Rattle.order.specs.declared.climb.LabelAnswer.the-variants as Ans
 use Rattle.order.specs.declared.climb.Labelling.{Labelling}
 use Rattle.order.specs.declared.label.Comparison.{Comparison}
-use Rattle.order.specs.declared.label.Comparison.the-variants as Com
+use Rattle.order.specs.declared.label.Comparison.the-variants as Comparisons
 
 -- "The last triple of a segment has offset = member + span times regions joined before it in its chunk, span = team size, interval =
 -- barriers passed"
@@ -102,8 +102,8 @@ compareOf a b =
 
 -- what the code's answer says
 abbrev pub comparisonOf : Comparison → Answer Order
-comparisonOf (Com.Compared o) = gives o
-comparisonOf (Com.Refused place cause) = refuses (numberOf cause) place
+comparisonOf (Comparisons.Compared o) = gives o
+comparisonOf (Comparisons.Refused place cause) = refuses (numberOf cause) place
 
 abbrev pub labelAnswerOf : Label → LabelAnswer → Answer (List Triple)
 labelAnswerOf l Ans.Found = gives (counted l)

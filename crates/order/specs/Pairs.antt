@@ -4,8 +4,8 @@ use mathlib.Core.Bool.{Bool, cond, _&&_}
 use mathlib.Core.Option.{Option, none, some}
 use lib.Dec.{leb, ltb}
 use Rattle.bundle.specs.declared.command.Range.{Range}
-use Rattle.order.specs.declared.range.Pair.{Pair}
-use Rattle.order.specs.declared.range.Pair.the-variants as Pr
+use Rattle.order.specs.declared.range.ElementPair.{ElementPair}
+use Rattle.order.specs.declared.range.ElementPair.the-variants as Pr
 use Rattle.order.specs.declared.range.Lowest.{Lowest}
 use Rattle.order.specs.declared.range.Lowest.the-variants as Lo
 
@@ -32,7 +32,7 @@ pub record Least (stride spacing low high count limit one other : ℕ) : Type 0 
   pub least : (i j : ℕ) → i < count → j < limit → Near stride spacing low high i j → (one ≤ i) × (other ≤ j)
 
 -- what it is to be the first pair, or that there is none
-abbrev pub FirstPair : (stride spacing low high count limit : ℕ) → Pair → Type 0
+abbrev pub FirstPair : (stride spacing low high count limit : ℕ) → ElementPair → Type 0
 FirstPair stride spacing low high count limit (Pr.Elements one other) = Least stride spacing low high count limit one other
 FirstPair stride spacing low high count limit Pr.Nothing =
     (i j : ℕ) → i < count → j < limit → Near stride spacing low high i j → ⊥
@@ -50,12 +50,12 @@ pub record PairGiven (stride spacing low high count limit : ℕ) : Type 0 where
   pub limit-fits : limit < 65536
 
 -- the elements of a pair are below every count
-abbrev pub PairFits : Pair → Type 0
+abbrev pub PairFits : ElementPair → Type 0
 PairFits (Pr.Elements one other) = (one < 65536) × (other < 65536)
 PairFits Pr.Nothing = Unit
 
 -- the first pair, made of the inner step's, where the two ranges have changed places
-unfoldable pub outerOf : Pair → ℕ → ℕ → ℕ → Pair
+unfoldable pub outerOf : ElementPair → ℕ → ℕ → ℕ → ElementPair
 outerOf (Pr.Elements one other) element quotient count =
     cond (ltb (element + other + quotient * one) count) (Pr.Elements (element + other + quotient * one) one) Pr.Nothing
 outerOf Pr.Nothing element quotient count = Pr.Nothing
@@ -69,7 +69,7 @@ pub record InOrder (lower upper : Range) : Type 0 where
   pub bases : lower .base ≤ upper .base
 
 -- the first pair of elements of two ranges that share a byte
-abbrev pub PairOf : Range → Range → Pair → Type 0
+abbrev pub PairOf : Range → Range → ElementPair → Type 0
 PairOf lower upper =
     FirstPair
     (lower .stride)
@@ -80,10 +80,10 @@ PairOf lower upper =
     (upper .count)
 
 -- the lowest byte that both elements of a pair touch
-unfoldable pub byteOf : Pair → Range → Range → Lowest
-byteOf (Pr.Elements one other) lower upper =
+unfoldable pub pairByte : ElementPair → Range → Range → Lowest
+pairByte (Pr.Elements one other) lower upper =
     Lo.Byte (max (lower .base + one * lower .stride) (upper .base + other * upper .stride))
-byteOf Pr.Nothing lower upper = Lo.Nothing
+pairByte Pr.Nothing lower upper = Lo.Nothing
 
 -- what the code's answer says
 abbrev pub lowestOf : Lowest → Option ℕ

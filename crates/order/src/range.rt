@@ -16,7 +16,7 @@ ghost use Rattle.order.specs.Pairs.{
   InOrder,
   PairOf,
   outerOf,
-  byteOf,
+  pairByte,
   lowestOf,
 };
 
@@ -34,28 +34,28 @@ pub enum Lowest {
 }
 
 // An element of each of two ranges.
-enum Pair {
+enum ElementPair {
     Elements { one: u64, other: u64 },
     Nothing,
 }
 
 // The first pair, made of the inner step's, where the two ranges have changed places.
-fn outer_pair(pair: Pair, element: u64, quotient: u64, count: u64) -> Pair
+fn outer_pair(pair: ElementPair, element: u64, quotient: u64, count: u64) -> ElementPair
     requires { ⌜ PairFits pair × (element < 65536) × (quotient < 65536) ⌝ }
     ensures { λ r. ⌜ r ≡ outerOf pair element quotient count ⌝ }
 {
     match pair {
-        Pair::Elements { one, other } => {
+        ElementPair::Elements { one, other } => {
             let sum = element + other + quotient * one;
             if sum < count {
-                return Pair::Elements {
+                return ElementPair::Elements {
                     one: sum,
                     other: one,
                 };
             }
-            Pair::Nothing
+            ElementPair::Nothing
         }
-        Pair::Nothing => Pair::Nothing,
+        ElementPair::Nothing => ElementPair::Nothing,
     }
 }
 
@@ -71,17 +71,17 @@ fn first_from(stride: u64, low: u64) -> u64
 // `other * spacing + low <= one * stride <= other * spacing + high`. Spacing and limit are the other range's stride and
 // count. Where no multiple of the stride lies from low to high, only the spacing's remainder counts, and the two ranges
 // change places: Euclid's algorithm, which stops once an element passes its count.
-fn first_pair(stride: u64, spacing: u64, low: u64, high: u64, count: u64, limit: u64) -> Pair
+fn first_pair(stride: u64, spacing: u64, low: u64, high: u64, count: u64, limit: u64) -> ElementPair
     requires { ⌜ PairGiven stride spacing low high count limit ⌝ }
     ensures { λ r. ⌜ FirstPair stride spacing low high count limit r ⌝ }
 {
     if (count - 1) * stride < low {
-        return Pair::Nothing;
+        return ElementPair::Nothing;
     }
     let element = first_from(stride, low);
     let start = element * stride;
     if start <= high {
-        return Pair::Elements {
+        return ElementPair::Elements {
             one: element,
             other: 0,
         };
@@ -113,22 +113,22 @@ fn larger(one: u64, other: u64) -> u64
 }
 
 // The lowest byte that both elements of a pair touch.
-fn byte_of_pair(pair: Pair, lower: Range, upper: Range) -> Lowest
+fn byte_of_pair(pair: ElementPair, lower: Range, upper: Range) -> Lowest
     requires { ⌜ PairFits pair ⌝ }
-    ensures { λ r. ⌜ r ≡ byteOf pair lower upper ⌝ }
+    ensures { λ r. ⌜ r ≡ pairByte pair lower upper ⌝ }
 {
     match pair {
-        Pair::Elements { one, other } => Lowest::Byte(larger(
+        ElementPair::Elements { one, other } => Lowest::Byte(larger(
             start_of(lower, one),
             start_of(upper, other),
         )),
-        Pair::Nothing => Lowest::Nothing,
+        ElementPair::Nothing => Lowest::Nothing,
     }
 }
 
 // The first pair of elements of two ranges that share a byte, where the lower range's first element ends at or below the
 // upper range's base.
-fn pair_of(lower: Range, upper: Range) -> Pair
+fn pair_of(lower: Range, upper: Range) -> ElementPair
     requires { ⌜ InOrder lower upper × (lower .size ≤ upper .base - lower .base) ⌝ }
     ensures { λ r. ⌜ PairOf lower upper r ⌝ }
 {

@@ -14,7 +14,7 @@ use Rattle.bundle.proofs.WalkLaws.{few-segments}
 use Rattle.bundle.proofs.SegmentRuns.{segments-length}
 use Rattle.order.specs.Ranges.{sharedByte}
 use Rattle.verdict.specs.Graph.{closureOf}
-use Rattle.verdict.specs.GraphTests.{Pair}
+use Rattle.verdict.specs.GraphTests.{NodePair}
 use Rattle.verdict.specs.Accesses.{NamedAccess, accessesOf, raceAt}
 use Rattle.verdict.specs.RaceLists.{clashes, raceOf, racesAmong, racesOf}
 use Rattle.verdict.proofs.AccessCount.{few-accesses}
@@ -32,7 +32,7 @@ module _ {A B : Type 0} (f : A → List B) where
   concat-some h [] = omega arith
   concat-some h (x ∷ xs) = omega (arith, h x, concat-some h xs, length-append (f x) (concatMap f xs))
 
-one-race : (closure : List Pair) (x y : NamedAccess) → length (raceOf closure x y) ≤ 1
+one-race : (closure : List NodePair) (x y : NamedAccess) → length (raceOf closure x y) ≤ 1
 unfolding raceOf
 one-race closure x y = go (clashes closure x y) (sharedByte (x .access .range) (y .access .range))
   where
@@ -41,7 +41,7 @@ one-race closure x y = go (clashes closure x y) (sharedByte (x .access .range) (
     go true none = omega arith
     go true (some w) = omega arith
 
-few-races : (closure : List Pair) (xs : List NamedAccess) → length xs ≤ 1024 → length (racesAmong closure xs) ≤ 1048576
+few-races : (closure : List NodePair) (xs : List NamedAccess) → length xs ≤ 1024 → length (racesAmong closure xs) ≤ 1048576
 unfolding racesAmong
 few-races closure xs h =
     let each : (x : NamedAccess) → length (concatMap (raceOf closure x) xs) ≤ 1024 =

@@ -11,7 +11,7 @@ use Rattle.bundle.specs.Chunks.{Placed, Gathered, fresh, afterCommand, gatherOn
 use Rattle.bundle.specs.Walk.{Border, ofChunk, borders, opensSegment, addsAccess, entriesFrom, entriesOf, Opening, openingAt, segmentsFrom}
 use Rattle.bundle.specs.Scan.{scanned}
 use Rattle.bundle.specs.Check.{Accepted}
-use Rattle.bundle.specs.declared.chunk.Scan.{Scan}
+use Rattle.bundle.specs.declared.scan.Scan.{Scan}
 use Rattle.bundle.specs.declared.command.Command.{Command}
 use Rattle.bundle.specs.declared.command.Command.the-variants as Com
 use Rattle.bundle.proofs.Delimiters.{plain, on-plain, state-counts}

@@ -13,7 +13,7 @@ use Rattle.bundle.proofs.ListLaws.{any-elim, any-intro, upTo-elim, upTo-intro, 
 use Rattle.bundle.proofs.Places.{memberKey}
 use Rattle.order.specs.Ranges.{sharedByte}
 use Rattle.verdict.specs.Graph.{segmentsOf}
-use Rattle.verdict.specs.GraphTests.{Pair, closureOf, reaches}
+use Rattle.verdict.specs.GraphTests.{NodePair, closureOf, reaches}
 use Rattle.verdict.specs.Accesses.{NamedAccess, accessesOf, nameKey, nameBelow, raceKey, writes, atomic, raceAt}
 use Rattle.verdict.specs.Races.{IsRace}
 use Rattle.verdict.specs.RaceLists.{clashes, raceOf, racesAmong, racesOf}
@@ -26,13 +26,13 @@ use Rattle.verdict.proofs.Lexical.{raceKey-tells}
 use Rattle.verdict.proofs.Sorting.{order-intro, order-elim, order-ascending}
 
 -- where a race of two accesses comes from
-pub record Found (closure : List Pair) (x y : NamedAccess) (r : Race) : Type 0 where
+pub record Found (closure : List NodePair) (x y : NamedAccess) (r : Race) : Type 0 where
   pub clash : clashes closure x y ≡ true
   pub witness : ℕ
   pub shared : sharedByte (x .access .range) (y .access .range) ≡ some witness
   pub is : r ≡ raceAt x y witness
 
-module _ (closure : List Pair) (x y : NamedAccess) where
+module _ (closure : List NodePair) (x y : NamedAccess) where
   pub raceOf-elim : {r : Race} → List·Memᴰ r (raceOf closure x y) → Found closure x y r
   unfolding raceOf
   raceOf-elim {r} m = go (clashes closure x y) refl (sharedByte (x .access .range) (y .access .range)) refl m
@@ -68,7 +68,7 @@ module _ (closure : List Pair) (x y : NamedAccess) where
   names-of m = let e = raceOf-elim m .is in (ap (λ (r : Race). r .first) e, ap (λ (r : Race). r .second) e)
 
 -- no two races have one key, if no two accesses have one name
-pub races-distinct : (closure : List Pair) (xs : List NamedAccess) → Distinct (map accessKey xs) → Distinct (map raceKey (racesAmong closure xs))
+pub races-distinct : (closure : List NodePair) (xs : List NamedAccess) → Distinct (map accessKey xs) → Distinct (map raceKey (racesAmong closure xs))
 unfolding racesAmong
 races-distinct closure xs d = distinct-concatMap accessKey among raceKey inner firsts xs d
   where
@@ -116,7 +116,7 @@ module _ (a b : ℕ) where
       (l, upTo-elim 64 (f .present), and-left (holds l a) (holds l b) (f .passes), and-right (holds l a) (holds l b) (f .passes))
 
 -- the parts of the test for a race
-pub record Clash (closure : List Pair) (x y : NamedAccess) : Type 0 where
+pub record Clash (closure : List NodePair) (x y : NamedAccess) : Type 0 where
   pub lower : nameBelow (x .name) (y .name) ≡ true
   pub writing : (writes (x .access .kind) || writes (y .access .kind)) ≡ true
   pub not-atomic : not (atomic (x .access .kind) && atomic (y .access .kind)) ≡ true
@@ -124,7 +124,7 @@ pub record Clash (closure : List Pair) (x y : NamedAccess) : Type 0 where
   pub no-path : not (reaches closure (x .node) (y .node)) ≡ true
   pub no-path-back : not (reaches closure (y .node) (x .node)) ≡ true
 
-module _ (closure : List Pair) (x y : NamedAccess) where
+module _ (closure : List NodePair) (x y : NamedAccess) where
   pub clash-elim : clashes closure x y ≡ true → Clash closure x y
   unfolding clashes
   clash-elim h6 =

@@ -10,7 +10,7 @@ use Rattle.bundle.specs.Lists.{passing, concatMap}
 use Rattle.bundle.proofs.Tests.{false-is-true, both, and-left, and-right, or-cases, or-one, or-other, decide, not-of-false, same-test}
 use Rattle.bundle.proofs.ListLaws.{any-elim, any-intro, passing-elim, passing-intro, concatMap-elim, concatMap-intro}
 use Rattle.verdict.specs.Graph.{Node, Border, ofChunk, ofBarrier, ofRegion, Segment, Joined, next, fork, join, barrier, Edge, GraphPath, here, step}
-use Rattle.verdict.specs.GraphTests.{sameNode, sameBorder, isBarrier, joins, Pair, samePair, linked, edgesOf, through, closed, closureOf, reaches}
+use Rattle.verdict.specs.GraphTests.{sameNode, sameBorder, isBarrier, joins, NodePair, samePair, linked, edgesOf, through, closed, closureOf, reaches}
 
 -- tests and records in parts
 all-three : (a b c : Bool) → (a && b && c) ≡ true → (a ≡ true) × (b ≡ true) × (c ≡ true)
@@ -127,14 +127,14 @@ module _ (a b : Segment) where
   joined-joins (join e o) = simp (eq-sameBorder _ _ e, eq-sameBorder _ _ o, or-true)
   joined-joins (barrier n t e o) = simp (eq-eqb _ _ t, ap isBarrier e, eq-sameBorder _ _ (e ∙ sym o), or-true)
 
-abbrev pub pairOf : Node → Node → Pair
+abbrev pub pairOf : Node → Node → NodePair
 pairOf a b = record { from = a; to = b }
 
-pair-eq : {a b : Node} {p : Pair} → a ≡ p .from → b ≡ p .to → pairOf a b ≡ p
+pair-eq : {a b : Node} {p : NodePair} → a ≡ p .from → b ≡ p .to → pairOf a b ≡ p
 pair-eq e f = λ i. record { from = e i; to = f i }
 
 -- a pair that is linked is in the list
-pub linked-elim : (ps : List Pair) (a b : Node) → linked ps a b ≡ true → List·Memᴰ (pairOf a b) ps
+pub linked-elim : (ps : List NodePair) (a b : Node) → linked ps a b ≡ true → List·Memᴰ (pairOf a b) ps
 unfolding linked samePair
 linked-elim ps a b e =
     let m = any-elim (samePair (pairOf a b)) ps e in
@@ -144,16 +144,16 @@ linked-elim ps a b e =
     (pair-eq (sameNode-true _ _ (and-left from to (m .passes))) (sameNode-true _ _ (and-right from to (m .passes))))
     (m .present)
 
-pub linked-intro : {ps : List Pair} (a b : Node) → List·Memᴰ (pairOf a b) ps → linked ps a b ≡ true
+pub linked-intro : {ps : List NodePair} (a b : Node) → List·Memᴰ (pairOf a b) ps → linked ps a b ≡ true
 unfolding linked samePair
 linked-intro a b m = any-intro (samePair (pairOf a b)) m (both (eq-sameNode a a refl) (eq-sameNode b b refl))
 
 -- a pair of the list of edges is an edge
 module _ (ss : List Segment) where
-  abbrev edgesFrom : Segment → List Pair
+  abbrev edgesFrom : Segment → List NodePair
   edgesFrom a = map (λ (b : Segment). pairOf (a .node) (b .node)) (passing (joins a) ss)
 
-  edge-elim : (p : Pair) → List·Memᴰ p (edgesOf ss) → Edge ss (p .from) (p .to)
+  edge-elim : (p : NodePair) → List·Memᴰ p (edgesOf ss) → Edge ss (p .from) (p .to)
   unfolding edgesOf
   edge-elim p m =
       let a = concatMap-elim edgesFrom ss m in
@@ -164,12 +164,12 @@ module _ (ss : List Segment) where
         to = b .0;
         from-in = a .present;
         to-in = f .0;
-        from-node = ap (λ (q : Pair). q .from) (b .2);
-        to-node = ap (λ (q : Pair). q .to) (b .2);
+        from-node = ap (λ (q : NodePair). q .from) (b .2);
+        to-node = ap (λ (q : NodePair). q .to) (b .2);
         joined = joins-true (a .source) (b .0) (f .1);
       }
 
-  edge-intro : (p : Pair) → Edge ss (p .from) (p .to) → List·Memᴰ p (edgesOf ss)
+  edge-intro : (p : NodePair) → Edge ss (p .from) (p .to) → List·Memᴰ p (edgesOf ss)
   unfolding edgesOf
   edge-intro p e =
       Memᴰ·cast
@@ -181,7 +181,7 @@ module _ (ss : List Segment) where
       (λ (b : Segment). pairOf (e .from .node) (b .node))
       (passing-intro (joins (e .from)) (e .to-in) (joined-joins (e .from) (e .to) (e .joined)))))
 
-  pub edge-linked : (p : Pair) → List·Memᴰ p (edgesOf ss) ↔ Edge ss (p .from) (p .to)
+  pub edge-linked : (p : NodePair) → List·Memᴰ p (edgesOf ss) ↔ Edge ss (p .from) (p .to)
   edge-linked p = (edge-elim p, edge-intro p)
 
 -- paths
@@ -206,23 +206,23 @@ module _ {ss : List Segment} where
       go (inr f) = inr (f .0, f .1, step (f .2) e)
 
 -- one pass of the algorithm: its tests and lists by name, and the pairs it gives
-module _ (ps : List Pair) (k : Node) where
-  abbrev toK : Pair → Bool
+module _ (ps : List NodePair) (k : Node) where
+  abbrev toK : NodePair → Bool
   toK p = sameNode (p .to) k
 
-  abbrev fromK : Pair → Bool
+  abbrev fromK : NodePair → Bool
   fromK q = sameNode (q .from) k
 
-  abbrev isNew : Pair → Bool
+  abbrev isNew : NodePair → Bool
   isNew q = not (linked ps (q .from) (q .to))
 
-  abbrev onward : Pair → List Pair
-  onward p = map (λ (q : Pair). pairOf (p .from) (q .to)) (passing fromK ps)
+  abbrev onward : NodePair → List NodePair
+  onward p = map (λ (q : NodePair). pairOf (p .from) (q .to)) (passing fromK ps)
 
-  abbrev joinedAt : List Pair
+  abbrev joinedAt : List NodePair
   joinedAt = concatMap onward (passing toK ps)
 
-  through-keeps : {p : Pair} → List·Memᴰ p ps → List·Memᴰ p (through ps k)
+  through-keeps : {p : NodePair} → List·Memᴰ p ps → List·Memᴰ p (through ps k)
   unfolding through
   through-keeps m = Memᴰ·append-right (passing isNew joinedAt) m
 
@@ -230,7 +230,7 @@ module _ (ps : List Pair) (k : Node) where
   unfolding through
   through-joins a b l m =
       let self = eq-sameNode k k refl in
-      let both-in = concatMap-intro onward (passing-intro toK l self) (Memᴰ·map (λ (q : Pair). pairOf a (q .to)) (passing-intro fromK m self)) in
+      let both-in = concatMap-intro onward (passing-intro toK l self) (Memᴰ·map (λ (q : NodePair). pairOf a (q .to)) (passing-intro fromK m self)) in
       ⊎-elim
       (λ t. through-keeps (linked-elim ps a b t))
       (λ t. Memᴰ·append-left ps (passing-intro isNew both-in (not-of-false t)))
@@ -240,10 +240,10 @@ module _ (ps : List Pair) (k : Node) where
   joinedAt-elim a b m =
       let p = concatMap-elim onward (passing toK ps) m in
       let l = passing-elim toK ps (p .present) in
-      let q = Memᴰ·of-map (λ (q : Pair). pairOf (p .source .from) (q .to)) (passing fromK ps) (p .gives) in
+      let q = Memᴰ·of-map (λ (q : NodePair). pairOf (p .source .from) (q .to)) (passing fromK ps) (p .gives) in
       let r = passing-elim fromK ps (q .1) in (
-        Memᴰ·cast (pair-eq (sym (ap (λ (p : Pair). p .from) (q .2))) (sym (sameNode-true _ _ (l .1)))) (l .0),
-        Memᴰ·cast (pair-eq (sym (sameNode-true _ _ (r .1))) (sym (ap (λ (p : Pair). p .to) (q .2)))) (r .0),
+        Memᴰ·cast (pair-eq (sym (ap (λ (p : NodePair). p .from) (q .2))) (sym (sameNode-true _ _ (l .1)))) (l .0),
+        Memᴰ·cast (pair-eq (sym (sameNode-true _ _ (r .1))) (sym (ap (λ (p : NodePair). p .to) (q .2)))) (r .0),
       )
 
   through-cases :
@@ -263,7 +263,7 @@ module _ (ps : List Pair) (k : Node) where
 
 -- what the closure links has a path, if the pairs have
 closed-path :
-    (ss : List Segment) (ps : List Pair) (ks : List Node)
+    (ss : List Segment) (ps : List NodePair) (ks : List Node)
     → ((a b : Node) → List·Memᴰ (pairOf a b) ps → GraphPath ss a b)
     → (a b : Node)
     → List·Memᴰ (pairOf a b) (closed ps ks)
@@ -275,16 +275,16 @@ closed-path ss ps (k ∷ ks) h =
     (λ a b m. ⊎-elim (h a b) (λ l. path-trans (h a k (l .0)) (h k b (l .1))) (through-cases ps k a b m))
 
 -- a path of pairs whose nodes in between are of the list
-data Via (ps : List Pair) (ks : List Node) (a : Node) : Node → Type 0 where
+data Via (ps : List NodePair) (ks : List Node) (a : Node) : Node → Type 0 where
   one : {b : Node} → List·Memᴰ (pairOf a b) ps → Via ps ks a b
   more : {b c : Node} → Via ps ks a b → List·Memᴰ b ks → List·Memᴰ (pairOf b c) ps → Via ps ks a c
 
-via-extend : {ps : List Pair} {ks : List Node} {k a c : Node} → Via (through ps k) ks a k → List·Memᴰ (pairOf k c) ps → Via (through ps k) ks a c
+via-extend : {ps : List NodePair} {ks : List Node} {k a c : Node} → Via (through ps k) ks a k → List·Memᴰ (pairOf k c) ps → Via (through ps k) ks a c
 via-extend {ps} {k = k} {a} {c} (one m) e = one (through-joins ps k a c (through-to ps k a m) e)
 via-extend {ps} {k = k} {c = c} (more {b = b} v l m) e = more v l (through-joins ps k b c (through-to ps k b m) e)
 
 -- one node less in between
-via-through : {ps : List Pair} {ks : List Node} {k a b : Node} → Via ps (k ∷ ks) a b → Via (through ps k) ks a b
+via-through : {ps : List NodePair} {ks : List Node} {k a b : Node} → Via ps (k ∷ ks) a b → Via (through ps k) ks a b
 via-through {ps} {k = k} (one m) = one (through-keeps ps k m)
 via-through {ps} {ks} {k} {a} (more {b = b} {c = c} v l m) =
     let u : Via (through ps k) ks a b = via-through v in
@@ -293,7 +293,7 @@ via-through {ps} {ks} {k} {a} (more {b = b} {c = c} v l m) =
     (λ r. more u r (through-keeps ps k m))
     (List·Memᴰ·cases-cons l)
 
-via-closed : (ps : List Pair) (ks : List Node) {a b : Node} → Via ps ks a b → List·Memᴰ (pairOf a b) (closed ps ks)
+via-closed : (ps : List NodePair) (ks : List Node) {a b : Node} → Via ps ks a b → List·Memᴰ (pairOf a b) (closed ps ks)
 unfolding closed
 via-closed ps [] (one m) = m
 via-closed ps [] (more v l m) = absurd (List·Memᴰ·not-nil l)

@@ -38,38 +38,38 @@ joins a b =
     || eqb (a .node .team) (b .node .team) && isBarrier (a .ended) && sameBorder (a .ended) (b .opened)
 
 -- a pair of nodes
-pub record Pair : Type 0 where
+pub record NodePair : Type 0 where
   pub from : Node
   pub to : Node
 
-unfoldable pub samePair : Pair → Pair → Bool
+unfoldable pub samePair : NodePair → NodePair → Bool
 samePair p q = sameNode (p .from) (q .from) && sameNode (p .to) (q .to)
 
-unfoldable pub linked : List Pair → Node → Node → Bool
+unfoldable pub linked : List NodePair → Node → Node → Bool
 linked ps a b = any (samePair (record { from = a; to = b })) ps
 
 -- `Edge` as pairs of nodes: by edge-linked the same
-unfoldable pub edgesOf : List Segment → List Pair
+unfoldable pub edgesOf : List Segment → List NodePair
 edgesOf ss =
     concatMap (λ (a : Segment). map (λ (b : Segment). record { from = a .node; to = b .node }) (passing (joins a) ss)) ss
 
 -- one pass of Warshall's algorithm: the pairs, and those that are joined through the node k
-unfoldable pub through : List Pair → Node → List Pair
+unfoldable pub through : List NodePair → Node → List NodePair
 through ps k =
-    passing (λ (q : Pair). not (linked ps (q .from) (q .to)))
+    passing (λ (q : NodePair). not (linked ps (q .from) (q .to)))
     (concatMap
-    (λ (p : Pair).
-    map (λ (q : Pair). record { from = p .from; to = q .to }) (passing (λ (q : Pair). sameNode (q .from) k) ps))
-    (passing (λ (p : Pair). sameNode (p .to) k) ps))
+    (λ (p : NodePair).
+    map (λ (q : NodePair). record { from = p .from; to = q .to }) (passing (λ (q : NodePair). sameNode (q .from) k) ps))
+    (passing (λ (p : NodePair). sameNode (p .to) k) ps))
     ++ ps
 
-unfoldable pub closed : List Pair → List Node → List Pair
+unfoldable pub closed : List NodePair → List Node → List NodePair
 closed ps [] = ps
 closed ps (k ∷ ks) = closed (through ps k) ks
 
 -- `GraphPath` as a test, the closure over all nodes, or the empty path: by reaches-path and path-reaches the same
-unfoldable pub closureOf : List Segment → List Pair
+unfoldable pub closureOf : List Segment → List NodePair
 closureOf ss = closed (edgesOf ss) (map (λ (s : Segment). s .node) ss)
 
-unfoldable pub reaches : List Pair → Node → Node → Bool
+unfoldable pub reaches : List NodePair → Node → Node → Bool
 reaches closure a b = sameNode a b || linked closure a b

@@ -7,12 +7,12 @@ use Rattle.bundle.specs.Locks.{commonLock}
 use Rattle.bundle.specs.Chunks.{Chunk}
 use Rattle.bundle.specs.Walk.{segmentsOf}
 use Rattle.order.specs.Ranges.{sharedByte}
-use Rattle.verdict.specs.GraphTests.{Pair, closureOf, reaches}
+use Rattle.verdict.specs.GraphTests.{NodePair, closureOf, reaches}
 use Rattle.verdict.specs.Accesses.{NamedAccess, accessesOf, nameBelow, raceBelow, writes, atomic, raceAt}
 use Rattle.verdict.specs.declared.race.Race.{Race}
 
 -- what `IsRace` asks of two accesses besides a shared byte, as a test over the closure of the graph
-unfoldable pub clashes : List Pair → NamedAccess → NamedAccess → Bool
+unfoldable pub clashes : List NodePair → NamedAccess → NamedAccess → Bool
 clashes closure x y =
     nameBelow (x .name) (y .name)
     && (writes (x .access .kind) || writes (y .access .kind))
@@ -21,7 +21,7 @@ clashes closure x y =
     && not (reaches closure (x .node) (y .node))
     && not (reaches closure (y .node) (x .node))
 
-unfoldable pub raceOf : List Pair → NamedAccess → NamedAccess → List Race
+unfoldable pub raceOf : List NodePair → NamedAccess → NamedAccess → List Race
 raceOf closure x y =
     cond (clashes closure x y)
     (fromOption [] (λ witness. raceAt x y witness ∷ []) (sharedByte (x .access .range) (y .access .range)))
@@ -36,7 +36,7 @@ unfoldable pub inOrder : List Race → List Race
 inOrder [] = []
 inOrder (r ∷ rs) = insertRace r (inOrder rs)
 
-unfoldable pub racesAmong : List Pair → List NamedAccess → List Race
+unfoldable pub racesAmong : List NodePair → List NamedAccess → List Race
 racesAmong closure xs = concatMap (λ x. concatMap (raceOf closure x) xs) xs
 
 -- the bundle's races in their order: by races-elim and races-intro exactly those of `IsRace`, and in an accepted bundle by

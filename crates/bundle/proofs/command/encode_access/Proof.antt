@@ -11,7 +11,7 @@ unfolding lowFirst codeOf operandBytes
 returns c =
     rw (access-bytes _)
     (record {
-      prefix = same-cons (c .before .before .before .before .before .before .before .before .before .before .before .before .before .before .before .before .byte-of .ensures) (same-cons (c .before .before .before .before .before .before .before .before .before .before .low .ensures) (same-cons (c .before .before .before .before .before .before .before .before .before .low2 .ensures) (same-cons (c .before .before .before .before .before .before .before .before .low3 .ensures) (same-cons (c .before .before .before .before .before .before .before .low4 .ensures) (same-cons (c .before .before .before .before .before .before .low5 .ensures) (same-cons (c .before .before .before .before .before .low6 .ensures) (same-cons (c .before .before .before .before .low7 .ensures) (same-cons (c .before .before .before .low8 .ensures) (same-cons (c .before .before .low9 .ensures) (same-cons (c .before .low10 .ensures) (same-cons (c .low11 .ensures) refl)))))))))));
+      prefix = same-cons (c .before .before .before .before .before .before .before .before .before .before .before .before .before .before .before .before .kind-byte .ensures) (same-cons (c .before .before .before .before .before .before .before .before .before .before .low .ensures) (same-cons (c .before .before .before .before .before .before .before .before .before .low2 .ensures) (same-cons (c .before .before .before .before .before .before .before .before .low3 .ensures) (same-cons (c .before .before .before .before .before .before .before .low4 .ensures) (same-cons (c .before .before .before .before .before .before .low5 .ensures) (same-cons (c .before .before .before .before .before .low6 .ensures) (same-cons (c .before .before .before .before .low7 .ensures) (same-cons (c .before .before .before .low8 .ensures) (same-cons (c .before .before .low9 .ensures) (same-cons (c .before .low10 .ensures) (same-cons (c .low11 .ensures) refl)))))))))));
       long = refl;
       within = search needs;
     })
