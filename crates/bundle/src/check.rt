@@ -2,6 +2,9 @@
 use crate::answer::Checking;
 use crate::index::chunk_at;
 use crate::index::chunk_of;
+use crate::limits::CHUNK_WORDS;
+use crate::limits::FORK_WORDS;
+use crate::limits::MOST_BYTES;
 use crate::refusal::Cause;
 use crate::shape::shape;
 use crate::survey::Survey;
@@ -34,10 +37,14 @@ fn count_in(chunks: u32, forks: u32, checking: Checking) -> Indexing
 }
 
 // Checks a bundle, and fills its index: two words for a chunk, three for a REGION. Refused, the words hold what was met so far.
-pub fn index_bundle(bytes: &[u8], chunks: &mut [u64; 1024], forks: &mut [u64; 1536]) -> Indexing
+pub fn index_bundle(
+    bytes: &[u8],
+    chunks: &mut [u64; CHUNK_WORDS],
+    forks: &mut [u64; FORK_WORDS],
+) -> Indexing
     ensures { λ r. ⌜ IndexedAs (now (bytes .entry)) r (now (chunks .exit)) (now (forks .exit)) ⌝ }
 {
-    if 65536 < bytes.len() {
+    if MOST_BYTES < bytes.len() {
         return Indexing::Refused {
             place: 0,
             cause: Cause::BundleTooLong,
@@ -60,8 +67,8 @@ pub fn index_bundle(bytes: &[u8], chunks: &mut [u64; 1024], forks: &mut [u64; 15
 pub fn check(bytes: &[u8]) -> Checking
     ensures { λ r. ⌜ checkingOf r ≡ checkOf (now (bytes .entry)) ⌝ }
 {
-    let mut chunks = [0u64; 1024];
-    let mut forks = [0u64; 1536];
+    let mut chunks = [0u64; CHUNK_WORDS];
+    let mut forks = [0u64; FORK_WORDS];
     match index_bundle(bytes, &mut chunks, &mut forks) {
         Indexing::Accepted {
             chunks: _,
@@ -93,8 +100,8 @@ fn ends_in(chunks: &[u64], count: u32, team: u16, member: u8) -> Found
 pub fn find_ends(bytes: &[u8], team: u16, member: u8) -> Found
     ensures { λ r. ⌜ foundOf r ≡ endsOf (now (bytes .entry)) team member ⌝ }
 {
-    let mut chunks = [0u64; 1024];
-    let mut forks = [0u64; 1536];
+    let mut chunks = [0u64; CHUNK_WORDS];
+    let mut forks = [0u64; FORK_WORDS];
     let indexing = index_bundle(bytes, &mut chunks, &mut forks);
     match indexing {
         Indexing::Accepted {

@@ -4,6 +4,7 @@ pub mod check;
 pub mod chunk;
 pub mod command;
 pub mod index;
+pub mod limits;
 pub mod refusal;
 mod scan;
 mod shape;

@@ -6,6 +6,8 @@ use crate::command::Command;
 use crate::command::Reading;
 use crate::command::decode_command;
 use crate::command::in_range;
+use crate::limits::MOST_ACCESSES;
+use crate::limits::MOST_SEGMENTS;
 use crate::refusal::Cause;
 ghost use mathlib.Core.Path.{_≡_};
 ghost use mathlib.Core.Bool.{true, false};
@@ -83,7 +85,7 @@ fn full(scan: Scan) -> bool
     requires { ⌜ Bounded scan ⌝ }
     ensures { λ r. ⌜ r ≡ ltb 512 (scan .segments + 1) ⌝ }
 {
-    512 < scan.segments + 1
+    MOST_SEGMENTS < scan.segments + 1
 }
 
 fn refuse(cause: Cause, place: usize) -> Step
@@ -252,7 +254,7 @@ fn test_access(scan: Scan, access: Access, next: usize, place: usize) -> Step
         !scan.inside,
         !in_range(command),
         false,
-        1024 < scan.accesses + 1,
+        MOST_ACCESSES < scan.accesses + 1,
         onward,
         place,
     )
