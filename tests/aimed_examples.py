@@ -32,11 +32,11 @@ use Rattle.verdict.proofs.Computing.{verdict-computes}
 use Rattle.verdict.proofs.SmallBundles.{bytes, race}
 
 -- what the definitions give, and what is wanted
-pub record Row (A : Type 0) : Type 0 where
+pub record AimedExample (A : Type 0) : Type 0 where
   pub given : A
   pub wanted : A
 
-unfoldable pub row : {A : Type 0} → A → A → Row A
+unfoldable pub row : {A : Type 0} → A → A → AimedExample A
 row g w = record { given = g; wanted = w }
 
 unfoldable pub name : ℕ → ℕ → ℕ → Name
@@ -49,11 +49,11 @@ label count triples = record { count = count; triples = triples }
 
 TABLE = """\
 -- {title}
-unfoldable pub {name} : List (Row ({type}))
+unfoldable pub {name} : List (AimedExample ({type}))
 {name} =
 {rows}    []
 
-pub {name}-agree : map (λ (r : Row ({type})). r .given) {name} ≡ map (λ (r : Row ({type})). r .wanted) {name}
+pub {name}-agree : map (λ (r : AimedExample ({type})). r .given) {name} ≡ map (λ (r : AimedExample ({type})). r .wanted) {name}
 unfolding verdict-computes bytes race row name label {uses}{name}
 {name}-agree = refl
 """

@@ -19,7 +19,8 @@ use Rattle.bundle.specs.Scan.{start, scanOf}
 use Rattle.bundle.specs.Index.{chunkRowAt, forkRowAt, table, isRow, total, logOf, chunkRow, rowsFrom, chunkRows, indexOf, Indexed}
 use Rattle.bundle.specs.Shape.{shapeByRows}
 use Rattle.bundle.specs.Survey.{InTables, Surveyed}
-use Rattle.bundle.specs.Find.{Ends, endsOf, endsByRows, indexedAs, IndexedAs, handedBack}
+use Rattle.bundle.specs.Find.{Ends, endsOf, handedBack}
+use Rattle.bundle.specs.ByRows.{endsByRows, indexedAs, IndexedAs}
 use Rattle.bundle.specs.declared.refusal.Cause.{Cause}
 use Rattle.bundle.specs.declared.scan.Scan.{Scan}
 use Rattle.bundle.specs.declared.index.ChunkRow.{ChunkRow}

@@ -12,7 +12,8 @@ use crate::survey::survey_all;
 ghost use mathlib.Core.Path.{_≡_};
 ghost use Rattle.bundle.specs.Check.{checkOf, checkingOf, findOf};
 ghost use Rattle.bundle.specs.Index.{table, chunkRowAt};
-ghost use Rattle.bundle.specs.Find.{foundOf, indexedAs, IndexedAs, endsByRows, endsOf, handedBack};
+ghost use Rattle.bundle.specs.Find.{foundOf, endsOf, handedBack};
+ghost use Rattle.bundle.specs.ByRows.{indexedAs, IndexedAs, endsByRows};
 
 // What indexing a bundle gives: the number of its chunks and of its REGIONs, whose rows are in the tables.
 pub enum Indexing {

@@ -1,4 +1,5 @@
 // The commands of a run log: "One byte, then operands of fixed width, low byte first", read from bytes and put into them.
+use crate::copy::copy_in;
 use crate::refusal::Cause;
 ghost use mathlib.Core.Path.{_≡_};
 ghost use mathlib.Core.Bool.{cond};
@@ -6,7 +7,7 @@ ghost use Prim.Native.Nat.{_+_, _-_, _%_, _≤_};
 ghost use lib.Dec.{leb};
 ghost use mathlib.Core.List.{[], _∷_};
 ghost use lib.ListN.{length};
-ghost use Rattle.bundle.specs.Commands.{numberAt, kindOf, sizeOk, strideOk, lastByte, rangeOk, inRange, decodeAt, readAt, readingOf, kindByte, operandBytes, bytesOf, written, putAt, puttingOf, ranged};
+ghost use Rattle.bundle.specs.Commands.{numberAt, kindOf, sizeOk, strideOk, lastByte, rangeOk, inRange, decodeAt, readAt, readingOf, kindByte, operandBytes, bytesOf, putAt, puttingOf, ranged};
 ghost use Rattle.bundle.specs.Inner.{StandsAt, AccessAt, Holds};
 ghost use Rattle.bundle.specs.Answer.{refuses, whenGiven};
 
@@ -415,18 +416,6 @@ fn fits(length: usize, end: usize, position: usize) -> bool
         return false;
     }
     length <= end - position
-}
-
-// Copies all of the bytes into the buffer, from the position on.
-fn copy_in(bytes: &[u8], buffer: &mut [u8], position: usize)
-    requires { ⌜ position + length (now bytes) ≤ length (now buffer) ⌝ }
-    ensures { λ _. ⌜ now (buffer .exit) ≡ written (now (buffer .entry)) position (now (bytes .entry)) ⌝ }
-{
-    let mut i = 0;
-    while i < bytes.len() {
-        buffer[position + i] = bytes[i];
-        i += 1;
-    }
 }
 
 // Puts the command's bytes into the buffer at a position.

@@ -3,6 +3,7 @@ pub mod answer;
 pub mod check;
 pub mod chunk;
 pub mod command;
+pub mod copy;
 pub mod index;
 pub mod limits;
 pub mod refusal;

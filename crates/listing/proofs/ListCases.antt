@@ -1,5 +1,5 @@
 -- Listing a bundle, case by case: the tables in the work area, what stands in the lent memory, and the answers.
-use Prim.Native.Nat.{ℕ, zero, suc, _+_, _/_, _%_, _≤_, _<_}
+use Prim.Native.Nat.{ℕ, zero, suc, _+_, _/_, _≤_, _<_}
 use mathlib.Core.Path.{_≡_, refl, sym, _∙_, ap, ap₂, subst}
 use mathlib.Core.Bool.{Bool, true, false, cond, _&&_}
 use mathlib.Core.List.{List, [], _∷_, _++_, map}
@@ -19,8 +19,7 @@ use Rattle.bundle.specs.declared.refusal.Cause.{Cause}
 use Rattle.bundle.proofs.Tests.{and-left, and-right, false-is-true}
 use Rattle.bundle.proofs.Tables.{table-length}
 use Rattle.bundle.proofs.Reorder.{distinct-members}
-use Rattle.verdict.specs.Graph.{segmentsOf}
-use Rattle.verdict.specs.Races.{accessesOf, racesOf}
+use Rattle.verdict.specs.Races.{racesOf}
 use Rattle.verdict.specs.Working.{accessRowAt}
 use Rattle.verdict.specs.Tallying.{RowFits, TablesFit}
 use Rattle.verdict.specs.Census.{matrixPart, rowsPart, AreaFilled}
@@ -28,13 +27,13 @@ use Rattle.verdict.proofs.JudgeCases.{area-fits, matrix-long, chunk-count}
 use Rattle.listing.specs.Listing.{namesOf, numbersOf, totalsOf, Outcome, zeros, over, fitsIn, allRaces, refusedWith, whichever, listedOf, listingOf, reportOf, outcomeOf, raceIn, Readable}
 use Rattle.listing.specs.Ranking.{orderOf, Copied, RowsIn, sideAt}
 use Rattle.listing.specs.Pushing.{Pushes, allNumbers}
-use Rattle.listing.specs.Settling.{fitting, Settled, Kept, listedIn}
+use Rattle.listing.specs.Settling.{Settled, Kept, listedIn}
 use Rattle.listing.specs.declared.list.Totals.{Totals}
 use Rattle.listing.specs.declared.list.Found.{Found}
 use Rattle.listing.specs.declared.list.Listed.{Listed}
 use Rattle.listing.specs.declared.list.Listed.the-variants as Lis
 use Rattle.listing.proofs.PushLaws.{pushes-length, pushed-front, all-few}
-use Rattle.listing.proofs.OrderLaws.{Placed, rank-place}
+use Rattle.listing.proofs.OrderLaws.{rank-place}
 use Rattle.listing.proofs.BundleNumbers.{names-are, numbers-are, races-counted, reads-back}
 
 -- the words of a part are words of the whole

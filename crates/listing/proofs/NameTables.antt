@@ -4,11 +4,9 @@ use mathlib.Core.Path.{_≡_, refl, sym, _∙_, ap, ap₂, subst}
 use mathlib.Core.List.{List, [], _∷_, _++_, map, map-append, List·Permᴰ}
 use mathlib.Core.Option.{some}
 use native.Mathlib.Omega.{arith}
-use lib.Dec.{eqb}
 use lib.ListN.{length, getD, getElem?, length-map}
 use lib.Seq.{ext-getD}
 use Rattle.sorting.specs.Order.{sorted, Ascending, AtLeast}
-use Rattle.sorting.specs.Searching.{indexOf}
 use Rattle.sorting.proofs.Insertion.{at-all, sorted-perm, sorted-already}
 use Rattle.sorting.proofs.KeyOrder.{index-first}
 use Rattle.bundle.specs.Walk.{Segment}
@@ -16,17 +14,16 @@ use Rattle.bundle.specs.Index.{table}
 use Rattle.bundle.proofs.ListLaws.{perm-map, Distinct}
 use Rattle.bundle.proofs.Tables.{table-more, table-none, table-length, table-same}
 use Rattle.verdict.specs.Races.{NamedAccess}
-use Rattle.verdict.specs.Working.{accessRowAt, RowOf, AccessTable}
+use Rattle.verdict.specs.Working.{accessRowAt, AccessTable}
 use Rattle.verdict.specs.Tallying.{packed, NameFits, rowName}
 use Rattle.verdict.specs.declared.race.Name.{Name}
-use Rattle.verdict.specs.declared.rows.AccessRow.{AccessRow}
 use Rattle.verdict.proofs.AccessNames.{accessKey}
 use Rattle.verdict.proofs.ListPlaces.{below-at}
 use Rattle.listing.specs.Listing.{sideOf, rankIn}
 use Rattle.listing.specs.Ranking.{nameWord, orderOf, Copied, sideOfRow, sideAt}
 use Rattle.listing.proofs.RankLaws.{order-length}
 use Rattle.listing.proofs.OrderLaws.{sorted-same, table-at}
-use Rattle.listing.proofs.RankedAccesses.{Ranked, ranked, name-of, names-ascend}
+use Rattle.listing.proofs.RankedAccesses.{ranked, name-of, names-ascend}
 
 -- a table mapped
 map-table : {A B : Type 0} (g : A → B) (f : ℕ → A) (n : ℕ) → map g (table f n) ≡ table (λ i. g (f i)) n

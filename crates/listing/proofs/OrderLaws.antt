@@ -1,5 +1,5 @@
 -- The words of the accesses, sorted: each place has one rank, and each rank one place.
-use Prim.Native.Nat.{ℕ, zero, suc, _+_, _*_, _%_, _≤_, _<_}
+use Prim.Native.Nat.{ℕ, zero, suc, _%_, _≤_, _<_}
 use mathlib.Core.Path.{_≡_, refl, sym, _∙_, ap, ap₂, subst}
 use mathlib.Core.Logic.{⊎-elim}
 use mathlib.Core.List.{
@@ -22,7 +22,7 @@ use mathlib.Core.List.{
 }
 use native.Mathlib.Omega.{arith}
 use native.Mathlib.Decide.{ℕ-discrete}
-use lib.ListN.{length, getD}
+use lib.ListN.{getD}
 use lib.Seq.{getD-at}
 use Rattle.sorting.specs.Order.{insert, sorted}
 use Rattle.sorting.proofs.Insertion.{all-at, at-all, sorted-all, all-sorted, sorted-perm, sorted-middle, sorted-ascending, ascending-at}

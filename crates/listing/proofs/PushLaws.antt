@@ -1,5 +1,5 @@
 -- Numbers put one after another into lent memory.
-use Prim.Native.Nat.{ℕ, zero, suc, _+_, _*_, _%_, _≤_, _<_}
+use Prim.Native.Nat.{ℕ, zero, suc, _+_, _*_, _%_, _≤_}
 use mathlib.Core.Path.{_≡_, refl, sym, _∙_, ap, ap₂}
 use mathlib.Core.Bool.{Bool, true, false, cond, _&&_}
 use mathlib.Core.List.{List, [], _∷_, _++_}
@@ -7,7 +7,7 @@ use mathlib.Core.Option.{Option, none, some}
 use native.Mathlib.Omega.{arith}
 use native.Mathlib.Nat.{add-zero}
 use lib.Dec.{eqb, ltb}
-use lib.ListN.{length, set, drop, take, length-append}
+use lib.ListN.{length, set, drop, length-append}
 use lib.Seq.{sets, length-sets, sets-eq, set-out}
 use Rattle.order.specs.Ranges.{sharedByte}
 use Rattle.order.specs.Pairs.{lowestOf}

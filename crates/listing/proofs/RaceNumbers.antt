@@ -1,48 +1,28 @@
 -- The sorted numbers of all pairs are those of the bundle's races.
-use Prim.Native.Nat.{ℕ, zero, suc, _+_, _*_, _/_, _%_, _≤_, _<_}
+use Prim.Native.Nat.{ℕ, _/_, _%_, _≤_, _<_}
 use mathlib.Core.Path.{_≡_, refl, sym, _∙_, ap, ap₂, subst}
 use mathlib.Core.Logic.{_⊎_, inl, inr, ⊎-elim}
-use mathlib.Core.Bool.{Bool, true, false, cond, not, _&&_, _||_}
-use mathlib.Core.List.{
-  List,
-  [],
-  _∷_,
-  _++_,
-  map,
-  List·Memᴰ,
-  List·Memᴰ·head,
-  List·Memᴰ·tail,
-  List·Memᴰ·not-nil,
-  List·Memᴰ·eq-of-singleton,
-  List·Memᴰ·append-cases,
-  Memᴰ·append-left,
-  Memᴰ·map,
-  Memᴰ·of-map,
-  Memᴰ·cast,
-  Permᴰ·symm,
-}
+use mathlib.Core.Bool.{Bool, true, false, cond, _&&_}
+use mathlib.Core.List.{List, [], _∷_, _++_, map, List·Memᴰ, List·Memᴰ·head, List·Memᴰ·tail, List·Memᴰ·not-nil, List·Memᴰ·eq-of-singleton, List·Memᴰ·append-cases, Memᴰ·append-left, Memᴰ·map, Memᴰ·of-map, Memᴰ·cast}
 use mathlib.Core.Option.{Option, none, some}
 use native.Mathlib.Omega.{arith}
-use native.Mathlib.Decide.{decLt, ℕ-discrete}
-use lib.Dec.{ltb, eqb}
-use lib.ListN.{length, getD, getElem?}
+use native.Mathlib.Decide.{decLt}
+use lib.Dec.{ltb}
+use lib.ListN.{length, getD}
 use borrow.Author.Tests.{lt-ltb, eq-eqb}
-use Rattle.sorting.specs.Order.{sorted, All, AtLeast}
+use Rattle.sorting.specs.Order.{All, AtLeast}
 use Rattle.sorting.specs.Order as Sorted
-use Rattle.sorting.proofs.Insertion.{sorted-perm, sorted-ascending}
-use Rattle.bundle.specs.Lists.{concatMap, fromOption}
+use Rattle.bundle.specs.Lists.{concatMap}
 use Rattle.bundle.specs.Walk.{Segment}
 use Rattle.bundle.proofs.Tests.{or-one, or-other, both}
-use Rattle.bundle.proofs.ListLaws.{perm-mem, perm-map, Distinct, distinct-head, distinct-tail, concatMap-elim, concatMap-intro}
-use Rattle.bundle.proofs.Keys.{perm-distinct}
+use Rattle.bundle.proofs.ListLaws.{Distinct, distinct-head, distinct-tail, concatMap-elim, concatMap-intro}
 use Rattle.order.specs.Ranges.{sharedByte}
 use Rattle.verdict.specs.Graph.{closureOf}
-use Rattle.verdict.specs.Races.{NamedAccess, nameKey, nameBelow, keyOf, raceKey, raceBelow, lexLess, raceOf, racesAmong}
+use Rattle.verdict.specs.Races.{NamedAccess, nameKey, nameBelow, raceKey, raceBelow, lexLess, raceOf, racesAmong}
 use Rattle.verdict.specs.Demand.{Ascending}
 use Rattle.verdict.specs.Matrix.{PathBits}
-use Rattle.verdict.specs.Working.{accessRowAt, RowOf, AccessTable}
+use Rattle.verdict.specs.Working.{accessRowAt, AccessTable}
 use Rattle.verdict.specs.Tallying.{packed, NameFits, packedLess, packedKey, rowName, rowRange, rowsMeet, rowsClash, raceFrom, raceBetween, raceAtByte, clashRace, pairRace}
-use Rattle.verdict.specs.declared.race.Name.{Name}
 use Rattle.verdict.specs.declared.race.Race.{Race}
 use Rattle.verdict.specs.declared.rows.AccessRow.{AccessRow}
 use Rattle.verdict.proofs.Lexical.{nameKey-tells}
@@ -53,8 +33,8 @@ use Rattle.verdict.proofs.RowRaces.{listed, pair-races}
 use Rattle.verdict.proofs.PackedNames.{packed-key}
 use Rattle.listing.specs.Listing.{numberFor}
 use Rattle.listing.specs.Ranking.{orderOf, Copied}
-use Rattle.listing.specs.Pushing.{raceByte, allNumbers}
-use Rattle.listing.proofs.NumberLists.{Numbers, ranksOf, number-witness, number-first, number-second, numbers-elim, numbers-intro, numbers-distinct}
+use Rattle.listing.specs.Pushing.{raceByte}
+use Rattle.listing.proofs.NumberLists.{Numbers, ranksOf, number-witness, number-first, number-second}
 use Rattle.listing.proofs.RankedAccesses.{Ranked, ranked, RankOf, rank-of, name-of, names-ascend, below-of, of-below}
 
 all-mem : (P : ℕ → Type 0) {xs : List ℕ} {x : ℕ} → All P xs → List·Memᴰ x xs → P x

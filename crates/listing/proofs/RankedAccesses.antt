@@ -1,27 +1,25 @@
 -- The accesses by their ranks: the rows in the order of names, and the race that a number stands for.
-use Prim.Native.Nat.{ℕ, zero, suc, _+_, _*_, _/_, _%_, _≤_, _<_}
-use mathlib.Core.Path.{_≡_, refl, sym, _∙_, ap, ap₂, subst}
-use mathlib.Core.Logic.{_⊎_, inl, inr, ⊎-elim}
-use mathlib.Core.Bool.{Bool, true, false, cond, not, _&&_, _||_}
-use mathlib.Core.List.{List, [], _∷_, _++_, map, List·Memᴰ}
-use mathlib.Core.Option.{Option, none, some}
+use Prim.Native.Nat.{ℕ, _+_, _*_, _%_, _≤_, _<_}
+use mathlib.Core.Path.{_≡_, refl, sym, _∙_, ap, subst}
+use mathlib.Core.Bool.{true}
+use mathlib.Core.List.{List, map, List·Memᴰ}
+use mathlib.Core.Option.{some}
 use native.Mathlib.Omega.{arith}
 use native.Mathlib.Decide.{decLt, ℕ-discrete}
-use lib.Dec.{ltb, eqb}
 use lib.ListN.{length, getD, getElem?}
 use borrow.Author.Tests.{ltb-true, lt-ltb}
 use Rattle.bundle.specs.Walk.{Segment}
 use Rattle.bundle.proofs.ListLaws.{Distinct}
 use Rattle.verdict.specs.Races.{NamedAccess, nameKey, nameBelow}
 use Rattle.verdict.specs.Working.{accessRowAt, RowOf, AccessTable}
-use Rattle.verdict.specs.Tallying.{packed, NameFits, PackedAs, nameIn, rowName}
+use Rattle.verdict.specs.Tallying.{packed, NameFits, nameIn, rowName}
 use Rattle.verdict.specs.declared.race.Name.{Name}
 use Rattle.verdict.specs.declared.rows.AccessRow.{AccessRow}
 use Rattle.verdict.proofs.AccessNames.{accessKey}
-use Rattle.verdict.proofs.ListPlaces.{at-mem, mem-at, at-below, below-at, same-place}
+use Rattle.verdict.proofs.ListPlaces.{mem-at, at-below, below-at, same-place}
 use Rattle.verdict.proofs.PackedNames.{packed-below, side-packed}
 use Rattle.listing.specs.Ranking.{nameWord, orderOf, Copied}
-use Rattle.listing.proofs.OrderLaws.{Placed, rank-place, place-rank, order-strict}
+use Rattle.listing.proofs.OrderLaws.{rank-place, place-rank, order-strict}
 
 -- names that fit are told apart by their numbers
 pub packed-tells : (a b : Name) → NameFits a → NameFits b → packed a ≡ packed b → a ≡ b

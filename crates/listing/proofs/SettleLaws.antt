@@ -1,19 +1,19 @@
 -- What stands in the lent memory at the end, case by case.
 use Prim.Native.Nat.{ℕ, _/_, _≤_}
-use mathlib.Core.Path.{_≡_, refl, sym, _∙_, ap, ap₂}
-use mathlib.Core.Bool.{Bool, true, false, cond, _&&_}
+use mathlib.Core.Path.{_≡_, sym, _∙_, ap}
+use mathlib.Core.Bool.{Bool, true, false, _&&_}
 use mathlib.Core.List.{List, _++_}
 use native.Mathlib.Omega.{arith}
 use lib.Dec.{leb}
 use lib.ListN.{length, take, drop, replicate}
 use lib.Seq.{length-take-le}
 use borrow.Author.Tests.{leb-true}
-use Rattle.sorting.specs.Order.{sorted, sorting}
+use Rattle.sorting.specs.Order.{sorting}
 use Rattle.bundle.specs.Index.{table}
 use Rattle.bundle.proofs.Tests.{and-left, and-right}
 use Rattle.listing.specs.Listing.{zeros}
 use Rattle.listing.specs.Ranking.{RowsIn, sideAt}
-use Rattle.listing.specs.Settling.{fitting, AllPut, Settled}
+use Rattle.listing.specs.Settling.{AllPut, Settled}
 use Rattle.listing.proofs.RankLaws.{sorting-part}
 
 module _ (rows : List ℕ) (accesses races : ℕ) (names numbers spare : List ℕ) where

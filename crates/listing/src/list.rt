@@ -4,8 +4,12 @@ use crate::names::put_names;
 use crate::pairs::push_all;
 use bundle::check::Indexing;
 use bundle::check::index_bundle;
+use bundle::limits::CHUNK_WORDS;
+use bundle::limits::FORK_WORDS;
 use bundle::refusal::Cause;
 use sorting::sort::sort;
+use verdict::judge::MATRIX_WORDS;
+use verdict::judge::WORK_WORDS;
 use verdict::judge::clear;
 use verdict::judge::fill_area;
 ghost use mathlib.Core.Path.{_≡_};
@@ -119,7 +123,7 @@ fn order_area(area: &[u32], n: u32, rows: &mut [u32])
     requires { ⌜ (16384 ≤ length (now area)) × (n ≤ 1024) × (length (now rows) ≡ 8192) ⌝ }
     ensures { λ _. ⌜ Copied (rowsPart (now (area .entry))) (orderOf (rowsPart (now (area .entry))) n) n (now (rows .entry)) (now (rows .exit)) ⌝ }
 {
-    by_name(&area[8192..16384], n, rows);
+    by_name(&area[MATRIX_WORDS..WORK_WORDS], n, rows);
 }
 
 // The numbers of the races in a filled area.
@@ -127,7 +131,7 @@ fn push_area(area: &[u32], rows: &[u32], n: u32, numbers: &mut [u64]) -> usize
     requires { ⌜ TablesFit (matrixPart (now area)) (now rows) n × (16384 ≤ length (now area)) ⌝ }
     ensures { λ r. ⌜ Pushes (allNumbers (matrixPart (now (area .entry))) (now (rows .entry)) n n) (now (numbers .entry)) 0 (now (numbers .exit)) r ⌝ }
 {
-    push_all(&area[..8192], rows, n, numbers)
+    push_all(&area[..MATRIX_WORDS], rows, n, numbers)
 }
 
 // Lists the races of an accepted bundle.
@@ -181,8 +185,8 @@ fn list_in(
     requires { ⌜ 16384 ≤ length (now area) ⌝ }
     ensures { λ r. ⌜ (outcomeOf r (now (area .entry)) (now (names .exit)) (now (numbers .exit)) (now (spare .exit)) ≡ listedOf (now (bytes .entry)) (now (area .entry)) (now (names .entry)) (now (numbers .entry)) (now (spare .entry))) × (length (now (area .exit)) ≡ length (now (area .entry))) × Readable (now (bytes .entry)) r (now (names .exit)) (now (numbers .exit)) ⌝ }
 {
-    let mut chunks = [0u64; 1024];
-    let mut forks = [0u64; 1536];
+    let mut chunks = [0u64; CHUNK_WORDS];
+    let mut forks = [0u64; FORK_WORDS];
     match index_bundle(bytes, &mut chunks, &mut forks) {
         Indexing::Accepted {
             chunks: count,
@@ -205,7 +209,7 @@ pub fn list_races(
     ensures { λ r. ⌜ listingOf (now (bytes .entry)) (now (work .entry)) (now (names .entry)) (now (numbers .entry)) (now (spare .entry)) ≡ outcomeOf r (now (work .exit)) (now (names .exit)) (now (numbers .exit)) (now (spare .exit)) ⌝ }
     ensures readable { λ r. ⌜ Readable (now (bytes .entry)) r (now (names .exit)) (now (numbers .exit)) ⌝ }
 {
-    if work.len() < 16384 {
+    if work.len() < WORK_WORDS {
         return Listed::Refused {
             place: 0,
             cause: Cause::WorkAreaTooSmall,

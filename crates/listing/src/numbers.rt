@@ -1,9 +1,8 @@
 // A race as one number, in whose order the races are: the witness, and the ranks of the two names among all.
-use verdict::race::Name;
+use verdict::pairs::name_in;
 use verdict::race::Race;
 ghost use mathlib.Core.Path.{_≡_};
 ghost use lib.ListN.{getD};
-ghost use Rattle.verdict.specs.Tallying.{nameIn};
 ghost use Rattle.listing.specs.Listing.{numberFor, raceIn};
 
 // The number of a race: 32 bits, and 10 and 10 for ranks below 1,024.
@@ -21,16 +20,6 @@ fn side_at(names: &[u64], rank: usize) -> u64
         return names[rank];
     }
     0
-}
-
-fn name_in(side: u64) -> Name
-    ensures { λ r. ⌜ r ≡ nameIn side ⌝ }
-{
-    Name {
-        team: (side / 1099511627776 % 65536) as u16,
-        member: (side / 4294967296 % 256) as u8,
-        number: (side / 65536 % 65536) as u16,
-    }
 }
 
 // The race that a number stands for.

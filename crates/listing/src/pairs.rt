@@ -1,6 +1,7 @@
 // The races of all pairs of accesses as numbers, in lent memory. The accesses stand in the order of their names, and so do the pairs.
 use crate::numbers::number_of;
 use order::range::Lowest;
+use verdict::pairs::block_end;
 use verdict::pairs::clash;
 use verdict::pairs::lowest;
 use verdict::pairs::passing;
@@ -11,7 +12,7 @@ ghost use mathlib.Core.Path.{_≡_};
 ghost use mathlib.Core.Bool.{_&&_};
 ghost use mathlib.Core.List.{[], _∷_};
 ghost use lib.Dec.{eqb, ltb};
-ghost use Prim.Native.Nat.{_+_, _%_, _≤_, _<_, min};
+ghost use Prim.Native.Nat.{_+_, _%_, _≤_, _<_};
 ghost use Rattle.verdict.specs.Matrix.{Within, TestWord};
 ghost use Rattle.verdict.specs.Working.{accessRowAt, RowIn};
 ghost use Rattle.order.specs.Ranges.{sharedByte};
@@ -127,15 +128,6 @@ fn push_block(
     }
     let word = passing(rows, first as usize, one);
     push_passing(matrix, rows, one, i, word, first, end, numbers, count)
-}
-
-// The end of the block of 32 that begins at `first`, of n accesses.
-fn block_end(first: u32, n: u32) -> u32
-    requires { ⌜ first < 1024 ⌝ }
-    ensures { λ r. ⌜ r ≡ min (first + 32) n ⌝ }
-{
-    let end = first + 32;
-    if end <= n { end } else { n }
 }
 
 // The races of the i-th access with those behind it, in blocks of 32.

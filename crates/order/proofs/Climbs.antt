@@ -173,7 +173,7 @@ row-few words i e =
     let r : w / 65536 % 65536 < 65536 = mod-lt (w / 65536) (omega arith) in
     rw e (omega arith, omega arith)
 
-holding-counted : (ts : List Triple) → counted (holding ts) ≡ ts
+pub holding-counted : (ts : List Triple) → counted (holding ts) ≡ ts
 unfolding counted holding
 holding-counted ts = take-append-seam ts (replicate (5 - length ts) blank)
 

@@ -2,7 +2,8 @@
 use Rattle.order.specs.Climbing.{joinsBefore, joinedBefore, openedIn, stateByRows, tripleOf, extended, chunkLabelOf}
 use Rattle.order.specs.Labels.{lastTriple, forkLabel, segmentLabel, labelOf, counted, blank, holding, spanOk, rootSpan, labelOk, sameTriple, compareTriples, compareFrom, compareOf}
 use Rattle.order.specs.Pairs.{touchesSome, outerOf, pairByte}
-use Rattle.order.specs.Ranges.{touched, leastWith, least, sharedByte, sharedOf}
+use Rattle.order.specs.Ranges.{sharedOf}
+use Rattle.order.specs.SharedBytes.{touched, leastWith, least, sharedByte}
 use Rattle.bundle.proofs.Computing.{bundle-computes}
 
 unfoldable pub order-computes : Unit {0}

@@ -11,7 +11,8 @@ use Rattle.bundle.specs.Lists.{upTo, passing, among}
 use Rattle.bundle.specs.declared.command.Range.{Range}
 use Rattle.bundle.proofs.Tests.{decide}
 use Rattle.bundle.proofs.ListLaws.{passing-elim, passing-intro, upTo-elim, upTo-intro, among-elim, among-intro, concatMap-elim, concatMap-intro}
-use Rattle.order.specs.Ranges.{touched, Touches, LeastShared, leastWith, least, sharedByte}
+use Rattle.order.specs.Ranges.{Touches, LeastShared}
+use Rattle.order.specs.SharedBytes.{touched, leastWith, least, sharedByte}
 
 -- the list of touched bytes
 pub touched-elim : (r : Range) (byte : ℕ) → List·Memᴰ byte (touched r) → Touches r byte

@@ -1,5 +1,6 @@
 -- The definitions of docs/FORMAT.md for labels, their comparison and shared bytes.
-pub mod Labels
-pub mod Ranges
-pub mod Pairs
 pub mod Climbing
+pub mod Labels
+pub mod Pairs
+pub mod Ranges
+pub mod SharedBytes

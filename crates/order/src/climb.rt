@@ -8,6 +8,8 @@ use bundle::index::chunk_at;
 use bundle::index::chunk_of;
 use bundle::index::fork_at;
 use bundle::index::fork_of;
+use bundle::limits::CHUNK_WORDS;
+use bundle::limits::FORK_WORDS;
 use bundle::refusal::Cause;
 ghost use mathlib.Core.Path.{_≡_};
 ghost use mathlib.Core.List.{[]};
@@ -188,8 +190,8 @@ fn label_by_rows(
 pub fn label_of_segment(bytes: &[u8], team: u16, member: u8, segment: u32) -> Labelling
     ensures { λ r. ⌜ Labelled r (labelOf (now (bytes .entry)) team member segment) ⌝ }
 {
-    let mut chunks = [0u64; 1024];
-    let mut forks = [0u64; 1536];
+    let mut chunks = [0u64; CHUNK_WORDS];
+    let mut forks = [0u64; FORK_WORDS];
     let indexing = index_bundle(bytes, &mut chunks, &mut forks);
     match indexing {
         Indexing::Accepted {

@@ -1,13 +1,6 @@
-// Lock sets: lock l is in the set where bit l is set.
+// Lock sets: lock l is in the set where bit l is set (`bundle::chunk::holds_lock`).
 ghost use mathlib.Core.Path.{_≡_};
-ghost use Rattle.bundle.specs.Locks.{holds, commonLock};
-
-// Whether a lock is in a set; a number over 63 is in none.
-pub fn holds(lock: u8, locks: u64) -> bool
-    ensures { λ r. ⌜ r ≡ holds lock locks ⌝ }
-{
-    bundle::chunk::holds_lock(locks, lock)
-}
+ghost use Rattle.bundle.specs.Locks.{commonLock};
 
 // Whether two sets have a lock in common.
 pub fn common(first: u64, second: u64) -> bool

@@ -1,6 +1,5 @@
 -- The lines of a listing by their index, and that none is empty. Assumes nothing.
 use mathlib.Core.Path.{_≡_, refl, sym, ap, _∙_}
-use mathlib.Core.Bool.{cond, true, false}
 use mathlib.Core.List.{List, [], _∷_, _++_, map, append-nil}
 use Prim.Native.Nat.{ℕ, zero, suc, _+_, _-_, _≤_, _<_}
 use native.Mathlib.Nat.{le-of-suc-le-suc, not-suc-le-zero, min-eq-left, min-eq-right, add-zero}
@@ -11,10 +10,9 @@ use borrow.Author.Tests.{eq-eqb, ne-eqb, le-leb}
 use lib.Dec.{eqb}
 use lib.ListN.{length, getD, take, drop, length-map, length-append, length-take, List·getD-append, List·getD-eq-default, take-append-drop}
 use lib.Seq.{getD-take, getD-at}
-use Rattle.bundle.specs.Answer.{gives, refuses, Answer}
+use Rattle.bundle.specs.Answer.{gives}
 use Rattle.bundle.specs.Commands.{Lent, written}
 use Rattle.bundle.proofs.Tests.{cond-elim}
-use Rattle.verdict.specs.declared.race.Race.{Race}
 use Rattle.text.specs.Lines.{countsLine, raceLine, pairsLine, raceFreeLine, printedAt}
 use Rattle.text.proofs.LineEnds.{line-some, counts-ends, race-ends, pairs-ends, race-free-ends}
 use Rattle.listing.specs.Listing.{racesIn, raceIn}

@@ -10,8 +10,6 @@ use lib.Dec.{eqb}
 use lib.ListN.{length, getD, take, length-append, length-take}
 use Rattle.bundle.proofs.Tests.{cond-elim}
 use Rattle.verdict.specs.Tallying.{nameIn}
-use Rattle.verdict.specs.declared.race.Name.{Name}
-use Rattle.verdict.specs.declared.race.Race.{Race}
 use Rattle.text.specs.Digits.{ascii, decimal, hexadecimal, widthOf}
 use Rattle.text.specs.Lines.{lineEnd, nameText, countsLine, raceLine, pairsLine, raceFreeLine}
 use Rattle.text.specs.Inner.{accessText}

@@ -1,9 +1,8 @@
 -- Filling a page line by line: a line put or left out, the page begun, gone on with, and ended. Assumes nothing.
 use mathlib.Core.Path.{_≡_, refl, sym, ap, ap₂, _∙_, subst}
-use mathlib.Core.Bool.{Bool, true, false, cond}
+use mathlib.Core.Bool.{Bool, true, false}
 use mathlib.Core.List.{List, [], _∷_, _++_, append-assoc, append-nil}
-use mathlib.Core.Logic.{inl, inr}
-use Prim.Native.Nat.{ℕ, zero, suc, _+_, _-_, _≤_, _<_}
+use Prim.Native.Nat.{ℕ, suc, _+_, _-_, _≤_, _<_}
 use native.Mathlib.Nat.{add-zero, sub-zero}
 use native.Mathlib.Numerals.{add-one}
 use native.Mathlib.Omega.{arith}
@@ -17,11 +16,10 @@ use Rattle.bundle.specs.Commands.{Lent, written, puttingOf}
 use Rattle.bundle.specs.declared.command.Putting.{Putting}
 use Rattle.bundle.specs.declared.command.Putting.the-variants as Put
 use Rattle.bundle.specs.declared.refusal.Cause.{Cause}
-use Rattle.bundle.proofs.Tests.{decide, false-is-true}
 use Rattle.text.specs.Lines.{printedAt}
 use Rattle.listing.specs.Listing.{over}
 use Rattle.listing.specs.declared.list.Totals.{Totals}
-use Rattle.pages.specs.Listings.{linesIn, pageOf, pageFrom, Filled}
+use Rattle.pages.specs.Listings.{linesIn, pageOf, pageFrom}
 use Rattle.pages.specs.Inner.{PutNext}
 use Rattle.pages.proofs.Indexing.{lines-count, line-some-at}
 

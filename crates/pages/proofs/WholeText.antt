@@ -1,19 +1,17 @@
 -- Pages one after another make the whole text of a listing. Assumes nothing.
-use mathlib.Core.Path.{_≡_, refl, sym, ap, ap₂, _∙_}
+use mathlib.Core.Path.{_≡_, refl, sym, ap, _∙_}
 use mathlib.Core.Bool.{Bool, true, false}
 use mathlib.Core.List.{List, [], _∷_, _++_}
 use Prim.Native.Nat.{ℕ, zero, suc, _+_, _-_, _≤_, _<_}
-use native.Mathlib.Nat.{zero-add, add-zero}
 use native.Mathlib.Decide.{decLt}
 use native.Mathlib.Omega.{arith}
-use borrow.Author.Tests.{leb-true, leb-false, le-leb}
+use borrow.Author.Tests.{leb-true, le-leb}
 use lib.Dec.{leb}
-use lib.ListN.{length, getD, take, drop, length-append, drop-of-length-le}
-use lib.Seq.{drop-cons, drop-drop, drop-append-seam}
+use lib.ListN.{length, getD, drop, length-append, drop-of-length-le}
+use lib.Seq.{drop-cons, drop-drop}
 use Rattle.bundle.specs.Lists.{backToBack}
-use Rattle.bundle.specs.Answer.{gives}
 use Rattle.bundle.specs.Chunks.{chunksOf}
-use Rattle.bundle.specs.Check.{checkOf, Accepted}
+use Rattle.bundle.specs.Check.{Accepted}
 use Rattle.bundle.specs.Commands.{written, puttingOf}
 use Rattle.bundle.specs.declared.command.Putting.{Putting}
 use Rattle.bundle.specs.declared.command.Putting.the-variants as Put

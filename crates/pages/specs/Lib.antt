@@ -1,3 +1,3 @@
--- The text of a bundle's listing, by document 01.
+-- The text of a bundle's listing (docs/FORMAT.md, "The listing").
 pub mod Listings
 pub mod Inner

@@ -1,4 +1,4 @@
--- The listing of a bundle: what the program racelist prints. Document 01, "Settled examples": "First the counts; then for each race in
+-- The listing of a bundle: what the program racelist prints (docs/FORMAT.md, "The listing"): "First the counts; then for each race in
 -- order [..]; then the race count. [..] Without races the second and only other line is `race-free`. A refusal prints just `refused N at
 -- P`, number and offset."
 use Prim.Native.Nat.{ℕ, _+_, _-_}

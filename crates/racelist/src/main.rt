@@ -1,12 +1,14 @@
 // Prints the listing of the bundle on standard input: the counts, each race, and the last line; or the refusal.
 mod print;
 
+use bundle::limits::MOST_ACCESSES;
 use libc::STDIN_FILENO;
 use listing::list::Listed;
 use listing::list::list_races;
 use print::print_few;
 use print::print_many;
 use print::print_refused;
+use verdict::judge::WORK_WORDS;
 
 // Lists with room for the races of any bundle. Where even that were too little it would call itself: the compiler keeps a function that
 // does so apart from its caller, so that a small bundle does not pay for 6 MB of stack.
@@ -14,8 +16,8 @@ fn list_many(bytes: &[u8], turns: u32) {
     if turns < 1 {
         return;
     }
-    let mut work = [0u32; 16384];
-    let mut names = [0u64; 1024];
+    let mut work = [0u32; WORK_WORDS];
+    let mut names = [0u64; MOST_ACCESSES as usize];
     let mut numbers = [0u64; 523776];
     let mut spare = [0u64; 261888];
     match list_races(bytes, &mut work, &mut names, &mut numbers, &mut spare) {
@@ -31,8 +33,8 @@ fn list(bytes: &[u8]) {
         list_many(bytes, 1);
         return;
     }
-    let mut work = [0u32; 16384];
-    let mut names = [0u64; 1024];
+    let mut work = [0u32; WORK_WORDS];
+    let mut names = [0u64; MOST_ACCESSES as usize];
     let mut numbers = [0u64; 8448];
     let mut spare = [0u64; 4224];
     match list_races(bytes, &mut work, &mut names, &mut numbers, &mut spare) {

@@ -1,4 +1,4 @@
--- Document 01's settled listings, settled by computation. Assumes nothing.
+-- The listings of the examples in docs/FORMAT.md, settled by computation. Assumes nothing.
 use mathlib.Core.Path.{_≡_, refl}
 use mathlib.Core.List.{_++_}
 use Rattle.verdict.specs.declared.race.Race.{Race}

@@ -1,4 +1,4 @@
--- The text of the program racelist, by document 01.
+-- The text of the program racelist (docs/FORMAT.md, "The listing").
 pub mod Digits
 pub mod Lines
 pub mod Inner

@@ -1,4 +1,4 @@
--- The lines that the program racelist prints. Document 01, "Settled examples": "First the counts; then for each race in order its witness as
+-- The lines that the program racelist prints (docs/FORMAT.md, "The listing"): "First the counts; then for each race in order its witness as
 -- eight lower-case hexadecimal digits, first name as team.member.number, site, second name, site; then the race count. All but the witness
 -- is decimal without leading zeros. Without races the second and only other line is `race-free`. A refusal prints just `refused N at P`,
 -- number and offset. Every line ends in 0x0a."

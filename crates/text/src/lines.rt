@@ -2,6 +2,7 @@
 use crate::digits;
 use crate::pieces;
 use bundle::command::Putting;
+use bundle::copy::copy_in;
 use bundle::refusal::Cause;
 use verdict::race::Race;
 ghost use mathlib.Core.Path.{_≡_};
@@ -28,7 +29,7 @@ pub fn put_line(line: &[u8], buffer: &mut [u8], position: usize) -> Putting
             cause: Cause::DoesNotFit,
         };
     }
-    pieces::copy_in(line, buffer, position);
+    copy_in(line, buffer, position);
     Putting::Written(position + line.len())
 }
 

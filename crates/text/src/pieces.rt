@@ -1,26 +1,14 @@
 // The pieces of a line, each written from a position on. The answer is the position after it.
 use crate::digits;
+use bundle::copy::copy_in;
 use verdict::race::Name;
 ghost use mathlib.Core.Path.{_≡_};
 ghost use mathlib.Core.List.{_∷_, _++_};
 ghost use Prim.Native.Nat.{_+_, _≤_};
 ghost use lib.ListN.{length};
-ghost use Rattle.bundle.specs.Commands.{written};
 ghost use Rattle.text.specs.Digits.{decimal};
 ghost use Rattle.text.specs.Lines.{lineEnd};
 ghost use Rattle.text.specs.Inner.{Extended, accessText};
-
-// Copies all of the bytes into the buffer, from the position on.
-pub fn copy_in(bytes: &[u8], buffer: &mut [u8], position: usize)
-    requires { ⌜ position + length (now bytes) ≤ length (now buffer) ⌝ }
-    ensures { λ _. ⌜ now (buffer .exit) ≡ written (now (buffer .entry)) position (now (bytes .entry)) ⌝ }
-{
-    let mut i = 0;
-    while i < bytes.len() {
-        buffer[position + i] = bytes[i];
-        i += 1;
-    }
-}
 
 pub fn put_word(word: &[u8], line: &mut [u8; 96], at: usize) -> usize
     requires { ⌜ (at + length (now word) ≤ 96) × (length (now line) ≡ 96) ⌝ }

@@ -3,6 +3,7 @@ use crate::digits;
 use crate::lines::put_line;
 use crate::pieces;
 use bundle::command::Putting;
+use bundle::copy::copy_in;
 use verdict::race::Name;
 ghost use mathlib.Core.Path.{_≡_};
 ghost use Prim.Native.Nat.{_+_, _*_, _≤_, _<_};
@@ -20,7 +21,7 @@ pub fn put_side(name: Name, site: u16, sides: &mut [u8; 32768], rank: usize)
 {
     let mut line = [0u8; 96];
     let size = pieces::put_access(name, site, &mut line, 0);
-    pieces::copy_in(&line[..size], &mut sides[..], rank * 32);
+    copy_in(&line[..size], &mut sides[..], rank * 32);
     sides[rank * 32 + 31] = size as u8;
 }
 

@@ -23,11 +23,11 @@ use Rattle.verdict.proofs.Computing.{verdict-computes}
 use Rattle.verdict.proofs.SmallBundles.{bytes, race}
 
 -- what the definitions give, and what is wanted
-pub record Row (A : Type 0) : Type 0 where
+pub record AimedExample (A : Type 0) : Type 0 where
   pub given : A
   pub wanted : A
 
-unfoldable pub row : {A : Type 0} → A → A → Row A
+unfoldable pub row : {A : Type 0} → A → A → AimedExample A
 row g w = record { given = g; wanted = w }
 
 unfoldable pub name : ℕ → ℕ → ℕ → Name
@@ -37,7 +37,7 @@ unfoldable pub label : ℕ → List Triple → Label
 label count triples = record { count = count; triples = triples }
 
 -- reading a command: a refusal, or the position after it
-unfoldable pub reads : List (Row (Answer ℕ))
+unfoldable pub reads : List (AimedExample (Answer ℕ))
 reads =
     row (whenGiven (readAt (bytes 4 0x10000002) 0) (λ (t : Taken). gives (t .next))) (refuses 5 0) ∷
     row (whenGiven (readAt (bytes 4 0x10010001) 0) (λ (t : Taken). gives (t .next))) (gives 4) ∷
@@ -56,12 +56,12 @@ reads =
     row (whenGiven (readAt (bytes 3 0x100100) 0) (λ (t : Taken). gives (t .next))) (refuses 3 0) ∷
     []
 
-pub reads-agree : map (λ (r : Row (Answer ℕ)). r .given) reads ≡ map (λ (r : Row (Answer ℕ)). r .wanted) reads
+pub reads-agree : map (λ (r : AimedExample (Answer ℕ)). r .given) reads ≡ map (λ (r : AimedExample (Answer ℕ)). r .wanted) reads
 unfolding verdict-computes bytes race row name label reads
 reads-agree = refl
 
 -- refusals of check, and bundles that it accepts
-unfoldable pub checks : List (Row (Answer (Unit {0})))
+unfoldable pub checks : List (AimedExample (Answer (Unit {0})))
 checks =
     row (checkOf (bytes 5 0x0100000002)) (gives tt) ∷
     row (checkOf (bytes 45 0x01000000100100020201010000310a000010000008000200041102010100013014000a10000000000100041102)) (gives tt) ∷
@@ -231,12 +231,12 @@ checks =
     row (checkOf (bytes 47 0x0100000010010001020101000010020001020102000010030001020103000010040002020104000011020104000102)) (refuses 12 42) ∷
     []
 
-pub checks-agree : map (λ (r : Row (Answer (Unit {0}))). r .given) checks ≡ map (λ (r : Row (Answer (Unit {0}))). r .wanted) checks
+pub checks-agree : map (λ (r : AimedExample (Answer (Unit {0}))). r .given) checks ≡ map (λ (r : AimedExample (Answer (Unit {0}))). r .wanted) checks
 unfolding verdict-computes bytes race row name label checks
 checks-agree = refl
 
 -- labels of segments
-unfoldable pub labels : List (Row (Answer (List Triple)))
+unfoldable pub labels : List (AimedExample (Answer (List Triple)))
 labels =
     row (labelOf (bytes 46 0x01000000100100020201010000110201010001111004000110020002020104000002010200001102010200011102) 1 0 1) (gives (triple 0 1 0 ∷ triple 0 2 1 ∷ [])) ∷
     row (labelOf (bytes 46 0x01000000100100020201010000110201010001111004000110020002020104000002010200001102010200011102) 1 1 1) (gives (triple 0 1 0 ∷ triple 1 2 1 ∷ [])) ∷
@@ -253,12 +253,12 @@ labels =
     row (labelOf (bytes 42 0x010000001001000102010100001002000102010200001003000102010300001004000102010400001102) 4 0 1) (gives (triple 0 1 0 ∷ triple 0 1 0 ∷ triple 0 1 0 ∷ triple 0 1 0 ∷ triple 0 1 1 ∷ [])) ∷
     []
 
-pub labels-agree : map (λ (r : Row (Answer (List Triple))). r .given) labels ≡ map (λ (r : Row (Answer (List Triple))). r .wanted) labels
+pub labels-agree : map (λ (r : AimedExample (Answer (List Triple))). r .given) labels ≡ map (λ (r : AimedExample (Answer (List Triple))). r .wanted) labels
 unfolding verdict-computes bytes race row name label labels
 labels-agree = refl
 
 -- comparisons of labels, both ways
-unfoldable pub comparisons : List (Row (Answer Order))
+unfoldable pub comparisons : List (AimedExample (Answer Order))
 comparisons =
     row (compareOf (label 1 (triple 0 1 0 ∷ triple 7 0 7 ∷ triple 7 0 7 ∷ triple 7 0 7 ∷ triple 7 0 7 ∷ [])) (label 1 (triple 0 1 0 ∷ triple 7 0 7 ∷ triple 7 0 7 ∷ triple 7 0 7 ∷ triple 7 0 7 ∷ []))) (gives Ord.Same) ∷
     row (compareOf (label 1 (triple 0 1 0 ∷ triple 7 0 7 ∷ triple 7 0 7 ∷ triple 7 0 7 ∷ triple 7 0 7 ∷ [])) (label 1 (triple 0 1 0 ∷ triple 0 1 0 ∷ triple 0 1 0 ∷ triple 0 1 0 ∷ triple 0 1 0 ∷ []))) (gives Ord.Same) ∷
@@ -319,7 +319,7 @@ comparisons =
     row (compareOf (label 3 (triple 0 1 0 ∷ triple 0 2 0 ∷ triple 0 65 0 ∷ triple 7 0 7 ∷ triple 7 0 7 ∷ [])) (label 2 (triple 0 1 0 ∷ triple 0 3 0 ∷ triple 7 0 7 ∷ triple 7 0 7 ∷ triple 7 0 7 ∷ []))) (refuses 15 1) ∷
     []
 
-pub comparisons-agree : map (λ (r : Row (Answer Order)). r .given) comparisons ≡ map (λ (r : Row (Answer Order)). r .wanted) comparisons
+pub comparisons-agree : map (λ (r : AimedExample (Answer Order)). r .given) comparisons ≡ map (λ (r : AimedExample (Answer Order)). r .wanted) comparisons
 unfolding verdict-computes bytes race row name label comparisons
 comparisons-agree = refl
 
@@ -337,7 +337,7 @@ unfoldable pub witnesses : List Race
 witnesses = race 15 1 0 1 2 1 1 0 3 ∷ race 16 1 0 0 1 1 1 1 4 ∷ []
 
 -- the least race above a key
-unfoldable pub aboves : List (Row (Option Race))
+unfoldable pub aboves : List (AimedExample (Option Race))
 aboves =
     row (raceAbove (keyOf 0 (name 0 0 0) (name 0 0 0)) four) (some (race 64 1 0 0 1 1 1 0 3)) ∷
     row (raceAbove (keyOf 4294967295 (name 65535 255 65535) (name 65535 255 65535)) four) none ∷
@@ -375,24 +375,24 @@ aboves =
     row (raceAbove (keyOf 0 (name 7 7 7) (name 3 3 3)) three) none ∷
     []
 
-pub aboves-agree : map (λ (r : Row (Option Race)). r .given) aboves ≡ map (λ (r : Row (Option Race)). r .wanted) aboves
+pub aboves-agree : map (λ (r : AimedExample (Option Race)). r .given) aboves ≡ map (λ (r : AimedExample (Option Race)). r .wanted) aboves
 unfolding verdict-computes bytes race row name label four three teams witnesses aboves
 aboves-agree = refl
 
 -- next race, and the work area afterwards
-unfoldable pub nexts : List (Row (Lent (Option Race)))
+unfoldable pub nexts : List (AimedExample (Lent (Option Race)))
 nexts =
     row (nextOf (bytes 45 0x01000000100100020201010000310a000010000008000200041102010100013014000a10000000000100041102) 0 (name 0 0 0) (name 0 0 0) (replicate 16383 7)) (record { answer = (refuses 13 0); buffer = replicate 16383 7 }) ∷
     row (nextOf (bytes 67 0x01000000100100020201010000310100400000000000010001310200400000000000010001020101000131030040000000000001000131040040000000000001000102) 64 (name 1 0 1) (name 1 0 0) (replicate 16384 7)) (record { answer = (gives (some (race 64 1 0 1 2 1 1 0 3))); buffer = replicate 16384 0 }) ∷
     row (nextOf (bytes 0 0x0) 0 (name 0 0 0) (name 0 0 0) (replicate 16385 7)) (record { answer = (refuses 10 0); buffer = replicate 16385 0 }) ∷
     []
 
-pub nexts-agree : map (λ (r : Row (Lent (Option Race))). r .given) nexts ≡ map (λ (r : Row (Lent (Option Race))). r .wanted) nexts
+pub nexts-agree : map (λ (r : AimedExample (Lent (Option Race))). r .given) nexts ≡ map (λ (r : AimedExample (Lent (Option Race))). r .wanted) nexts
 unfolding verdict-computes bytes race row name label nexts
 nexts-agree = refl
 
 -- judge, and the work area afterwards
-unfoldable pub judgements : List (Row (Lent Judgement))
+unfoldable pub judgements : List (AimedExample (Lent Judgement))
 judgements =
     row (judgeOf (bytes 45 0x01000000100100020201010000310a000010000008000200041102010100013014000a10000000000100041102) (replicate 0 7)) (record { answer = (refuses 13 0); buffer = replicate 0 0 }) ∷
     row (judgeOf (bytes 45 0x01000000100100020201010000310a000010000008000200041102010100013014000a10000000000100041102) (replicate 3 7)) (record { answer = (refuses 13 0); buffer = replicate 3 7 }) ∷
@@ -402,6 +402,6 @@ judgements =
     row (judgeOf (bytes 0 0x0) (replicate 16385 7)) (record { answer = (refuses 10 0); buffer = replicate 16385 0 }) ∷
     []
 
-pub judgements-agree : map (λ (r : Row (Lent Judgement)). r .given) judgements ≡ map (λ (r : Row (Lent Judgement)). r .wanted) judgements
+pub judgements-agree : map (λ (r : AimedExample (Lent Judgement)). r .given) judgements ≡ map (λ (r : AimedExample (Lent Judgement)). r .wanted) judgements
 unfolding verdict-computes bytes race row name label judgements
 judgements-agree = refl

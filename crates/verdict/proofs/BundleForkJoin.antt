@@ -1,7 +1,7 @@
 -- The segments of an accepted bundle fork and join.
-use Prim.Native.Nat.{ℕ, zero, suc, _+_, _*_, _≤_, _<_}
+use Prim.Native.Nat.{ℕ, suc, _+_, _*_, _≤_, _<_}
 use mathlib.Core.Path.{_≡_, refl, sym, _∙_, ap, ap₂, subst}
-use mathlib.Core.Logic.{_⊎_, inl, inr, ⊎-elim}
+use mathlib.Core.Logic.{_⊎_, inl, inr}
 use mathlib.Core.Bool.{Bool, true, false, cond, not, _&&_}
 use mathlib.Core.List.{List, [], _∷_, _++_, List·Memᴰ, List·Memᴰ·head, List·Memᴰ·tail, List·Memᴰ·not-nil, List·Memᴰ·cases-cons, List·Memᴰ·eq-of-singleton, Memᴰ·map}
 use mathlib.Core.Option.{Option, none, some}
@@ -11,7 +11,7 @@ use lib.ListN.{getElem?}
 use borrow.Author.Tests.{leb-true, leb-false, ltb-false, eqb-true, eq-eqb, ne-eqb}
 use Rattle.bundle.specs.Answer.{gives}
 use Rattle.bundle.specs.Cases.{onRegion}
-use Rattle.bundle.specs.Commands.{formOf, codeOf, widthsOf, fitWidths, operandsOk, inRange}
+use Rattle.bundle.specs.Commands.{codeOf, widthsOf, fitWidths, operandsOk, inRange}
 use Rattle.bundle.specs.Scan.{start}
 use Rattle.bundle.specs.declared.command.Command.{Command}
 use Rattle.bundle.specs.declared.command.Command.the-variants as Com
@@ -36,7 +36,7 @@ use Rattle.order.specs.Climbing.{Climbable}
 use Rattle.order.proofs.Climbs.{root-unforked, climbs}
 use Rattle.verdict.specs.Graph.{ofChunk, ofBarrier, ofRegion, Segment, segmentsIn, segmentsOf}
 use Rattle.verdict.proofs.ForkJoin.{OneChunk, Onward, at-end, at-barrier, at-region, ForkedBy, Parent, InChunk, ForkJoin}
-use Rattle.verdict.proofs.SegmentChains.{ChunkRun, chunk-run, Runs, OfRun, of-run, onward-in, last-in, opened-region-in, opened-barrier-in, Passed, passed-in, at-number, Forks, fork-of, forked-of}
+use Rattle.verdict.proofs.SegmentChains.{ChunkRun, chunk-run, of-run, onward-in, last-in, opened-region-in, opened-barrier-in, passed-in, at-number, Forks, fork-of, forked-of}
 
 true-of-not : (t : Bool) → not t ≡ false → t ≡ true
 true-of-not true e = refl

@@ -1,14 +1,13 @@
 -- Segments that fork and join: what is known of those of an accepted bundle, and the paths between them.
 use Prim.Native.Nat.{ℕ, zero, suc, _+_, _-_, _≤_, _<_}
 use mathlib.Core.Path.{_≡_, refl, sym, _∙_, ap, subst}
-use mathlib.Core.Logic.{_⊎_, inl, inr}
-use mathlib.Core.List.{List, [], _∷_, List·Memᴰ}
+use mathlib.Core.List.{List, [], List·Memᴰ}
 use native.Mathlib.Omega.{arith}
-use native.Mathlib.Decide.{decLt, ℕ-discrete}
+use native.Mathlib.Decide.{decLt}
 use Rattle.bundle.specs.Check.{sizeOf}
 use Rattle.bundle.specs.declared.index.Fork.{Fork}
 use Rattle.order.specs.Labels.{forkLabel, segmentLabel}
-use Rattle.verdict.specs.Graph.{Node, ofChunk, ofBarrier, ofRegion, Segment, Joined, Edge, GraphPath, here, step}
+use Rattle.verdict.specs.Graph.{Node, ofChunk, ofBarrier, ofRegion, Segment, Joined, GraphPath, here, step}
 
 -- two segments are of one chunk
 pub record OneChunk (g h : Segment) : Type 0 where

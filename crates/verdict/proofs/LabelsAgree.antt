@@ -1,37 +1,30 @@
 -- Labels agree with the graph.
-use Prim.Native.Nat.{ℕ, suc, _-_, _≤_, _<_}
+use Prim.Native.Nat.{ℕ, suc, _≤_, _<_}
 use mathlib.Core.Path.{_≡_, refl, sym, _∙_, ap, subst}
-use mathlib.Core.Logic.{_↔_}
-use mathlib.Core.Bool.{true, _&&_}
-use mathlib.Core.List.{List, [], _∷_, _++_, List·Memᴰ}
+use mathlib.Core.Bool.{true}
+use mathlib.Core.List.{List, [], _∷_, List·Memᴰ}
 use native.Mathlib.Omega.{arith}
-use lib.Dec.{eqb, leb}
-use lib.ListN.{length, replicate, length-append}
-use lib.Seq.{take-append-seam}
-use borrow.Author.Tests.{le-leb, eq-eqb}
-use Rattle.bundle.specs.Answer.{Answer, gives}
+use lib.ListN.{length, length-append}
+use borrow.Author.Tests.{le-leb}
+use Rattle.bundle.specs.Answer.{gives}
 use Rattle.bundle.specs.Lists.{all}
 use Rattle.bundle.specs.Chunks.{chunksOf}
 use Rattle.bundle.specs.Walk.{forksOf}
-use Rattle.bundle.specs.Check.{Accepted, sizeOf}
+use Rattle.bundle.specs.Check.{Accepted}
 use Rattle.bundle.specs.declared.index.Fork.{Fork}
 use Rattle.bundle.proofs.Tests.{both}
-use Rattle.order.specs.Labels.{lastTriple, forkLabel, segmentLabel, counted, blank, holding, spanOk, rootSpan, labelOk, compareFrom, compareOf}
+use Rattle.order.specs.Labels.{lastTriple, forkLabel, segmentLabel, holding, spanOk, rootSpan, labelOk, compareFrom, compareOf}
 use Rattle.order.specs.Climbing.{chunkLabelOf}
 use Rattle.order.specs.declared.label.Triple.{Triple}
 use Rattle.order.specs.declared.label.Order.{Order}
 use Rattle.order.specs.declared.label.Order.the-variants as Ord
-use Rattle.order.proofs.Climbs.{room-left}
-use Rattle.verdict.specs.Graph.{Node, Segment, GraphPath, here, segmentsOf}
+use Rattle.order.proofs.Climbs.{holding-counted, room-left}
+use Rattle.verdict.specs.Graph.{Segment, GraphPath, here, segmentsOf}
 use Rattle.verdict.specs.Agreement.{Tells, Agrees, LabelsAgree}
-use Rattle.verdict.proofs.LabelOrder.{LabelBefore, Apart, before-trans, before-not-self, told-before, told-after, told-same, told-apart}
+use Rattle.verdict.proofs.LabelOrder.{Apart, before-trans, before-not-self, told-before, told-after, told-same, told-apart}
 use Rattle.verdict.proofs.ForkJoin.{ForkJoin}
 use Rattle.verdict.proofs.BundleForkJoin.{fork-join, label-found, team-small, root-size, climbable}
-use Rattle.verdict.proofs.LabelPaths.{labelOfSegment, Related, related-same, related-before, related-after, related-apart, compared, Leads, leads-same, leads-before, leads, label-spans}
-
-counted-holding : (ts : List Triple) → counted (holding ts) ≡ ts
-unfolding counted holding
-counted-holding ts = take-append-seam ts (replicate (5 - length ts) blank)
+use Rattle.verdict.proofs.LabelPaths.{Related, related-same, related-before, related-after, related-apart, compared, Leads, leads-same, leads-before, leads, label-spans}
 
 -- two answers are one
 order-one : {o p : Order} → gives o ≡ gives p → o ≡ p
@@ -62,7 +55,7 @@ module _ (s : List ℕ) (ok : Accepted s) where
   unfolding labelOk
   label-good {g} m =
       let parts = label-spans k (team-small s ok) (root-size s ok) m in
-      let same = counted-holding (label g) in
+      let same = holding-counted (label g) in
       let count : holding (label g) .count ≡ length (label g) = unfold holding in refl in
       both
       (both
@@ -72,7 +65,7 @@ module _ (s : List ℕ) (ok : Accepted s) where
 
   compared-as : {g h : Segment} → List·Memᴰ g ss → List·Memᴰ h ss → compareOf (holding (label g)) (holding (label h)) ≡ compareFrom 0 (label g) (label h)
   unfolding compareOf
-  compared-as {g} {h} m n = rw (label-good m, label-good n, counted-holding (label g), counted-holding (label h))
+  compared-as {g} {h} m n = rw (label-good m, label-good n, holding-counted (label g), holding-counted (label h))
 
   -- the orders exclude each other
   module _ {a b : Segment} (m : List·Memᴰ a ss) (n : List·Memᴰ b ss) where

@@ -5,7 +5,7 @@ use mathlib.Core.Logic.{_⊎_, inl, inr, ⊎-elim}
 use mathlib.Core.Bool.{true}
 use mathlib.Core.List.{List, [], _∷_, _++_, map, List·Memᴰ, List·Memᴰ·head, List·Memᴰ·tail, List·Memᴰ·not-nil, List·Memᴰ·cases-cons}
 use native.Mathlib.Omega.{arith}
-use native.Mathlib.Decide.{decLt, ℕ-discrete}
+use native.Mathlib.Decide.{ℕ-discrete}
 use native.Mathlib.Numerals.{add-one}
 use mathlib.Core.Option.{some}
 use lib.ListN.{getElem?}
@@ -18,8 +18,8 @@ use Rattle.bundle.specs.declared.command.Command.the-variants as Com
 use Rattle.bundle.specs.declared.index.Fork.{Fork}
 use Rattle.bundle.proofs.Tests.{false-is-true}
 use Rattle.bundle.proofs.Gathering.{plain, closes, Body, ends, goes, Formed}
-use Rattle.verdict.specs.Graph.{Node, Border, ofChunk, ofBarrier, ofRegion, Segment}
-use Rattle.verdict.proofs.ForkJoin.{OneChunk, Onward, at-end, at-barrier, at-region, ForkedBy, InChunk}
+use Rattle.verdict.specs.Graph.{Border, ofChunk, ofBarrier, ofRegion, Segment}
+use Rattle.verdict.proofs.ForkJoin.{OneChunk, Onward, at-end, at-barrier, at-region, ForkedBy}
 
 module _ (t m : ℕ) where
   -- openings and REGIONs from a state on, and so many barriers at the end

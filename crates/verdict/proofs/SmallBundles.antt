@@ -26,14 +26,14 @@ pub record Found : Type 0 where
 pub found : List ℕ → Answer Found
 found s = whenGiven (checkOf s) (λ u. gives (record { judgement = judgementOf (chunksOf s); races = racesOf (chunksOf s) }))
 
-pub record Row : Type 0 where
+pub record SmallBundle : Type 0 where
   pub bundle : List ℕ
   pub wanted : Answer Found
 
-refused : List ℕ → ℕ → ℕ → Row
+refused : List ℕ → ℕ → ℕ → SmallBundle
 refused s n p = record { bundle = s; wanted = refuses n p }
 
-judged : List ℕ → ℕ → ℕ → ℕ → ℕ → Verdict → List Race → Row
+judged : List ℕ → ℕ → ℕ → ℕ → ℕ → Verdict → List Race → SmallBundle
 judged s chunks segments accesses races verdict all =
     record {
       bundle = s;
@@ -57,7 +57,7 @@ race w t m n s t′ m′ n′ s′ =
       «second_site» = s′;
     }
 
-pub table : List Row
+pub table : List SmallBundle
 table =
     refused (bytes 0 0x0) 10 0 ∷
     judged (bytes 45 0x01000000100100020201010000310a000010000008000200041102010100013014000a10000000000100041102) 3 6 2 1 (Ver.Least (race 4106 1 0 0 10 1 1 0 20)) (race 4106 1 0 0 10 1 1 0 20 ∷ []) ∷
@@ -160,6 +160,6 @@ table =
     judged (bytes 175 0x01000000100100020201010000300100000000000000010001300100000000000000010001300100000000000000010001300100000000000000010001300100000000000000010001300100000000000000010001300100000000000000010001300100000000000000010001300100000000000000010001300100000000000000010001310200090000000000010001020101000130030009000000000001000130030009000000000001000102) 3 4 13 2 (Ver.Least (race 9 1 0 10 2 1 1 0 3)) (race 9 1 0 10 2 1 1 0 3 ∷ race 9 1 0 10 2 1 1 1 3 ∷ []) ∷
     []
 
-pub small-bundles : map (λ (r : Row). found (r .bundle)) table ≡ map (λ (r : Row). r .wanted) table
+pub small-bundles : map (λ (r : SmallBundle). found (r .bundle)) table ≡ map (λ (r : SmallBundle). r .wanted) table
 unfolding verdict-computes bytes found refused judged race table
 small-bundles = refl

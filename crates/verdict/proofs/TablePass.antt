@@ -45,7 +45,7 @@ pub record Filling (s : List ℕ) (n : ℕ) (p : Cursor) (ends opens nodes rows 
   holds : Holding (segmentsOf (chunksOf s)) n inside opened p done seen ends opens nodes rows
 
 -- one command: it can be noted, and the pass goes on behind it
-pub record Turn (s : List ℕ) (n : ℕ) (p : Cursor) (c : Command) (next : ℕ) (ends opens nodes rows : List ℕ) : Type 0 where
+pub record Advance (s : List ℕ) (n : ℕ) (p : Cursor) (c : Command) (next : ℕ) (ends opens nodes rows : List ℕ) : Type 0 where
   pub notable : Notable p c ends opens nodes rows
   at-next : cursorAfter p c next .at ≡ next
   goes :
@@ -82,9 +82,9 @@ module _ {s : List ℕ} (a : Accepted s) where
     abbrev Holds : Bool → Type 0
     Holds inside = Holding (segmentsOf (chunksOf s)) n inside o p done seen ends opens nodes rows
 
-    turn-member : (t m : ℕ) → Stands false (Com.Member t m) → Holds false → Turn s n p (Com.Member t m) next ends opens nodes rows
+    advance-member : (t m : ℕ) → Stands false (Com.Member t m) → Holds false → Advance s n p (Com.Member t m) next ends opens nodes rows
     unfolding cursorAfter endsAfter opensAfter nodesAfter onCrossing addsAccess
-    turn-member t m v h =
+    advance-member t m v h =
         let w = stands-on v (step-member p next ps o t m) (sym (append-nil done)) (sym (append-nil seen)) in
         let few : p .segment < 512 = segment-room a w in
         let more = access-room a w in
@@ -97,9 +97,9 @@ module _ {s : List ℕ} (a : Accepted s) where
               (record { inside = true; opened = firstOpening; rest = ps; done = done; seen = seen; onwards = onwards; stands = w; holds = holds-member few (v .segment-count) t m next h });
         }
 
-    turn-end : Stands true Com.End → Holds true → Turn s n p Com.End next ends opens nodes rows
+    advance-end : Stands true Com.End → Holds true → Advance s n p Com.End next ends opens nodes rows
     unfolding cursorAfter endsAfter opensAfter nodesAfter onCrossing addsAccess
-    turn-end v h =
+    advance-end v h =
         let w = stands-on v (step-end p next ps o) refl (sym (append-nil seen)) in
         let few : p .segment < 512 = segment-room a v in
         let more = access-room a v in
@@ -129,7 +129,7 @@ module _ {s : List ℕ} (a : Accepted s) where
       abbrev crossedHere : Cursor
       crossedHere = advanced p (afterCommand (p .state) c) 1 0 next
 
-      turn-crossing :
+      advance-crossing :
           Stands true c
           → Step c true true o crossedTo p crossedHere ps (endedAt p o b ∷ []) []
           → cursorAfter p c next ≡ crossedHere
@@ -139,8 +139,8 @@ module _ {s : List ℕ} (a : Accepted s) where
           → onCrossing {A = ℕ} (p .state) 0 (λ b. 1) c ≡ 1
           → addsAccess c ≡ 0
           → Holds true
-          → Turn s n p c next ends opens nodes rows
-      turn-crossing v st u x y z one none h =
+          → Advance s n p c next ends opens nodes rows
+      advance-crossing v st u x y z one none h =
           let w = stands-on v st refl (sym (append-nil seen)) in
           let few : p .segment < 512 = segment-room a v in
           let further : p .segment + 1 < 512 = segment-room a w in
@@ -163,18 +163,18 @@ module _ {s : List ℕ} (a : Accepted s) where
                 });
           }
 
-    turn-region : (t z : ℕ) → Stands true (Com.Region t z) → Holds true → Turn s n p (Com.Region t z) next ends opens nodes rows
+    advance-region : (t z : ℕ) → Stands true (Com.Region t z) → Holds true → Advance s n p (Com.Region t z) next ends opens nodes rows
     unfolding cursorAfter endsAfter opensAfter nodesAfter onCrossing opensSegment addsAccess plain gather gatherOne entriesFrom openingAt borders segmentsFrom accessAt
-    turn-region t z v =
-        turn-crossing (Com.Region t z) (ofRegion t) v
+    advance-region t z v =
+        advance-crossing (Com.Region t z) (ofRegion t) v
         (step-inside p next ps o (Com.Region t z) _ (endedAt p o (ofRegion t) ∷ []) [] refl refl refl refl refl)
         refl refl refl refl refl refl
 
-    turn-barrier : Stands true Com.Barrier → Holds true → Turn s n p Com.Barrier next ends opens nodes rows
+    advance-barrier : Stands true Com.Barrier → Holds true → Advance s n p Com.Barrier next ends opens nodes rows
     unfolding cursorAfter endsAfter opensAfter nodesAfter onCrossing opensSegment addsAccess plain gather gatherOne entriesFrom openingAt borders segmentsFrom accessAt
-    turn-barrier v =
+    advance-barrier v =
         let b = ofBarrier (p .state .barriers) in
-        turn-crossing Com.Barrier b v
+        advance-crossing Com.Barrier b v
         (step-inside p next ps o Com.Barrier _ (endedAt p o b ∷ []) [] refl refl refl refl refl)
         refl refl refl refl refl refl
 
@@ -183,7 +183,7 @@ module _ {s : List ℕ} (a : Accepted s) where
       abbrev stillHere : Cursor
       stillHere = advanced p (afterCommand (p .state) c) 0 (addsAccess c) next
 
-      turn-still :
+      advance-still :
           (accs : List NamedAccess)
           → Stands true c
           → Step c true true o o p stillHere ps [] accs
@@ -197,8 +197,8 @@ module _ {s : List ℕ} (a : Accepted s) where
           → ((a : Access) → c ≡ Com.Access a → Added accessRowAt rows rows′ (p .accesses) (rowHere p a))
           → AccessTable (segmentsOf (chunksOf s)) (seen ++ accs) rows′ × (length rows′ ≡ length rows))
           → Holds true
-          → Turn s n p c next ends opens nodes rows
-      turn-still accs v st u x y z none table h =
+          → Advance s n p c next ends opens nodes rows
+      advance-still accs v st u x y z none table h =
           let w = stands-on v st (sym (append-nil done)) refl in
           let few : p .segment < 512 = segment-room a v in
           let more : p .accesses + addsAccess c ≤ 1024 = access-room a w in
@@ -230,29 +230,29 @@ module _ {s : List ℕ} (a : Accepted s) where
         → AccessTable (segmentsOf (chunksOf s)) (seen ++ []) rows′ × (length rows′ ≡ length rows)
     same-rows c none h rows′ same = rw (same none, append-nil seen) (h .access-table, refl)
 
-    turn-acquire : (l : ℕ) → Stands true (Com.Acquire l) → Holds true → Turn s n p (Com.Acquire l) next ends opens nodes rows
+    advance-acquire : (l : ℕ) → Stands true (Com.Acquire l) → Holds true → Advance s n p (Com.Acquire l) next ends opens nodes rows
     unfolding cursorAfter endsAfter opensAfter nodesAfter onCrossing opensSegment addsAccess plain gather gatherOne entriesFrom openingAt borders segmentsFrom accessAt
-    turn-acquire l v h =
-        turn-still (Com.Acquire l) [] v
+    advance-acquire l v h =
+        advance-still (Com.Acquire l) [] v
         (step-inside p next ps o (Com.Acquire l) o [] [] refl (rw (add-zero (p .number))) refl refl refl)
         refl refl refl refl refl (λ rows′ same row. same-rows (Com.Acquire l) refl h rows′ same) h
 
-    turn-release : (l : ℕ) → Stands true (Com.Release l) → Holds true → Turn s n p (Com.Release l) next ends opens nodes rows
+    advance-release : (l : ℕ) → Stands true (Com.Release l) → Holds true → Advance s n p (Com.Release l) next ends opens nodes rows
     unfolding cursorAfter endsAfter opensAfter nodesAfter onCrossing opensSegment addsAccess plain gather gatherOne entriesFrom openingAt borders segmentsFrom accessAt
-    turn-release l v h =
-        turn-still (Com.Release l) [] v
+    advance-release l v h =
+        advance-still (Com.Release l) [] v
         (step-inside p next ps o (Com.Release l) o [] [] refl (rw (add-zero (p .number))) refl refl refl)
         refl refl refl refl refl (λ rows′ same row. same-rows (Com.Release l) refl h rows′ same) h
 
-    turn-access : (x : Access) → Stands true (Com.Access x) → Holds true → Turn s n p (Com.Access x) next ends opens nodes rows
+    advance-access : (x : Access) → Stands true (Com.Access x) → Holds true → Advance s n p (Com.Access x) next ends opens nodes rows
     unfolding cursorAfter endsAfter opensAfter nodesAfter onCrossing opensSegment addsAccess plain gather gatherOne entriesFrom openingAt borders segmentsFrom accessAt
-    turn-access x v h =
+    advance-access x v h =
         let st = step-inside p next ps o (Com.Access x) o [] (accessHere p x ∷ []) refl (rw (add-zero (p .number))) refl refl refl in
         let w = stands-on v st (sym (append-nil done)) refl in
         let more : p .accesses + 1 ≤ 1024 = access-room a w in
         let range = orderly-head (scanHere true p) (Com.Access x) (commandsIn ps) (v .order) .in-range in
         let good : rangeOk (x .range) ≡ true = unfold operandsOk in (in-range-ok (Com.Access x) range) in
-        turn-still (Com.Access x) (accessHere p x ∷ []) v st refl refl refl refl refl
+        advance-still (Com.Access x) (accessHere p x ∷ []) v st refl refl refl refl refl
         (λ rows′ same row.
         let d = row x refl in (
           rows-more (accessHere p x) (h .access-table) (rw (v .access-count) d) (omega (arith, v .access-count)) (row-of x (stands-open v) (v .segment-count) good),
@@ -261,31 +261,31 @@ module _ {s : List ℕ} (a : Accepted s) where
         h
 
     -- a MEMBER stands outside chunks, each other command inside one
-    within : (c : Command) (inside : Bool) → isMember c ≡ false → Stands inside c → Holds inside → (Stands true c → Holds true → Turn s n p c next ends opens nodes rows) → Turn s n p c next ends opens nodes rows
+    within : (c : Command) (inside : Bool) → isMember c ≡ false → Stands inside c → Holds inside → (Stands true c → Holds true → Advance s n p c next ends opens nodes rows) → Advance s n p c next ends opens nodes rows
     within c true e v h go = go v h
     within c false e v h go =
         let t = orderly-head (scanHere false p) c (commandsIn ps) (v .order) .in-place in
         false-is-true (unfold misplaced in (rw e at t))
 
-    turn-at : (c : Command) (inside : Bool) → Stands inside c → Holds inside → Turn s n p c next ends opens nodes rows
+    advance-at : (c : Command) (inside : Bool) → Stands inside c → Holds inside → Advance s n p c next ends opens nodes rows
     unfolding isMember misplaced
-    turn-at (Com.Member t m) false v h = turn-member t m v h
-    turn-at (Com.Member t m) true v h = false-is-true (orderly-head (scanHere true p) (Com.Member t m) (commandsIn ps) (v .order) .in-place)
-    turn-at Com.End inside v h = within Com.End inside refl v h turn-end
-    turn-at (Com.Region t z) inside v h = within (Com.Region t z) inside refl v h (turn-region t z)
-    turn-at Com.Barrier inside v h = within Com.Barrier inside refl v h turn-barrier
-    turn-at (Com.Acquire l) inside v h = within (Com.Acquire l) inside refl v h (turn-acquire l)
-    turn-at (Com.Release l) inside v h = within (Com.Release l) inside refl v h (turn-release l)
-    turn-at (Com.Access x) inside v h = within (Com.Access x) inside refl v h (turn-access x)
+    advance-at (Com.Member t m) false v h = advance-member t m v h
+    advance-at (Com.Member t m) true v h = false-is-true (orderly-head (scanHere true p) (Com.Member t m) (commandsIn ps) (v .order) .in-place)
+    advance-at Com.End inside v h = within Com.End inside refl v h advance-end
+    advance-at (Com.Region t z) inside v h = within (Com.Region t z) inside refl v h (advance-region t z)
+    advance-at Com.Barrier inside v h = within Com.Barrier inside refl v h advance-barrier
+    advance-at (Com.Acquire l) inside v h = within (Com.Acquire l) inside refl v h (advance-acquire l)
+    advance-at (Com.Release l) inside v h = within (Com.Release l) inside refl v h (advance-release l)
+    advance-at (Com.Access x) inside v h = within (Com.Access x) inside refl v h (advance-access x)
 
   pub turn :
       {n : ℕ} {p : Cursor} {ends opens nodes rows : List ℕ} (c : Command) (next : ℕ)
       → Filling s n p ends opens nodes rows
       → readAt s (p .at) ≡ gives (record { command = c; next = next })
-      → Turn s n p c next ends opens nodes rows
+      → Advance s n p c next ends opens nodes rows
   turn {n} {p} {ends} {opens} {nodes} {rows} c next f e =
       let q = onward-next s (p .at) (record { command = c; next = next }) (f .onwards) e in
-      turn-at n p next (q .rest) (q .onwards) (f .opened) (f .done) (f .seen) ends opens nodes rows c (f .inside) (rw (q .parts) at (f .stands)) (f .holds)
+      advance-at n p next (q .rest) (q .onwards) (f .opened) (f .done) (f .seen) ends opens nodes rows c (f .inside) (rw (q .parts) at (f .stands)) (f .holds)
 
   pub turned :
       {n : ℕ} {p r : Cursor} {ends opens nodes rows ends′ opens′ nodes′ rows′ : List ℕ} (c : Command) (next : ℕ)

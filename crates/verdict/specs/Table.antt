@@ -83,18 +83,18 @@ unfoldable pub lastTaken : Taken
 lastTaken =
     record { command = Com.Access (record { kind = Kind.Read; site = 0; range = range 4294967295 0 1 1 }); next = 12 }
 
-pub record Row : Type 0 where
+pub record PaperExample : Type 0 where
   pub question : Question
   pub wanted : Reply
 
-unfoldable pub row : Question → Reply → Row
+unfoldable pub row : Question → Reply → PaperExample
 row q w = record { question = q; wanted = w }
 
 -- a comparison after a common (0,1,0)
-unfoldable pub after : List Triple → List Triple → Order → Row
+unfoldable pub after : List Triple → List Triple → Order → PaperExample
 after a b o = row (comparing (triple 0 1 0 ∷ a) (triple 0 1 0 ∷ b)) (compared (gives o))
 
-unfoldable pub table : List Row
+unfoldable pub table : List PaperExample
 table =
     -- P1 to P3
     row (judging E)

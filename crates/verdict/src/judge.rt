@@ -12,6 +12,9 @@ use crate::race::Next;
 use crate::race::Verdict;
 use bundle::check::Indexing;
 use bundle::check::index_bundle;
+use bundle::limits::CHUNK_WORDS;
+use bundle::limits::FORK_WORDS;
+use bundle::limits::MOST_SEGMENTS;
 use bundle::refusal::Cause;
 ghost use mathlib.Core.Path.{_≡_};
 ghost use mathlib.Core.Bool.{true, false};
@@ -25,6 +28,11 @@ ghost use Rattle.verdict.specs.Edges.{Tables};
 ghost use Rattle.verdict.specs.Filling.{Room, Filled};
 ghost use Rattle.verdict.specs.Census.{matrixPart, rowsPart, MatrixFilled, AreaFilled, Counted, verdictIn, nextIn};
 ghost use Rattle.verdict.specs.Promise.{Promise};
+
+// The words of a work area (docs/FORMAT.md); the first half of them is the matrix, the second the rows of the accesses.
+pub const WORK_WORDS: usize = 16384;
+
+pub const MATRIX_WORDS: usize = 8192;
 
 // The counts of a bundle's segments and accesses, and its races.
 pub struct Census {
@@ -44,7 +52,13 @@ fn fill_rows(
     requires { ⌜ Accepted (now bytes) × Room (now ends) (now opens) (now nodes) (rowsPart (now area)) × (16384 ≤ length (now area)) ⌝ }
     ensures { λ r. ⌜ Filled (now (bytes .entry)) r 8192 (now (ends .exit)) (now (opens .exit)) (now (nodes .exit)) (rowsPart (now (area .exit))) × (length (now (area .exit)) ≡ length (now (area .entry))) ⌝ }
 {
-    fill(bytes, ends, opens, nodes, &mut area[8192..16384])
+    fill(
+        bytes,
+        ends,
+        opens,
+        nodes,
+        &mut area[MATRIX_WORDS..WORK_WORDS],
+    )
 }
 
 // Fills the first half of the area with the matrix of which segment reaches which.
@@ -52,7 +66,7 @@ fn fill_matrix(ends: &[u32], opens: &[u32], nodes: &[u32], n: usize, area: &mut 
     requires { ⌜ Tables (now ends) (now opens) (now nodes) n × (16384 ≤ length (now area)) ⌝ }
     ensures { λ _. ⌜ MatrixFilled (now (ends .entry)) (now (opens .entry)) (now (nodes .entry)) n (now (area .entry)) (now (area .exit)) ⌝ }
 {
-    reach(ends, opens, nodes, n, &mut area[..8192]);
+    reach(ends, opens, nodes, n, &mut area[..MATRIX_WORDS]);
 }
 
 // Fills both halves of the area, from an accepted bundle.
@@ -60,9 +74,9 @@ pub fn fill_area(bytes: &[u8], area: &mut [u32]) -> Counts
     requires { ⌜ Accepted (now bytes) × (16384 ≤ length (now area)) ⌝ }
     ensures { λ r. ⌜ AreaFilled (now (bytes .entry)) (now (area .exit)) (r .segments) (r .accesses) × (length (now (area .exit)) ≡ length (now (area .entry))) ⌝ }
 {
-    let mut ends = [0u32; 512];
-    let mut opens = [0u32; 512];
-    let mut nodes = [0u32; 512];
+    let mut ends = [0u32; MOST_SEGMENTS as usize];
+    let mut opens = [0u32; MOST_SEGMENTS as usize];
+    let mut nodes = [0u32; MOST_SEGMENTS as usize];
     let counts = fill_rows(bytes, &mut ends, &mut opens, &mut nodes, area);
     let n = counts.segments as usize;
     fill_matrix(&ends, &opens, &nodes, n, area);
@@ -74,7 +88,12 @@ fn tally_area(area: &[u32], n: u32, key: Key) -> Tally
     requires { ⌜ TablesFit (matrixPart (now area)) (rowsPart (now area)) n × (16384 ≤ length (now area)) ⌝ }
     ensures { λ r. ⌜ r ≡ tallyAll (matrixPart (now (area .entry))) (rowsPart (now (area .entry))) key n ⌝ }
 {
-    all_pairs(&area[..8192], &area[8192..16384], n, key)
+    all_pairs(
+        &area[..MATRIX_WORDS],
+        &area[MATRIX_WORDS..WORK_WORDS],
+        n,
+        key,
+    )
 }
 
 // The counts of an accepted bundle, and the least of its races above the key.
@@ -119,8 +138,8 @@ fn judge_in(bytes: &[u8], area: &mut [u32]) -> Judging
     requires { ⌜ 16384 ≤ length (now area) ⌝ }
     ensures { λ r. ⌜ (judgingOf r ≡ judgedOf (now (bytes .entry))) × (length (now (area .exit)) ≡ length (now (area .entry))) ⌝ }
 {
-    let mut chunks = [0u64; 1024];
-    let mut forks = [0u64; 1536];
+    let mut chunks = [0u64; CHUNK_WORDS];
+    let mut forks = [0u64; FORK_WORDS];
     let no_name = Name {
         team: 0,
         member: 0,
@@ -156,8 +175,8 @@ fn next_in(bytes: &[u8], key: Key, area: &mut [u32]) -> Next
     requires { ⌜ (16384 ≤ length (now area)) × (key .given ≡ true) ⌝ }
     ensures { λ r. ⌜ (nextRaceOf r ≡ nextAbove (now (bytes .entry)) (keyOf (key .witness) (key .first) (key .second))) × (length (now (area .exit)) ≡ length (now (area .entry))) ⌝ }
 {
-    let mut chunks = [0u64; 1024];
-    let mut forks = [0u64; 1536];
+    let mut chunks = [0u64; CHUNK_WORDS];
+    let mut forks = [0u64; FORK_WORDS];
     match index_bundle(bytes, &mut chunks, &mut forks) {
         Indexing::Accepted {
             chunks: _,
@@ -187,7 +206,7 @@ pub fn judge(bytes: &[u8], work: &mut [u32]) -> Judging
     ensures { λ r. ⌜ judgeOf (now (bytes .entry)) (now (work .entry)) ≡ record { answer = judgingOf r; buffer = now (work .exit) } ⌝ }
     ensures demand3 { λ r. ⌜ Promise (now (bytes .entry)) (now (work .entry)) r ⌝ }
 {
-    if work.len() < 16384 {
+    if work.len() < WORK_WORDS {
         return Judging::Refused {
             place: 0,
             cause: Cause::WorkAreaTooSmall,
@@ -202,7 +221,7 @@ pub fn judge(bytes: &[u8], work: &mut [u32]) -> Judging
 pub fn next_race(bytes: &[u8], witness: u32, first: Name, second: Name, work: &mut [u32]) -> Next
     ensures { λ r. ⌜ nextOf (now (bytes .entry)) witness first second (now (work .entry)) ≡ record { answer = nextRaceOf r; buffer = now (work .exit) } ⌝ }
 {
-    if work.len() < 16384 {
+    if work.len() < WORK_WORDS {
         return Next::Refused {
             place: 0,
             cause: Cause::WorkAreaTooSmall,

@@ -232,7 +232,7 @@ fn side_of(name: Name, site: u16) -> u64
     pack(name) * 65536 + site as u64
 }
 
-fn name_in(side: u64) -> Name
+pub fn name_in(side: u64) -> Name
     ensures { λ r. ⌜ r ≡ nameIn side ⌝ }
 {
     Name {
@@ -472,7 +472,7 @@ fn add_block(
 }
 
 // The end of the block of 32 that begins at `first`, of i accesses.
-fn block_end(first: u32, i: u32) -> u32
+pub fn block_end(first: u32, i: u32) -> u32
     requires { ⌜ first < 1024 ⌝ }
     ensures { λ r. ⌜ r ≡ min (first + 32) i ⌝ }
 {

@@ -1,5 +1,5 @@
 -- `listing::list::list_accepted` meets its contract. Assumes nothing.
-use mathlib.Core.Path.{refl, sym, _∙_}
+use mathlib.Core.Path.{refl, sym}
 use native.Mathlib.Omega.{arith}
 use borrow.Author.Needs.{needs}
 use Rattle.listing.proofs.ListCases.{ordered-in, ordered-fits, races-few, kept}

@@ -1,5 +1,4 @@
 -- `listing::list::list_races` meets its contract. Assumes nothing.
-use native.Mathlib.Omega.{arith}
 use Rattle.listing.proofs.ListCases.{listing-small, listing-large}
 use borrow.Author.Needs.{needs}
 use Rattle.listing.proofs.list.list_races.Statement.{statement}

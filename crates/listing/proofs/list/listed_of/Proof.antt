@@ -1,5 +1,4 @@
 -- `listing::list::listed_of` meets its contract. Assumes nothing.
-use borrow.Author.Needs.{needs}
 use Rattle.listing.proofs.list.listed_of.Statement.{statement}
 use Rattle.listing.proofs.list.listed_of.Tie as tie
 

@@ -1,5 +1,4 @@
 -- `listing::list::push_area` meets its contract. Assumes nothing.
-use native.Mathlib.Omega.{arith}
 use borrow.Author.Needs.{needs}
 use Rattle.listing.proofs.list.push_area.Statement.{statement}
 use Rattle.listing.proofs.list.push_area.Tie as tie

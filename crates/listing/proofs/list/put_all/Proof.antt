@@ -1,6 +1,5 @@
 -- `listing::list::put_all` meets its contract. Assumes nothing.
-use mathlib.Core.Path.{_∙_, ap, sym}
-use lib.ListN.{length, replicate, take}
+use mathlib.Core.Path.{sym}
 use lib.Seq.{length-take-le}
 use borrow.Author.Needs.{needs}
 use Rattle.listing.proofs.SettleLaws.{all-put}

@@ -1,8 +1,6 @@
 -- `listing::names::copy_rows` meets its contract. The invariant: the rows passed are copied. The measure: those left. Assumes nothing.
-use mathlib.Core.Path.{_≡_, _∙_, ap}
-use Prim.Native.Nat.{ℕ, _≤_, _-_}
+use Prim.Native.Nat.{_≤_, _-_}
 use native.Mathlib.Omega.{arith}
-use lib.ListN.{length}
 use Rattle.listing.specs.Ranking.{Copied}
 use Rattle.listing.proofs.RankLaws.{copied-none, copied-more, copied-all}
 use borrow.Author.Needs.{needs}

@@ -1,14 +1,14 @@
 -- `listing::names::fill_words` meets its contract. The invariant: the words of the accesses passed stand in front, the others are as they were. The measure: those left. Assumes nothing.
 use mathlib.Core.Path.{_≡_, _∙_, ap}
-use Prim.Native.Nat.{ℕ, _≤_, _-_, _+_, _*_}
-use mathlib.Core.List.{List, _++_}
+use Prim.Native.Nat.{_≤_, _-_, _+_, _*_}
+use mathlib.Core.List.{_++_}
 use native.Mathlib.Omega.{arith}
 use lib.ListN.{length, drop, length-set}
 use Rattle.bundle.specs.Index.{table}
 use Rattle.verdict.specs.Tallying.{packed, rowName}
 use Rattle.verdict.specs.declared.rows.AccessRow.{AccessRow}
 use Rattle.listing.specs.Ranking.{nameWord}
-use Rattle.listing.proofs.Fronts.{table-none-yet, table-more-yet, table-all, table-over-length}
+use Rattle.listing.proofs.Fronts.{table-none-yet, table-more-yet, table-all}
 use borrow.Author.Needs.{needs}
 use Rattle.listing.proofs.names.fill_words.Statement.{statement}
 use Rattle.listing.proofs.names.fill_words.Tie as tie

@@ -1,5 +1,4 @@
 -- `listing::names::order_words` meets its contract. Assumes nothing.
-use native.Mathlib.Omega.{arith}
 use borrow.Author.Needs.{needs}
 use Rattle.listing.proofs.RankLaws.{words-in, words-part, words-ordered}
 use Rattle.listing.proofs.names.order_words.Statement.{statement}

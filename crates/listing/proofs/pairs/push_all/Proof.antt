@@ -1,6 +1,5 @@
 -- `listing::pairs::push_all` meets its contract. The invariant: the accesses passed are compared with those behind them. The measure: those left. Assumes nothing.
 use Prim.Native.Nat.{_≤_, _-_}
-use native.Mathlib.Omega.{arith}
 use borrow.Author.Needs.{needs}
 use Rattle.listing.specs.Pushing.{Pushes, allNumbers}
 use Rattle.listing.proofs.PushLaws.{pushes-length}

@@ -1,8 +1,6 @@
 -- `listing::pairs::push_row` meets its contract. The invariant: the accesses of the blocks passed are compared. The measure: the blocks left. Assumes nothing.
 use native.Mathlib.Omega.{arith}
-use mathlib.Core.Path.{_≡_, refl, _∙_}
 use Prim.Native.Nat.{_*_, _≤_, _-_, min}
-use lib.ListN.{length}
 use borrow.Author.Needs.{needs}
 use Rattle.listing.specs.Pushing.{Pushes, rowNumbers}
 use Rattle.listing.proofs.PushLaws.{pushes-length}

@@ -1,6 +1,6 @@
 -- `pages::fill::fill_with` meets its contract. The invariant: the page so far. The measure: the lines left. Assumes nothing.
 use borrow.Author.Needs.{needs}
-use mathlib.Core.Path.{_≡_, _∙_}
+use mathlib.Core.Path.{_≡_}
 use Prim.Native.Nat.{_-_}
 use lib.ListN.{length}
 use Rattle.pages.specs.Listings.{linesIn}

@@ -1,5 +1,4 @@
 -- `pages::line::put_line_at` meets its contract. Assumes nothing.
-use native.Mathlib.Omega.{arith}
 use denote.Ref.{now}
 use borrow.Author.Needs.{needs}
 use Rattle.pages.proofs.Indexing.{line-first, race-read, at-race, at-last, at-none, printed-as, printed-none}

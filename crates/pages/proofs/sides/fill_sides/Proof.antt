@@ -1,8 +1,6 @@
 -- `pages::sides::fill_sides` meets its contract. The invariant: the texts of the ranks passed. The measure: the ranks left. Assumes nothing.
 use borrow.Author.Needs.{needs}
-use mathlib.Core.Path.{_≡_}
 use Prim.Native.Nat.{_≤_, _-_}
-use denote.Ref.{now}
 use Rattle.pages.specs.Inner.{Sides}
 use Rattle.pages.proofs.Texts.{sides-none, sides-all}
 use Rattle.pages.proofs.sides.fill_sides.Statement.{statement}

@@ -1,4 +1,4 @@
--- `bundle::command::copy_in` meets its contract. The invariant: the first i bytes are copied, the rest
+-- `bundle::copy::copy_in` meets its contract. The invariant: the first i bytes are copied, the rest
 -- is as it was. The measure: the bytes left. Assumes nothing.
 use borrow.Author.Needs.{needs}
 use mathlib.Core.Path.{_≡_}
@@ -7,8 +7,8 @@ use denote.Ref.{now}
 use lib.ListN.{length}
 use lib.Seq.{paste, paste-zero}
 use Rattle.bundle.proofs.Copying.{copy-more, copy-all}
-use Rattle.bundle.proofs.command.copy_in.Statement.{statement}
-use Rattle.bundle.proofs.command.copy_in.Tie as tie
+use Rattle.bundle.proofs.copy.copy_in.Statement.{statement}
+use Rattle.bundle.proofs.copy.copy_in.Tie as tie
 
 abbrev Inv-loop : tie.InvT-loop
 Inv-loop bytes buffer₀ position i₀ buffer i = (i ≤ length bytes) × (length buffer ≡ length buffer₀) × (buffer ≡ paste buffer₀ position bytes i)
