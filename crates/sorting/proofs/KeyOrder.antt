@@ -6,7 +6,6 @@ use native.Mathlib.Omega.{arith}
 use native.Mathlib.Decide.{ℕ-discrete, decLt}
 use lib.Dec.{eqb}
 use lib.ListN.{length, getD}
-use lib.Seq.{ext-getD}
 use borrow.Author.Tests.{lt-ltb, le-ltb, eq-eqb, ne-eqb}
 use Rattle.sorting.specs.Order.{sorted}
 use Rattle.sorting.specs.Searching.{lowerBound, LowerBound, keyedFrom, Keyed, firstWithKey, indexOf}
@@ -55,16 +54,6 @@ unfolding keyedFrom
 keyed-at n [] i h = absurd (omega arith)
 keyed-at n (k ∷ ks) zero h = omega arith
 keyed-at n (k ∷ ks) (suc i) h = omega (arith, keyed-at (suc n) ks i (omega arith))
-
--- words that hold each key and index are these words
-pub keyed-of :
-    (keys words : List ℕ)
-    → length words ≡ length keys
-    → ((i : ℕ) → i < length keys → getD words i 0 ≡ getD keys i 0 * 65536 + i)
-    → words ≡ keyedFrom 0 keys
-keyed-of keys words e each =
-    ext-getD 0 words (keyedFrom 0 keys) (e ∙ sym (keyed-length 0 keys))
-    (λ i h. let l : i < length keys = omega arith in omega (arith, each i l, keyed-at 0 keys i l))
 
 -- a word of a row
 record OfRow (keys : List ℕ) (word : ℕ) : Type 0 where

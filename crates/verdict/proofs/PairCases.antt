@@ -305,10 +305,6 @@ module _ (m rows : List ℕ) (key : Key) where
       rw add-one (unfold tallyAll in (q ∙ ap₂ (λ (x : AccessRow) (y : Tally). tallyRow m rows key x y i) o p))
 
   -- and the last
-  pub row-all :
-      (one : AccessRow) (t : Tally) (i j : ℕ) {u : Tally} → j ≤ i → i ≤ j → u ≡ tallyRow m rows key one t j → u ≡ tallyRow m rows key one t i
-  row-all one t i j h l e = let q : j ≡ i = omega arith in e ∙ ap (tallyRow m rows key one t) q
-
   pub all-all : (n i : ℕ) {u : Tally} → i ≤ n → n ≤ i → u ≡ tallyAll m rows key i → u ≡ tallyAll m rows key n
   all-all n i h l e = let q : i ≡ n = omega arith in e ∙ ap (tallyAll m rows key) q
 
