@@ -1,4 +1,5 @@
 -- What the functions for C and Rust answer, in numbers and words.
 pub mod CommandWords
 pub mod Inner
+pub mod LabelWords
 pub mod Told

@@ -2,4 +2,5 @@
 // and sets all numbers that it is lent: the refusal's place, 0 for none, and what is answered, 0 where it is refused.
 pub mod bundles;
 pub mod commands;
+pub mod labels;
 pub mod ranges;
