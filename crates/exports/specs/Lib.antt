@@ -2,4 +2,5 @@
 pub mod CommandWords
 pub mod Inner
 pub mod LabelWords
+pub mod RaceWords
 pub mod Told
