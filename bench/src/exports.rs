@@ -2,6 +2,7 @@
 
 use crate::judge::{Judgement, Name, Race};
 use crate::label::Triple;
+use crate::ranges::{REFUSED, SharedByte};
 use crate::reader::Refusal;
 
 // A Rattle slice is passed as a pointer and a length, an array as a pointer. Each function returns the number of a refusal, or 0, and
@@ -46,55 +47,13 @@ pub const JUDGING: Option<(Judge, NextRace)> = Some((proved::judge, proved::next
 #[cfg(not(proved_judge))]
 pub const JUDGING: Option<(Judge, NextRace)> = None;
 
-/// The form of the functions that are compared on ranges.
-pub type SharedByte = unsafe extern "C" fn(u32, u16, u16, u8, u32, u16, u16, u8) -> u64;
-
-pub const LOWEST_SHARED_BYTE: SharedByte = lowest_shared_byte;
-
-/// A refusal is its number times 2^40, and its place.
-pub const REFUSED: u64 = 1 << 40;
-
-fn refused(number: u32, place: usize) -> u64 {
-    number as u64 * REFUSED + place as u64
-}
-
-/// One more than the byte, 0 for none, or a refusal.
-unsafe extern "C" fn lowest_shared_byte(
-    base: u32,
-    stride: u16,
-    count: u16,
-    size: u8,
-    other_base: u32,
-    other_stride: u16,
-    other_count: u16,
-    other_size: u8,
-) -> u64 {
-    let (mut found, mut byte, mut place) = (9, 9, 9);
-    let number = dezhakom_lowest_shared_byte(
-        base,
-        stride,
-        count,
-        size,
-        other_base,
-        other_stride,
-        other_count,
-        other_size,
-        &mut found,
-        &mut byte,
-        &mut place,
-    );
-    match (number, found) {
-        (0, 0) => 0,
-        (0, _) => byte as u64 + 1,
-        _ => refused(number, place),
-    }
-}
+pub const LOWEST_SHARED_BYTE: SharedByte = dezhakom_lowest_shared_byte;
 
 /// 0 where the bytes are a bundle, or a refusal.
 pub fn check(bytes: &[u8]) -> u64 {
     let mut place = 9;
     let number = unsafe { dezhakom_check(bytes.as_ptr(), bytes.len(), &mut place) };
-    refused(number, place)
+    number as u64 * REFUSED + place as u64
 }
 
 /// The triples of a label.
