@@ -12,6 +12,7 @@ mod ranges;
 mod reader;
 
 use judge::{Closure, Judgement, LEAST_WORDS, Name, Race};
+use ranges::{Range, SharedByte};
 use reader::Refusal;
 use std::io::{BufRead, Write};
 
@@ -58,8 +59,9 @@ fn label(n: &[u32], bytes: &[u8]) -> String {
 }
 
 fn shared(n: &[u32]) -> String {
-    let answers = [ranges::shared_by_elements, ranges::shared_by_euclid]
-        .map(|shared| shared(n[0], n[1] as u16, n[2] as u16, n[3] as u8, n[4], n[5] as u16, n[6] as u16, n[7] as u8));
+    let range = |n: &[u32]| Range { base: n[0], stride: n[1] as u16, count: n[2] as u16, size: n[3] as u8 };
+    let functions: [SharedByte; 2] = [ranges::shared_by_elements, ranges::shared_by_euclid];
+    let answers = functions.map(|shared| ranges::ask(shared, &range(n), &range(&n[4..])));
     assert_eq!(answers[0], answers[1], "the two answers to {n:?}");
     answers[0].to_string()
 }

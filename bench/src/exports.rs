@@ -2,8 +2,11 @@
 
 use crate::judge::{Judgement, Name, Race};
 use crate::label::Triple;
+use crate::ranges::{REFUSED, SharedByte};
 use crate::reader::Refusal;
 
+// A Rattle slice is passed as a pointer and a length, an array as a pointer. Each function returns the number of a refusal, or 0, and
+// sets all numbers that it is lent; none has a `requires`, so any slices and numbers may be passed.
 extern "C" {
     fn dezhakom_lowest_shared_byte(
         base: u32,
@@ -14,10 +17,12 @@ extern "C" {
         other_stride: u16,
         other_count: u16,
         other_size: u8,
-    ) -> u64;
+        found: &mut u32,
+        byte: &mut u32,
+        place: &mut usize,
+    ) -> u32;
 
-    // A Rattle `&[u8]` is passed as a pointer and a length.
-    fn dezhakom_check(bytes: *const u8, length: usize) -> u64;
+    fn dezhakom_check(bytes: *const u8, length: usize, place: &mut usize) -> u32;
 
     fn dezhakom_label_of_segment(
         bytes: *const u8,
@@ -25,8 +30,9 @@ extern "C" {
         team: u16,
         member: u8,
         segment: u32,
-        words: &mut [u32; 15],
-    ) -> u64;
+        label: &mut [u32; 16],
+        place: &mut usize,
+    ) -> u32;
 }
 
 /// A whole judgement.
@@ -41,55 +47,45 @@ pub const JUDGING: Option<(Judge, NextRace)> = Some((proved::judge, proved::next
 #[cfg(not(proved_judge))]
 pub const JUDGING: Option<(Judge, NextRace)> = None;
 
-/// The form of the functions that are compared on ranges.
-pub type SharedByte = unsafe extern "C" fn(u32, u16, u16, u8, u32, u16, u16, u8) -> u64;
-
 pub const LOWEST_SHARED_BYTE: SharedByte = dezhakom_lowest_shared_byte;
 
-/// A refusal is its number times 2^40, and its place.
-pub const REFUSED: u64 = 1 << 40;
-
-/// 0 where the bytes are a bundle, or a refusal. The function has no `requires`, so any slice may be passed.
+/// 0 where the bytes are a bundle, or a refusal.
 pub fn check(bytes: &[u8]) -> u64 {
-    unsafe { dezhakom_check(bytes.as_ptr(), bytes.len()) }
+    let mut place = 9;
+    let number = unsafe { dezhakom_check(bytes.as_ptr(), bytes.len(), &mut place) };
+    number as u64 * REFUSED + place as u64
 }
 
-fn refusal_of(answer: u64) -> Refusal {
-    Refusal { number: (answer / REFUSED) as u32, place: (answer % REFUSED) as usize }
-}
-
-/// The triples of a label. The function sets all words, and has no `requires`.
+/// The triples of a label.
 pub fn label(bytes: &[u8], team: u16, member: u8, segment: u32) -> Result<Vec<Triple>, Refusal> {
-    let mut words = [1; 15];
-    let answer =
-        unsafe { dezhakom_label_of_segment(bytes.as_ptr(), bytes.len(), team, member, segment, &mut words) };
-    let count = if answer < REFUSED { answer as usize } else { 0 };
-    assert!(words[3 * count..].iter().all(|&word| word == 0), "words past the label");
-    if answer >= REFUSED {
-        return Err(refusal_of(answer));
+    let (mut words, mut place) = ([9; 16], 9);
+    let number = unsafe {
+        dezhakom_label_of_segment(bytes.as_ptr(), bytes.len(), team, member, segment, &mut words, &mut place)
+    };
+    let past = 1 + 3 * words[0] as usize;
+    assert!(words[past..].iter().all(|&word| word == 0), "words past the label");
+    if number != 0 {
+        assert!(words[0] == 0, "a label beside a refusal");
+        return Err(Refusal { number, place });
     }
-    Ok(words[..3 * count].chunks(3).map(|triple| [triple[0], triple[1], triple[2]]).collect())
+    Ok(words[1..past].chunks(3).map(|triple| [triple[0], triple[1], triple[2]]).collect())
 }
 
 #[cfg(proved_judge)]
 mod proved {
     use super::*;
 
-    // The answer is 0 for race-free or none, one more than the witness, or a refusal. The lent numbers are all set; an
-    // access is its site (16 bits), number (16), member (8) and team (16), the site lowest.
+    // A race is its witness, then of either access team, member, number, site and 0; a judgement is four counts, 1 or 0 for whether
+    // there is a race, and the least one.
     extern "C" {
         fn dezhakom_judge(
             bytes: *const u8,
             length: usize,
             work: *mut u32,
             words: usize,
-            chunks: &mut u32,
-            segments: &mut u32,
-            accesses: &mut u32,
-            races: &mut u32,
-            first: &mut u64,
-            second: &mut u64,
-        ) -> u64;
+            judgement: &mut [u32; 16],
+            place: &mut usize,
+        ) -> u32;
 
         fn dezhakom_next_race(
             bytes: *const u8,
@@ -103,50 +99,49 @@ mod proved {
             second_number: u16,
             work: *mut u32,
             words: usize,
-            first: &mut u64,
-            second: &mut u64,
-        ) -> u64;
+            found: &mut u32,
+            race: &mut [u32; 11],
+            place: &mut usize,
+        ) -> u32;
     }
 
-    fn race_of(answer: u64, first: u64, second: u64) -> Result<Option<Race>, Refusal> {
-        let name = |access: u64| Name {
-            team: (access >> 40) as u16,
-            member: (access >> 32) as u8,
-            number: (access >> 16) as u16,
+    fn race_of(found: u32, race: &[u32]) -> Option<Race> {
+        let name = |access: &[u32]| Name {
+            team: access[0] as u16,
+            member: access[1] as u8,
+            number: access[2] as u16,
         };
-        match answer {
-            0 => Ok(None),
-            REFUSED.. => Err(refusal_of(answer)),
-            _ => Ok(Some(Race {
-                witness: (answer - 1) as u32,
-                first: name(first),
-                first_site: first as u16,
-                second: name(second),
-                second_site: second as u16,
-            })),
-        }
+        (found == 1).then(|| Race {
+            witness: race[0],
+            first: name(&race[1..]),
+            first_site: race[4] as u16,
+            second: name(&race[6..]),
+            second_site: race[9] as u16,
+        })
     }
 
-    // Neither function has a `requires`, so any slices may be passed.
     pub fn judge(bytes: &[u8], work: &mut [u32]) -> Result<Judgement, Refusal> {
-        let (mut chunks, mut segments, mut accesses, mut races) = (0, 0, 0, 0);
-        let (mut first, mut second) = (0, 0);
-        let answer = unsafe {
+        let (mut words, mut place) = ([9; 16], 9);
+        let number = unsafe {
             dezhakom_judge(
                 bytes.as_ptr(),
                 bytes.len(),
                 work.as_mut_ptr(),
                 work.len(),
-                &mut chunks,
-                &mut segments,
-                &mut accesses,
-                &mut races,
-                &mut first,
-                &mut second,
+                &mut words,
+                &mut place,
             )
         };
-        let least = race_of(answer, first, second)?;
-        Ok(Judgement { chunks, segments, accesses, races, least })
+        if number != 0 {
+            return Err(Refusal { number, place });
+        }
+        Ok(Judgement {
+            chunks: words[0],
+            segments: words[1],
+            accesses: words[2],
+            races: words[3],
+            least: race_of(words[4], &words[5..]),
+        })
     }
 
     pub fn next_race(
@@ -154,8 +149,8 @@ mod proved {
         (witness, first, second): (u32, Name, Name),
         work: &mut [u32],
     ) -> Result<Option<Race>, Refusal> {
-        let (mut one, mut other) = (0, 0);
-        let answer = unsafe {
+        let (mut found, mut race, mut place) = (9, [9; 11], 9);
+        let number = unsafe {
             dezhakom_next_race(
                 bytes.as_ptr(),
                 bytes.len(),
@@ -168,10 +163,14 @@ mod proved {
                 second.number,
                 work.as_mut_ptr(),
                 work.len(),
-                &mut one,
-                &mut other,
+                &mut found,
+                &mut race,
+                &mut place,
             )
         };
-        race_of(answer, one, other)
+        if number != 0 {
+            return Err(Refusal { number, place });
+        }
+        Ok(race_of(found, &race))
     }
 }

@@ -12,8 +12,8 @@ mod ranges;
 mod reader;
 
 use bundles::Case;
-use exports::{REFUSED, SharedByte};
 use generate::{Pair, Random};
+use ranges::{REFUSED, SharedByte};
 use std::hint::black_box;
 use std::time::Instant;
 
@@ -60,19 +60,7 @@ fn main() {
 
 #[inline(always)]
 fn ask(shared_byte: SharedByte, (first, second): &Pair) -> u64 {
-    // Any numbers may be passed, so the proved function is safe to call; so are those of Rust.
-    unsafe {
-        shared_byte(
-            first.base,
-            first.stride,
-            first.count,
-            first.size,
-            second.base,
-            second.stride,
-            second.count,
-            second.size,
-        )
-    }
+    ranges::ask(shared_byte, first, second)
 }
 
 const SHARED_BYTES: [SharedByte; 3] =

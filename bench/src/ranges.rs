@@ -1,5 +1,5 @@
 //! The lowest byte that two ranges share, in plain Rust: by a loop over the elements, and by the proved code's own algorithm.
-//! An answer is the number that the exported function gives.
+//! They have the form of the exported function, so that a call costs each the same.
 
 /// The bytes base + k * stride + j, with k below count and j below size.
 #[derive(Clone, Copy, Debug)]
@@ -31,17 +31,61 @@ impl Range {
     }
 }
 
-const REFUSED: u64 = 1 << 40; // as in exports.rs
+/// The two ranges' numbers, then whether a byte is shared, the lowest one, and the place of a refusal, which are set. The answer is the
+/// number of a refusal, or 0.
+pub type SharedByte =
+    unsafe extern "C" fn(u32, u16, u16, u8, u32, u16, u16, u8, &mut u32, &mut u32, &mut usize) -> u32;
 
-/// One more than the byte, 0 for none, or refusal 5 at 1 or 2.
-fn answer(first: Range, second: Range, lowest: impl Fn(Range, Range) -> Option<u64>) -> u64 {
+/// A refusal is its number times 2^40, and its place.
+pub const REFUSED: u64 = 1 << 40;
+
+/// One more than the byte, 0 for none, or a refusal.
+#[inline(always)]
+pub fn ask(shared_byte: SharedByte, first: &Range, second: &Range) -> u64 {
+    let (mut found, mut byte, mut place) = (9, 9, 9);
+    // Any numbers may be passed, so the proved function is safe to call; so are those of Rust.
+    let number = unsafe {
+        shared_byte(
+            first.base,
+            first.stride,
+            first.count,
+            first.size,
+            second.base,
+            second.stride,
+            second.count,
+            second.size,
+            &mut found,
+            &mut byte,
+            &mut place,
+        )
+    };
+    match (number, found) {
+        (0, 0) => 0,
+        (0, _) => byte as u64 + 1,
+        _ => number as u64 * REFUSED + place as u64,
+    }
+}
+
+/// Refusal 5 at 1 or 2, or what is found.
+fn answer(
+    first: Range,
+    second: Range,
+    lowest: impl Fn(Range, Range) -> Option<u64>,
+    (found, byte, place): (&mut u32, &mut u32, &mut usize),
+) -> u32 {
+    (*found, *byte, *place) = (0, 0, 0);
     if !first.is_good() {
-        return 5 * REFUSED + 1;
+        *place = 1;
+        return 5;
     }
     if !second.is_good() {
-        return 5 * REFUSED + 2;
+        *place = 2;
+        return 5;
     }
-    lowest(first, second).map_or(0, |byte| byte + 1)
+    if let Some(lowest) = lowest(first, second) {
+        (*found, *byte) = (1, lowest as u32);
+    }
+    0
 }
 
 /// Steps through the elements of both ranges in the order of their starts.
@@ -98,7 +142,6 @@ pub fn by_euclid(first: Range, second: Range) -> Option<u64> {
     Some(lower.start_of(one).max(upper.start_of(other)))
 }
 
-/// The three functions that are compared have the exported function's form, so that a call costs each the same.
 macro_rules! as_exported {
     ($name:ident, $lowest:ident) => {
         #[inline(never)]
@@ -111,10 +154,13 @@ macro_rules! as_exported {
             other_stride: u16,
             other_count: u16,
             other_size: u8,
-        ) -> u64 {
+            found: &mut u32,
+            byte: &mut u32,
+            place: &mut usize,
+        ) -> u32 {
             let first = Range { base, stride, count, size };
             let second = Range { base: other_base, stride: other_stride, count: other_count, size: other_size };
-            answer(first, second, $lowest)
+            answer(first, second, $lowest, (found, byte, place))
         }
     };
 }

@@ -48,7 +48,7 @@ access-elim P f b l h = go (ℕ-discrete b 0x30) (ℕ-discrete b 0x31) (ℕ-disc
         let e : b ≡ 0x33 = omega arith in
         subst P (sym e) (f Kind.AtomicWrite)
 
-kind-byte : (k : AccessKind) → kindOf (kindByte k) ≡ k
+pub kind-byte : (k : AccessKind) → kindOf (kindByte k) ≡ k
 unfolding kindOf kindByte
 kind-byte Kind.Read = refl
 kind-byte Kind.Write = refl
@@ -152,7 +152,7 @@ same-cons e q = rw (e, q)
 
 -- an access's widths, whatever its kind
 module _ (a : Access) where
-  access-widths : widthsOf (kindByte (a .kind)) ≡ accessWidths
+  pub access-widths : widthsOf (kindByte (a .kind)) ≡ accessWidths
   unfolding widthsOf
   access-widths = rw (access-known (a .kind))
 

@@ -188,7 +188,8 @@ fn decode_lock(bytes: &[u8], position: usize, acquire: bool) -> Reading
     }
 }
 
-fn kind_of(byte: u8) -> AccessKind
+// The kind of an access by its command byte.
+pub fn kind_of(byte: u8) -> AccessKind
     ensures { λ r. ⌜ r ≡ kindOf byte ⌝ }
 {
     if byte == 0x30 {
@@ -352,7 +353,8 @@ fn encode_team(byte: u8, team: u16, last: u8) -> Encoded
     }
 }
 
-fn kind_byte(kind: AccessKind) -> u8
+// The command byte of an access.
+pub fn kind_byte(kind: AccessKind) -> u8
     ensures { λ r. ⌜ r ≡ kindByte kind ⌝ }
 {
     match kind {
