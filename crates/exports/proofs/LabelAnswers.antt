@@ -2,23 +2,15 @@
 -- Assumes nothing.
 use Prim.Native.Nat.{ℕ}
 use mathlib.Core.Path.{_≡_, sym, ap, _∙_}
-use mathlib.Core.Bool.{true, false}
 use mathlib.Core.List.{List}
-use mathlib.Core.Option.{Option, none, some}
 use Rattle.bundle.specs.Answer.{Answer, gives, refuses, numberOf}
-use Rattle.bundle.specs.Lists.{fromOption}
-use Rattle.bundle.specs.Commands.{inRange}
 use Rattle.bundle.specs.declared.refusal.Cause.{Cause}
-use Rattle.bundle.specs.declared.command.Command.{Command}
-use Rattle.bundle.proofs.Tests.{false-is-true}
-use Rattle.bundle.proofs.Copying.{put-out-of-range}
 use Rattle.order.specs.Labels.{blank, holding, counted, labelAnswerOf, labelBeside, Labelled}
 use Rattle.order.specs.declared.label.Triple.{Triple}
 use Rattle.order.specs.declared.label.Label.{Label}
 use Rattle.order.specs.declared.climb.LabelAnswer.the-variants as Ans
 use Rattle.order.specs.declared.climb.Labelling.{Labelling}
 use Rattle.exports.specs.Told.{Told}
-use Rattle.exports.specs.CommandWords.{putFrom}
 use Rattle.exports.specs.LabelWords.{labelWords, labelTold}
 
 -- the label's words beside a number and a place

@@ -1,7 +1,7 @@
 -- An operand over its width is outside its range, and put refuses it so; and the command that words stand for, by their first word.
 -- Assumes nothing.
 use Prim.Native.Nat.{ℕ, _^_, _≤_, _<_}
-use mathlib.Core.Path.{_≡_, refl, sym, _∙_}
+use mathlib.Core.Path.{_≡_, sym, _∙_}
 use mathlib.Core.Bool.{Bool, true, false, cond, _&&_}
 use mathlib.Core.List.{List, _∷_}
 use mathlib.Core.Option.{Option, none, some}
@@ -11,9 +11,7 @@ use native.Mathlib.Omega.{arith}
 use borrow.Author.Tests.{leb-true, ltb-true, le-leb, lt-ltb, ne-eqb}
 use Rattle.bundle.specs.Answer.{refuses}
 use Rattle.bundle.specs.Lists.{fromOption}
-use Rattle.bundle.specs.Commands.{fitWidths, formOf, codeOf, widthsOf, kindByte, inRange, accessWidths}
-use Rattle.bundle.specs.declared.command.AccessKind.{AccessKind}
-use Rattle.bundle.specs.declared.command.AccessKind.the-variants as Kind
+use Rattle.bundle.specs.Commands.{fitWidths, formOf, codeOf, widthsOf, inRange, accessWidths}
 use Rattle.bundle.specs.declared.command.Access.{Access}
 use Rattle.bundle.specs.declared.command.Command.{Command}
 use Rattle.bundle.specs.declared.command.Command.the-variants as Com

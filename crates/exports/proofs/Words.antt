@@ -9,7 +9,7 @@ use mathlib.Core.Option.{some}
 use lib.ListN.{length}
 use native.Mathlib.Omega.{arith}
 use Rattle.bundle.specs.Answer.{gives}
-use Rattle.bundle.specs.Commands.{Bytes, Taken, kindOf, kindByte, inRange, readAt}
+use Rattle.bundle.specs.Commands.{Bytes, Taken, kindByte, inRange, readAt}
 use Rattle.bundle.specs.declared.command.AccessKind.{AccessKind}
 use Rattle.bundle.specs.declared.command.AccessKind.the-variants as Kind
 use Rattle.bundle.specs.declared.command.Access.{Access}

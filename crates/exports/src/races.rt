@@ -7,7 +7,6 @@ use listing::list::Totals;
 use listing::list::list_races;
 use listing::numbers::race_in;
 ghost use mathlib.Core.Path.{_≡_};
-ghost use mathlib.Core.Bool.{true, false};
 ghost use Rattle.listing.specs.Listing.{listingOf, raceIn};
 ghost use Rattle.exports.specs.RaceWords.{raceWords, totalsWords, listTold, ReadsAsRaces};
 
