@@ -1,5 +1,4 @@
 //! The lowest byte that two ranges share, in plain Rust: by a loop over the elements, and by the proved code's own algorithm.
-//! An answer is the number that the exported function gives.
 
 /// The bytes base + k * stride + j, with k below count and j below size.
 #[derive(Clone, Copy, Debug)]
@@ -31,17 +30,20 @@ impl Range {
     }
 }
 
-const REFUSED: u64 = 1 << 40; // as in exports.rs
+/// The form of the exported function, which all that are compared have: the two ranges, found, the byte, the place of a
+/// refusal; the answer is the refusal's number or 0.
+pub type SharedByte =
+    unsafe extern "C" fn(u32, u16, u16, u8, u32, u16, u16, u8, &mut u32, &mut u32, &mut usize) -> u32;
 
-/// One more than the byte, 0 for none, or refusal 5 at 1 or 2.
-fn answer(first: Range, second: Range, lowest: impl Fn(Range, Range) -> Option<u64>) -> u64 {
+/// The byte or none, or refusal 5 at 1 or 2.
+fn answer(first: Range, second: Range, lowest: impl Fn(Range, Range) -> Option<u64>) -> Result<Option<u32>, usize> {
     if !first.is_good() {
-        return 5 * REFUSED + 1;
+        return Err(1);
     }
     if !second.is_good() {
-        return 5 * REFUSED + 2;
+        return Err(2);
     }
-    lowest(first, second).map_or(0, |byte| byte + 1)
+    Ok(lowest(first, second).map(|byte| byte as u32))
 }
 
 /// Steps through the elements of both ranges in the order of their starts.
@@ -98,7 +100,6 @@ pub fn by_euclid(first: Range, second: Range) -> Option<u64> {
     Some(lower.start_of(one).max(upper.start_of(other)))
 }
 
-/// The three functions that are compared have the exported function's form, so that a call costs each the same.
 macro_rules! as_exported {
     ($name:ident, $lowest:ident) => {
         #[inline(never)]
@@ -111,13 +112,46 @@ macro_rules! as_exported {
             other_stride: u16,
             other_count: u16,
             other_size: u8,
-        ) -> u64 {
+            found: &mut u32,
+            byte: &mut u32,
+            place: &mut usize,
+        ) -> u32 {
             let first = Range { base, stride, count, size };
             let second = Range { base: other_base, stride: other_stride, count: other_count, size: other_size };
-            answer(first, second, $lowest)
+            let answer = answer(first, second, $lowest);
+            *found = matches!(answer, Ok(Some(_))) as u32;
+            *byte = answer.unwrap_or(None).unwrap_or(0);
+            *place = answer.err().unwrap_or(0);
+            if answer.is_ok() { 0 } else { 5 }
         }
     };
 }
 
 as_exported!(shared_by_elements, by_elements);
 as_exported!(shared_by_euclid, by_euclid);
+
+/// Asks one of the three: the byte or none, or the place of refusal 5.
+#[inline(always)]
+pub fn ask(shared_byte: SharedByte, first: &Range, second: &Range) -> Result<Option<u32>, usize> {
+    let (mut found, mut byte, mut place) = (0, 0, 0);
+    // Any numbers may be passed, so the proved function is safe to call; so are those of Rust.
+    let refusal = unsafe {
+        shared_byte(
+            first.base,
+            first.stride,
+            first.count,
+            first.size,
+            second.base,
+            second.stride,
+            second.count,
+            second.size,
+            &mut found,
+            &mut byte,
+            &mut place,
+        )
+    };
+    match refusal {
+        0 => Ok((found != 0).then_some(byte)),
+        _ => Err(place),
+    }
+}
