@@ -199,7 +199,8 @@ fn decode_release(bytes: &[u8], position: usize) -> Reading
     }
 }
 
-fn kind_of(byte: u8) -> AccessKind
+// The kind of an access by its command byte.
+pub fn kind_of(byte: u8) -> AccessKind
     ensures { λ r. ⌜ r ≡ kindOf byte ⌝ }
 {
     if byte == 0x30 {
@@ -363,7 +364,8 @@ fn encode_team(byte: u8, team: u16, last: u8) -> Encoded
     }
 }
 
-fn byte_of(kind: AccessKind) -> u8
+// The command byte of an access.
+pub fn byte_of(kind: AccessKind) -> u8
     ensures { λ r. ⌜ r ≡ byteOf kind ⌝ }
 {
     match kind {

@@ -1,4 +1,6 @@
--- Answers as numbers, for callers in other languages.
-pub mod Judged
-pub mod Labels
-pub mod Packing
+-- What the functions for C and Rust answer, in numbers and words.
+pub mod CommandWords
+pub mod Inner
+pub mod LabelWords
+pub mod RaceWords
+pub mod Told

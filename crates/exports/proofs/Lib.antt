@@ -1,0 +1,4 @@
+-- Laws over the definitions.
+pub mod Answers
+pub mod Widths
+pub mod Words
