@@ -1,4 +1,4 @@
-"""The header include/dezhakom.h beside the sources: its functions, its constants and its refusals."""
+"""The header include/dezhakom.h, and the declarations of bindings/rust, beside the sources: functions, constants and refusals."""
 
 import re
 from pathlib import Path
@@ -7,6 +7,7 @@ import second_reader as sr
 
 ROOT = Path(__file__).resolve().parent.parent
 HEADER = ROOT / "include" / "dezhakom.h"
+RUST = ROOT / "bindings" / "rust" / "src" / "ffi.rs"
 
 NUMBERS = {"u8": "uint8_t", "u16": "uint16_t", "u32": "uint32_t", "u64": "uint64_t", "usize": "size_t"}
 
@@ -28,7 +29,7 @@ class Wrong(Exception):
 
 def want(title, got, wanted):
     if got != wanted:
-        raise Wrong(f"{title}: the header has {got}, wanted is {wanted}")
+        raise Wrong(f"{title}: got {got}, wanted {wanted}")
 
 
 # ----------------------------------------------------------------- functions
@@ -58,41 +59,68 @@ def source_functions():
     return found
 
 
-def wanted_parameters(name, kind):
-    """What a parameter of the source is in C: a list of (type, name); for a record the type is its number of words."""
+def rust_functions():
+    """Those that bindings/rust declares."""
+    found = {}
+    for name, words, result in re.findall(r"pub fn (\w+)\((.*?)\)(?: -> (\w+))?;", RUST.read_text(), re.DOTALL):
+        parameters = [word.split(":", 1) for word in words.split(",") if word.strip()]
+        found[name] = result, [(kind.strip(), parameter.strip()) for parameter, kind in parameters]
+    return found
+
+
+def in_c(kind):
+    """What a parameter of the source is in C: the patterns of its types. A record has its number of words beside it."""
     if kind in NUMBERS:
-        return [(NUMBERS[kind], name)]
+        return [NUMBERS[kind]], None
     mutable, inner = re.fullmatch(r"&(mut )?(.*)", kind).groups()
     const = "" if mutable else "const "
     if inner in NUMBERS:
-        return [(f"{const}{NUMBERS[inner]}*", name)]
+        return [rf"{const}{NUMBERS[inner]}\*"], None
     word, length = re.fullmatch(r"\[(\w+)(?:; (\d+))?\]", inner).groups()
     if length:
-        return [((const, int(length)), name)]
-    return [(f"{const}{NUMBERS[word]}*", name), ("size_t", None)]
+        return [rf"{const}(dezhakom_\w+)\*"], int(length)
+    return [rf"{const}{NUMBERS[word]}\*", "size_t"], None
+
+
+def in_rust(kind):
+    """The same in Rust."""
+    mutable, inner = re.fullmatch(r"(?:&(mut )?)?(.*)", kind).groups()
+    if inner in NUMBERS:
+        return [re.escape(kind)], None
+    word, length = re.fullmatch(r"\[(\w+)(?:; (\d+))?\]", inner).groups()
+    if length:
+        return [rf"&{mutable or ''}([\w:]+)"], int(length)
+    return [rf"\*{'mut' if mutable else 'const'} {word}", "usize"], None
+
+
+def compare_functions(title, declared, translate, results):
+    """Each function of the source is declared as it is. Answers the pairs of a record's type and its words in the source."""
+    sources = source_functions()
+    want(f"{title}: functions", sorted(declared), sorted(sources))
+    records = set()
+    for name, (result, parameters) in sources.items():
+        want(f"{title}: {name}: result", declared[name][0], results[result])
+        given = iter(declared[name][1])
+        for kind, parameter in parameters:
+            patterns, words = translate(kind)
+            for place, pattern in enumerate(patterns):
+                declared_kind, declared_name = next(given, ("nothing", "nothing"))
+                match = re.fullmatch(pattern, declared_kind)
+                if not match:
+                    raise Wrong(f"{title}: {name}: {declared_name} is {declared_kind}, in the source {parameter}: {kind}")
+                if place == 0:
+                    want(f"{title}: {name}: name of a parameter", declared_name, parameter)
+                if words:
+                    records.add((match[1], words))
+        want(f"{title}: {name}: parameters too many", list(given), [])
+    return sorted(records)
 
 
 def record_words():
-    """Compares all functions. Answers the pairs of a record's type and its words in the source."""
-    declared, sources = header_functions(), source_functions()
-    want("functions", sorted(declared), sorted(sources))
-    records = set()
-    for name, (result, parameters) in sources.items():
-        want(f"{name}: result", declared[name][0], NUMBERS[result] if result else "void")
-        wanted = [part for kind, parameter in parameters for part in wanted_parameters(parameter, kind)]
-        given = declared[name][1]
-        want(f"{name}: number of parameters", len(given), len(wanted))
-        for (kind, parameter), (wanted_kind, wanted_name) in zip(given, wanted):
-            if isinstance(wanted_kind, tuple):
-                const, words = wanted_kind
-                record = re.fullmatch(rf"{const}(dezhakom_\w+)\*", kind)
-                want(f"{name}: {parameter} is a record, {const or 'not const'}", bool(record), True)
-                records.add((record[1], words))
-            else:
-                want(f"{name}: type of {parameter}", kind, wanted_kind)
-            if wanted_name:
-                want(f"{name}: name of a parameter", parameter, wanted_name)
-    return sorted(records)
+    """Compares all functions. Answers the records of the header with their words in the source."""
+    records = compare_functions("header", header_functions(), in_c, {**NUMBERS, "": "void"})
+    compare_functions("bindings/rust", rust_functions(), in_rust, {**{kind: kind for kind in NUMBERS}, "": ""})
+    return records
 
 
 def words_program(records):

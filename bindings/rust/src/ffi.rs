@@ -53,6 +53,13 @@ pub struct Totals {
     pub whole: u32,
 }
 
+// The words of the records.
+const _: () = {
+    use std::mem::size_of;
+    assert!(size_of::<Command>() == 4 * 9 && size_of::<crate::Label>() == 4 * 16 && size_of::<Access>() == 4 * 5);
+    assert!(size_of::<Race>() == 4 * 11 && size_of::<Judgement>() == 4 * 16 && size_of::<Totals>() == 4 * 5);
+};
+
 extern "C" {
     pub fn dezhakom_read_command(
         bytes: *const u8,
