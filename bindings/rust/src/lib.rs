@@ -536,30 +536,12 @@ pub struct Listing {
     numbers: Vec<u64>,
 }
 
-/// A first attempt has room for so many races; where there are more, the bundle is judged again with the room that it needs.
-const FEW_RACES: usize = 4_096;
-
 impl Listing {
     /// Lists the races of a bundle. Refused as [`judge`], with the same work area.
     pub fn of(bytes: &[u8], work: &mut [u32]) -> Result<Listing, Refusal> {
-        // An access has 12 bytes.
+        // Room for all that a bundle of this length can have: an access has 12 bytes. What is not used is not touched, but for the spare memory.
         let accesses = MOST_ACCESSES.min(bytes.len() / COMMAND_BYTES);
-        let most = accesses * accesses.saturating_sub(1) / 2;
-        match Self::with_room(bytes, work, accesses, most.min(FEW_RACES))? {
-            (_, Some(listing)) => Ok(listing),
-            (counts, None) => {
-                let (_, listing) = Self::with_room(bytes, work, accesses, counts.races as usize)?;
-                Ok(listing.expect("all races have room"))
-            }
-        }
-    }
-
-    fn with_room(
-        bytes: &[u8],
-        work: &mut [u32],
-        accesses: usize,
-        races: usize,
-    ) -> Result<(Counts, Option<Listing>), Refusal> {
+        let races = accesses * accesses.saturating_sub(1) / 2;
         let (mut names, mut numbers, mut spare) = (vec![0; accesses], vec![0; races], vec![0; races / 2]);
         let (mut totals, mut place) = (ffi::Totals::default(), 0);
         let refusal = unsafe {
@@ -580,9 +562,11 @@ impl Listing {
         };
         answer(refusal, place)?;
         let ffi::Totals { chunks, segments, accesses, races, whole } = totals;
-        let counts = Counts { chunks, segments, accesses, races };
+        assert!(whole == 1, "there is room for all races");
+        names.truncate(accesses as usize);
         numbers.truncate(races as usize);
-        Ok((counts, (whole != 0).then_some(Listing { counts, names, numbers })))
+        numbers.shrink_to_fit();
+        Ok(Listing { counts: Counts { chunks, segments, accesses, races }, names, numbers })
     }
 
     pub fn counts(&self) -> Counts {

@@ -115,7 +115,7 @@ fn ranges() {
     assert_eq!(refused, Err(Refusal { cause: Cause::OutOfRange, place: 2 }));
 }
 
-/// More races than a first attempt has room for.
+/// Some ten thousand races.
 #[test]
 fn a_long_listing() {
     use Command::*;
