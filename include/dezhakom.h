@@ -11,7 +11,8 @@
  * - Any bytes, numbers and lengths may be given: no input makes a function read or write outside of what it was lent, loop for
  *   ever or abort. What is lent for writing must not overlap anything else that is lent in the same call. A pointer is not null,
  *   also where its length is 0.
- * - There is no state between calls, and nothing is allocated: threads may call at the same time, each with memory of its own.
+ * - There is no state between calls, and nothing is allocated: threads may call at the same time, each with memory of its own. A call
+ *   uses less than 128 KB of stack.
  */
 #ifndef DEZHAKOM_H
 #define DEZHAKOM_H
