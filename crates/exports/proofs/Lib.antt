@@ -1,4 +1,5 @@
 -- Laws over the definitions.
-pub mod Answers
+pub mod LabelAnswers
+pub mod Listed
 pub mod Widths
 pub mod Words

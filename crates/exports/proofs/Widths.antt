@@ -1,24 +1,27 @@
--- An operand over its width is outside its range; and the command that words stand for, by their first word.
+-- An operand over its width is outside its range, and put refuses it so; and the command that words stand for, by their first word.
 -- Assumes nothing.
 use Prim.Native.Nat.{ℕ, _^_, _≤_, _<_}
-use mathlib.Core.Path.{_≡_, refl, _∙_}
-use mathlib.Core.Bool.{Bool, false, cond, _&&_}
+use mathlib.Core.Path.{_≡_, refl, sym, _∙_}
+use mathlib.Core.Bool.{Bool, true, false, cond, _&&_}
 use mathlib.Core.List.{List, _∷_}
-use mathlib.Core.Option.{none, some}
+use mathlib.Core.Option.{Option, none, some}
 use lib.ListN.{getD}
 use lib.Dec.{ltb, leb}
 use native.Mathlib.Omega.{arith}
 use borrow.Author.Tests.{leb-true, ltb-true, le-leb, lt-ltb, ne-eqb}
+use Rattle.bundle.specs.Answer.{refuses}
+use Rattle.bundle.specs.Lists.{fromOption}
 use Rattle.bundle.specs.Commands.{fitWidths, formOf, codeOf, widthsOf, byteOf, inRange, accessWidths}
 use Rattle.bundle.specs.declared.command.AccessKind.{AccessKind}
 use Rattle.bundle.specs.declared.command.AccessKind.the-variants as Kind
 use Rattle.bundle.specs.declared.command.Access.{Access}
 use Rattle.bundle.specs.declared.command.Command.{Command}
 use Rattle.bundle.specs.declared.command.Command.the-variants as Com
-use Rattle.bundle.proofs.Tests.{is-false, and-left, and-right}
+use Rattle.bundle.proofs.Tests.{false-is-true, is-false, and-left, and-right}
 use Rattle.bundle.proofs.Operands.{Fits}
 use Rattle.bundle.proofs.Ranges.{in-range-fits}
-use Rattle.exports.specs.CommandWords.{commandBy, accessFrom}
+use Rattle.bundle.proofs.Copying.{put-out-of-range}
+use Rattle.exports.specs.CommandWords.{commandBy, accessFrom, putFrom}
 
 -- the first of operands that fit is below its width, and the rest fit
 first-fits : {w x : ℕ} {ws xs : List ℕ} → Fits (w ∷ ws) (x ∷ xs) → x < 256 ^ w
@@ -67,6 +70,14 @@ access-wide a h =
     let g : Fits accessWidths (codeOf (Com.Access a) .operands) = rw (access-widths (a .kind)) at f in
     let from-stride = rest-fits (rest-fits g) in
     h (first-fits g) (first-fits from-stride) (first-fits (rest-fits from-stride)) (first-fits (rest-fits (rest-fits from-stride))))
+
+-- a command with an operand over its width is refused as any that is out of range
+pub put-wide :
+    (o : Option Command) (buffer : List ℕ) (at : ℕ)
+    → fromOption true inRange o ≡ false
+    → putFrom o buffer at ≡ record { answer = refuses 5 at; buffer = buffer }
+put-wide none buffer at e = false-is-true (sym e)
+put-wide (some c) buffer at e = put-out-of-range c buffer at e
 
 -- the command by its byte
 module _ (words : List ℕ) (byte : ℕ) where

@@ -1,16 +1,20 @@
 -- Races, judgements and the counts of a listing as words.
 use Prim.Native.Nat.{ℕ}
+use mathlib.Core.Path.{_≡_}
 use mathlib.Core.Bool.{Bool, true, false}
-use mathlib.Core.List.{List, [], _∷_}
+use mathlib.Core.List.{List, [], _∷_, map}
 use mathlib.Core.Option.{Option}
+use lib.ListN.{getD, take}
 use Rattle.bundle.specs.Commands.{Lent}
+use Rattle.bundle.specs.Chunks.{chunksOf}
+use Rattle.verdict.specs.Races.{racesOf}
 use Rattle.verdict.specs.declared.race.Name.{Name}
 use Rattle.verdict.specs.declared.race.Race.{Race}
 use Rattle.verdict.specs.declared.race.Verdict.{Verdict}
 use Rattle.verdict.specs.declared.race.Verdict.the-variants as Ver
 use Rattle.verdict.specs.declared.race.Judgement.{Judgement}
 use Rattle.listing.specs.declared.list.Totals.{Totals}
-use Rattle.listing.specs.Listing.{Outcome}
+use Rattle.listing.specs.Listing.{Outcome, raceIn}
 use Rattle.exports.specs.Told.{Told, told, Left, left, Perhaps, perhaps, zeroWords}
 
 abbrev pub nameOf : ℕ → ℕ → ℕ → Name
@@ -64,3 +68,7 @@ listTold o =
       numbers = o .numbers;
       spare = o .spare;
     }
+
+-- where the totals say that all races stand in the memory, it reads as the bundle's races, in their order
+pub record ReadsAsRaces (s totals names numbers : List ℕ) : Type 0 where
+  pub reads : getD totals 4 0 ≡ 1 → map (raceIn names) (take (getD totals 3 0) numbers) ≡ racesOf (chunksOf s)

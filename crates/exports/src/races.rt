@@ -9,7 +9,7 @@ use listing::numbers::race_in;
 ghost use mathlib.Core.Path.{_≡_};
 ghost use mathlib.Core.Bool.{true, false};
 ghost use Rattle.listing.specs.Listing.{listingOf, raceIn};
-ghost use Rattle.exports.specs.RaceWords.{raceWords, totalsWords, listTold};
+ghost use Rattle.exports.specs.RaceWords.{raceWords, totalsWords, listTold, ReadsAsRaces};
 
 fn totals_words(totals: Totals, whole: u32) -> [u32; 5]
     ensures { λ r. ⌜ r ≡ totalsWords whole totals ⌝ }
@@ -35,6 +35,7 @@ pub extern "C" fn dezhakom_list_races(
     place: &mut usize,
 ) -> u32
     ensures { λ r. ⌜ listTold (listingOf (now (bytes .entry)) (now (work .entry)) (now (names .entry)) (now (numbers .entry)) (now (spare .entry))) ≡ record { told = record { number = r; place = now (place .exit); answer = now (totals .exit) }; work = now (work .exit); names = now (names .exit); numbers = now (numbers .exit); spare = now (spare .exit) } ⌝ }
+    ensures readable { λ r. ⌜ ReadsAsRaces (now (bytes .entry)) (now (totals .exit)) (now (names .exit)) (now (numbers .exit)) ⌝ }
 {
     match list_races(bytes, work, names, numbers, spare) {
         Listed::Whole(counts) => {

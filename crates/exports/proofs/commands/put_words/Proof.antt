@@ -3,7 +3,7 @@ use denote.Ref.{now}
 use Rattle.exports.specs.CommandWords.{commandFrom}
 use Rattle.exports.specs.Inner.{Makes}
 use mathlib.Core.Path.{subst}
-use Rattle.exports.proofs.Answers.{put-wide}
+use Rattle.exports.proofs.Widths.{put-wide}
 use borrow.Author.Needs.{needs}
 use Rattle.exports.proofs.commands.put_words.Statement.{statement}
 use Rattle.exports.proofs.commands.put_words.Tie as tie

@@ -1,5 +1,5 @@
 -- `exports::labels::dezhakom_label_of_segment` meets its contract: the number and place of the answer, and the words of the label beside it. Assumes nothing.
-use Rattle.exports.proofs.Answers.{label-found, label-refused}
+use Rattle.exports.proofs.LabelAnswers.{label-found, label-refused}
 use borrow.Author.Needs.{needs}
 use Rattle.exports.proofs.labels.dezhakom_label_of_segment.Statement.{statement}
 use Rattle.exports.proofs.labels.dezhakom_label_of_segment.Tie as tie

@@ -1,4 +1,4 @@
--- Answers in words: a label with its answer beside it, and a put by what was made of the words.
+-- The answer of a label told: the words of the label that stands beside it.
 -- Assumes nothing.
 use Prim.Native.Nat.{ℕ}
 use mathlib.Core.Path.{_≡_, sym, ap, _∙_}
@@ -36,11 +36,3 @@ module _ (l : Labelling) {a : Answer (List Triple)} (h : Labelled l a) where
   label-refused place cause e =
       let q : refuses (numberOf cause) place ≡ a = sym (ap (labelAnswerOf (l .label)) e) ∙ h .answer in
       ap labelTold (sym q) ∙ ap (beside (numberOf cause) place) (sym (h .label ∙ ap labelBeside (sym q)))
-
--- a command with an operand over its width is refused as any that is out of range
-pub put-wide :
-    (o : Option Command) (buffer : List ℕ) (at : ℕ)
-    → fromOption true inRange o ≡ false
-    → putFrom o buffer at ≡ record { answer = refuses 5 at; buffer = buffer }
-put-wide none buffer at e = false-is-true (sym e)
-put-wide (some c) buffer at e = put-out-of-range c buffer at e
