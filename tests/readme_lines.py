@@ -38,8 +38,9 @@ def readme():
 
 
 def examples(text):
-    """All examples. Every indented line is a command or stands below one."""
+    """All examples. Every indented line is a command or stands below one; what stands between fences (```) is none."""
     found = []
+    text = re.sub(r"^```.*?^```$", "", text, flags=re.MULTILINE | re.DOTALL)
     for block in re.findall(r"(?:^    .*\n)+", text, re.MULTILINE):
         for line in block.splitlines():
             if line.startswith("    $ "):

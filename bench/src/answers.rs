@@ -1,11 +1,12 @@
 //! Answers of the plain Rust code, one for each line of standard input:
 //! `check HEX` gives `accepted` or `refused N at P`; `label TEAM MEMBER SEGMENT HEX` gives the numbers of the triples;
-//! `shared` and the two ranges' eight numbers give a number;
+//! `shared` and the two ranges' eight numbers give `byte N`, `none` or a refusal;
 //! `judge WORDS HEX`, `next WORDS KEY HEX` and `list HEX` give a judgement, a race or `none`, and a listing whose lines
 //! end in `;`. WORDS is the length of the work area, which is not clean before and must be left as document 01 says; KEY
 //! is a witness and two names, seven numbers.
 //! bench/compare_reader holds them to the second reader's.
 
+#[allow(dead_code)] // what other programs of bench/ use of it
 mod judge;
 mod label;
 mod ranges;
@@ -60,10 +61,14 @@ fn label(n: &[u32], bytes: &[u8]) -> String {
 
 fn shared(n: &[u32]) -> String {
     let range = |n: &[u32]| Range { base: n[0], stride: n[1] as u16, count: n[2] as u16, size: n[3] as u8 };
-    let functions: [SharedByte; 2] = [ranges::shared_by_elements, ranges::shared_by_euclid];
-    let answers = functions.map(|shared| ranges::ask(shared, &range(n), &range(&n[4..])));
+    let (first, second) = (range(&n[..4]), range(&n[4..]));
+    let answers = [ranges::shared_by_elements as SharedByte, ranges::shared_by_euclid]
+        .map(|shared| ranges::ask(shared, &first, &second));
     assert_eq!(answers[0], answers[1], "the two answers to {n:?}");
-    answers[0].to_string()
+    match answers[0] {
+        Ok(byte) => byte.map_or("none".to_string(), |byte| format!("byte {byte}")),
+        Err(place) => refusal_text(Refusal { number: 5, place }),
+    }
 }
 
 /// Asks over a work area of so many words, once for each closure.

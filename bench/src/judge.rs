@@ -82,6 +82,13 @@ pub fn next_race(
     })
 }
 
+/// All races in order.
+pub fn list(bytes: &[u8], work: &mut [u32], closure: Closure) -> Result<Vec<Race>, Refusal> {
+    over(bytes, work, closure, |bundle, rows, table| {
+        sorted_keys(bundle, rows, table).into_iter().filter_map(|key| race_of(table, key)).collect()
+    })
+}
+
 /// The text of racelist.
 pub fn racelist(bytes: &[u8], work: &mut [u32], closure: Closure, out: &mut impl Write) -> io::Result<()> {
     let listed = over(bytes, work, closure, |bundle, rows, table| {

@@ -1,8 +1,7 @@
 //! Judge and next race: the proved code beside plain Rust with the same closure of the graph, and with a quicker one.
-//! Without the proved judge, the two of Rust are compared and timed alone.
 
 use crate::bundles::{self, Case};
-use crate::exports::{self, Judge, NextRace};
+use crate::exports;
 use crate::generate::Random;
 use crate::judge::{self, Closure, Judgement, LEAST_WORDS, Name, Race};
 use crate::reader::Refusal;
@@ -13,6 +12,7 @@ use std::time::Instant;
 
 const DAMAGED: usize = 1_000;
 const WALKED: usize = 8;
+const LISTINGS: usize = 10;
 /// About so many seconds are spent on a row, in this many rounds.
 const SECONDS: f64 = 0.5;
 const FEWEST_ROUNDS: f64 = 5.0;
@@ -20,15 +20,11 @@ const MOST_ROUNDS: f64 = 5_000.0;
 
 type Key = (u32, Name, Name);
 
-const JUDGES: [Judge; 3] = match exports::JUDGING {
-    Some((proved, _)) => [proved, judge_by_warshall, judge_by_teams],
-    None => [judge_by_warshall, judge_by_warshall, judge_by_teams],
-};
+type Judge = fn(&[u8], &mut [u32]) -> Result<Judgement, Refusal>;
+type NextRace = fn(&[u8], Key, &mut [u32]) -> Result<Option<Race>, Refusal>;
 
-const NEXT_RACES: [NextRace; 3] = match exports::JUDGING {
-    Some((_, proved)) => [proved, next_by_warshall, next_by_teams],
-    None => [next_by_warshall, next_by_warshall, next_by_teams],
-};
+const JUDGES: [Judge; 3] = [exports::judge, judge_by_warshall, judge_by_teams];
+const NEXT_RACES: [NextRace; 3] = [exports::next_race, next_by_warshall, next_by_teams];
 
 fn judge_by_warshall(bytes: &[u8], work: &mut [u32]) -> Result<Judgement, Refusal> {
     judge::judge(bytes, work, Closure::Warshall)
@@ -63,10 +59,10 @@ pub fn compare(random: &mut Random) -> bool {
         all_equal &= time_next(case, random);
     }
     println!();
-    println!("listing, milliseconds for a bundle, plain Rust alone");
-    println!("{:<24}{:>10}{:>10}{:>9}", "bundle", "races", "bytes", "rust");
-    for case in named(&cases, &["all clash", "8 members, 62 barriers", "E"]) {
-        time_listing(case);
+    println!("listing, milliseconds for all races of a bundle");
+    println!("{:<24}{:>10}{:>10}{:>10}{:>9}", "bundle", "races", "proved", "rust", "ratio");
+    for case in named(&cases, &["all clash", "coprime strides", "8 members, 62 barriers", "10 accesses", "E"]) {
+        all_equal &= time_listing(case);
     }
     all_equal
 }
@@ -85,12 +81,7 @@ fn head(name: &str, counts: [&str; 3]) {
 fn print_row(name: &str, counts: [String; 3], seconds: [f64; 3]) {
     let [proved, warshall, teams] = seconds.map(|best| best * 1e6);
     print!("{name:<24}{:>9}{:>9}{:>8}", counts[0], counts[1], counts[2]);
-    match exports::JUDGING {
-        Some(_) => {
-            println!("{proved:>10.1}{warshall:>10.1}{teams:>10.1}{:>12.2}{:>10.2}", proved / warshall, proved / teams)
-        }
-        None => println!("{:>10}{warshall:>10.1}{teams:>10.1}{:>12}{:>10}", "-", "-", "-"),
-    }
+    println!("{proved:>10.1}{warshall:>10.1}{teams:>10.1}{:>12.2}{:>10.2}", proved / warshall, proved / teams);
 }
 
 /// The answers of the three over work areas of so many words, which hold something before: they must be equal, and the
@@ -185,15 +176,19 @@ fn time_next(case: &Case, random: &mut Random) -> bool {
     true
 }
 
-fn time_listing(case: &Case) {
-    let mut work = vec![0; LEAST_WORDS];
-    let mut text = Vec::new();
-    let mut list = || {
-        text.clear();
-        judge::racelist(black_box(&case.bytes), &mut work, Closure::Teams, &mut text).expect("room for text");
-        black_box(&text);
-    };
-    let [best] = quickest(10, [&mut list]);
-    let lines = text.iter().filter(|&&byte| byte == b'\n').count();
-    println!("{:<24}{:>10}{:>10}{:>9.3}", case.name, lines - 2, text.len(), best * 1e3);
+fn time_listing(case: &Case) -> bool {
+    let bytes = &case.bytes[..];
+    let mut work = [vec![0; LEAST_WORDS], vec![0; LEAST_WORDS]];
+    let [proved, rust] = &mut work;
+    let given = exports::list(bytes, proved);
+    if given != judge::list(bytes, rust, Closure::Teams) {
+        println!("{}: the listings differ", case.name);
+        return false;
+    }
+    let mut list = || _ = black_box(exports::list(black_box(bytes), proved));
+    let mut plain = || _ = black_box(judge::list(black_box(bytes), rust, Closure::Teams));
+    let [proved, rust] = quickest(LISTINGS, [&mut list, &mut plain]).map(|best| best * 1e3);
+    let races = given.map_or(0, |races| races.len());
+    println!("{:<24}{races:>10}{proved:>10.3}{rust:>10.3}{:>9.2}", case.name, proved / rust);
+    true
 }

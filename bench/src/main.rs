@@ -3,6 +3,7 @@
 mod bundles;
 mod exports;
 mod generate;
+#[allow(dead_code)] // what other programs of bench/ use of it
 mod judge;
 mod judge_cases;
 mod judgements;
@@ -13,7 +14,8 @@ mod reader;
 
 use bundles::Case;
 use generate::{Pair, Random};
-use ranges::{REFUSED, SharedByte};
+use ranges::SharedByte;
+use reader::Refusal;
 use std::hint::black_box;
 use std::time::Instant;
 
@@ -59,7 +61,7 @@ fn main() {
 }
 
 #[inline(always)]
-fn ask(shared_byte: SharedByte, (first, second): &Pair) -> u64 {
+fn ask(shared_byte: SharedByte, (first, second): &Pair) -> Result<Option<u32>, usize> {
     ranges::ask(shared_byte, first, second)
 }
 
@@ -70,7 +72,7 @@ fn equal_answers(name: &str, pairs: &[Pair]) -> bool {
     for pair in pairs {
         let answers = SHARED_BYTES.map(|shared_byte| ask(shared_byte, pair));
         if answers[0] != answers[1] || answers[0] != answers[2] {
-            println!("{name}: {pair:?}: proved {}, loop {}, euclid {}", answers[0], answers[1], answers[2]);
+            println!("{name}: {pair:?}: proved {:?}, loop {:?}, euclid {:?}", answers[0], answers[1], answers[2]);
             return false;
         }
     }
@@ -92,7 +94,7 @@ fn quickest<const TASKS: usize>(rounds: usize, mut tasks: [&mut dyn FnMut(); TAS
 
 fn ask_all(shared_byte: SharedByte, pairs: &[Pair]) {
     let shared_byte = black_box(shared_byte);
-    let sum = pairs.iter().fold(0u64, |sum, pair| sum.wrapping_add(ask(shared_byte, pair)));
+    let sum = pairs.iter().fold(0u32, |sum, pair| sum.wrapping_add(ask(shared_byte, pair).unwrap_or(None).unwrap_or(1)));
     black_box(sum);
 }
 
@@ -111,7 +113,7 @@ fn time_pairs(name: &str, random: &mut Random, make: fn(&mut Random) -> Pair) ->
         }
     }
     let [proved, elements, euclid] = nanoseconds;
-    let shared = pairs.iter().filter(|pair| ask(SHARED_BYTES[0], pair) != 0).count();
+    let shared = pairs.iter().filter(|pair| ask(SHARED_BYTES[0], pair) != Ok(None)).count();
     println!(
         "{name:<18}{:>7.0}%{proved:>9.1}{elements:>9.1}{euclid:>9.1}{:>10.2}{:>10.2}",
         100.0 * shared as f64 / PAIRS as f64,
@@ -121,26 +123,18 @@ fn time_pairs(name: &str, random: &mut Random, make: fn(&mut Random) -> Pair) ->
     true
 }
 
-/// The plain reader's answer as the exported function gives it.
-fn check_by_reader(bytes: &[u8]) -> u64 {
-    match reader::check(bytes) {
-        Ok(()) => 0,
-        Err(refusal) => refusal.number as u64 * REFUSED + refusal.place as u64,
-    }
-}
-
 fn equal_checks(name: &str, bytes: &[u8]) -> bool {
-    let (proved, rust) = (exports::check(bytes), check_by_reader(bytes));
+    let (proved, rust) = (exports::check(bytes), reader::check(bytes));
     if proved != rust {
         println!("{name}: proved {}, rust {}", answer_text(proved), answer_text(rust));
     }
     proved == rust
 }
 
-fn answer_text(answer: u64) -> String {
+fn answer_text(answer: Result<(), Refusal>) -> String {
     match answer {
-        0 => "accepted".to_string(),
-        _ => format!("{} at {}", answer / REFUSED, answer % REFUSED),
+        Ok(()) => "accepted".to_string(),
+        Err(Refusal { number, place }) => format!("{number} at {place}"),
     }
 }
 
@@ -151,7 +145,7 @@ fn time_check(case: &Case) -> bool {
         return false;
     }
     let mut proved = || _ = black_box(exports::check(black_box(bytes)));
-    let mut rust = || _ = black_box(check_by_reader(black_box(bytes)));
+    let mut rust = || _ = black_box(reader::check(black_box(bytes)));
     let [proved, rust] = quickest(CHECK_ROUNDS, [&mut proved, &mut rust]).map(|best| best * 1e6);
     let answer = answer_text(exports::check(bytes));
     println!("{:<32}{:>7}{answer:>12}{proved:>9.1}{rust:>9.1}{:>8.2}", case.name, bytes.len(), proved / rust);

@@ -1,5 +1,4 @@
 //! The lowest byte that two ranges share, in plain Rust: by a loop over the elements, and by the proved code's own algorithm.
-//! They have the form of the exported function, so that a call costs each the same.
 
 /// The bytes base + k * stride + j, with k below count and j below size.
 #[derive(Clone, Copy, Debug)]
@@ -31,61 +30,20 @@ impl Range {
     }
 }
 
-/// The two ranges' numbers, then whether a byte is shared, the lowest one, and the place of a refusal, which are set. The answer is the
-/// number of a refusal, or 0.
+/// The form of the exported function, which all that are compared have: the two ranges, found, the byte, the place of a
+/// refusal; the answer is the refusal's number or 0.
 pub type SharedByte =
     unsafe extern "C" fn(u32, u16, u16, u8, u32, u16, u16, u8, &mut u32, &mut u32, &mut usize) -> u32;
 
-/// A refusal is its number times 2^40, and its place.
-pub const REFUSED: u64 = 1 << 40;
-
-/// One more than the byte, 0 for none, or a refusal.
-#[inline(always)]
-pub fn ask(shared_byte: SharedByte, first: &Range, second: &Range) -> u64 {
-    let (mut found, mut byte, mut place) = (9, 9, 9);
-    // Any numbers may be passed, so the proved function is safe to call; so are those of Rust.
-    let number = unsafe {
-        shared_byte(
-            first.base,
-            first.stride,
-            first.count,
-            first.size,
-            second.base,
-            second.stride,
-            second.count,
-            second.size,
-            &mut found,
-            &mut byte,
-            &mut place,
-        )
-    };
-    match (number, found) {
-        (0, 0) => 0,
-        (0, _) => byte as u64 + 1,
-        _ => number as u64 * REFUSED + place as u64,
-    }
-}
-
-/// Refusal 5 at 1 or 2, or what is found.
-fn answer(
-    first: Range,
-    second: Range,
-    lowest: impl Fn(Range, Range) -> Option<u64>,
-    (found, byte, place): (&mut u32, &mut u32, &mut usize),
-) -> u32 {
-    (*found, *byte, *place) = (0, 0, 0);
+/// The byte or none, or refusal 5 at 1 or 2.
+fn answer(first: Range, second: Range, lowest: impl Fn(Range, Range) -> Option<u64>) -> Result<Option<u32>, usize> {
     if !first.is_good() {
-        *place = 1;
-        return 5;
+        return Err(1);
     }
     if !second.is_good() {
-        *place = 2;
-        return 5;
+        return Err(2);
     }
-    if let Some(lowest) = lowest(first, second) {
-        (*found, *byte) = (1, lowest as u32);
-    }
-    0
+    Ok(lowest(first, second).map(|byte| byte as u32))
 }
 
 /// Steps through the elements of both ranges in the order of their starts.
@@ -160,10 +118,40 @@ macro_rules! as_exported {
         ) -> u32 {
             let first = Range { base, stride, count, size };
             let second = Range { base: other_base, stride: other_stride, count: other_count, size: other_size };
-            answer(first, second, $lowest, (found, byte, place))
+            let answer = answer(first, second, $lowest);
+            *found = matches!(answer, Ok(Some(_))) as u32;
+            *byte = answer.unwrap_or(None).unwrap_or(0);
+            *place = answer.err().unwrap_or(0);
+            if answer.is_ok() { 0 } else { 5 }
         }
     };
 }
 
 as_exported!(shared_by_elements, by_elements);
 as_exported!(shared_by_euclid, by_euclid);
+
+/// Asks one of the three: the byte or none, or the place of refusal 5.
+#[inline(always)]
+pub fn ask(shared_byte: SharedByte, first: &Range, second: &Range) -> Result<Option<u32>, usize> {
+    let (mut found, mut byte, mut place) = (0, 0, 0);
+    // Any numbers may be passed, so the proved function is safe to call; so are those of Rust.
+    let refusal = unsafe {
+        shared_byte(
+            first.base,
+            first.stride,
+            first.count,
+            first.size,
+            second.base,
+            second.stride,
+            second.count,
+            second.size,
+            &mut found,
+            &mut byte,
+            &mut place,
+        )
+    };
+    match refusal {
+        0 => Ok((found != 0).then_some(byte)),
+        _ => Err(place),
+    }
+}
