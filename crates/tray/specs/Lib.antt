@@ -1,0 +1,2 @@
+-- The word of a build, and the text of the program judge_build.
+pub mod Words

@@ -1,0 +1,2 @@
+// The word of a build, from the judgements of its bundles, and the lines that the program judge_build prints.
+pub mod word;
