@@ -1,2 +1,4 @@
 -- Laws over the definitions.
 pub mod WordLaws
+pub mod Sizes
+pub mod Adding
