@@ -2,3 +2,5 @@
 pub mod WordLaws
 pub mod Sizes
 pub mod Adding
+pub mod TellLaws
+pub mod BuildWords

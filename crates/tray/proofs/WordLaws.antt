@@ -22,14 +22,14 @@ any-snoc p [] o = go (p o)
 any-snoc p (x ∷ os) o = ap (λ (b : Bool). p x || b) (any-snoc p os o) ∙ sym (or-assoc (p x) (any p os) (p o))
 
 -- the word by its three tests
-abbrev byTests : Bool → Bool → Bool → Word
+abbrev pub byTests : Bool → Bool → Bool → Word
 byTests race refused none = cond race Wor.Race (cond refused Wor.Refused (cond none Wor.Missing Wor.RaceFree))
 
-abbrev empty : List Outcome → Bool
+abbrev pub empty : List Outcome → Bool
 empty [] = true
 empty (o ∷ os) = false
 
-tests : (os : List Outcome) → wordOf os ≡ byTests (any isRace os) (any isRefused os) (empty os)
+pub tests : (os : List Outcome) → wordOf os ≡ byTests (any isRace os) (any isRefused os) (empty os)
 unfolding wordOf
 tests [] = refl
 tests (o ∷ os) = refl
