@@ -2,6 +2,7 @@
 use mathlib.Core.Path.{_≡_, refl, sym, ap, subst, _∙_}
 use mathlib.Core.List.{List, [], _∷_, _++_, append-assoc, append-nil}
 use Prim.Native.Nat.{ℕ, _+_, _-_, _≤_, _<_}
+use native.Mathlib.Decide.{decLe}
 use native.Mathlib.Omega.{arith}
 use lib.ListN.{length, take, drop, set, length-set, length-append, length-take}
 use lib.Seq.{take-set-lt, take-at, set-at, length-take-le}
@@ -17,7 +18,7 @@ use Rattle.text.specs.Lines.{lineEnd, countsLine, raceLine, pairsLine, printedA
 use Rattle.text.specs.Inner.{Extended}
 use Rattle.text.proofs.LineEnds.{IsLine, line-some, counts-ends, race-ends, pairs-ends}
 use Rattle.text.proofs.Making.{extended-then, extended-as, word-written}
-use Rattle.text.proofs.Printing.{print-written}
+use Rattle.text.proofs.Printing.{print-written, print-no-room}
 use Rattle.tray.specs.Texts.{spaced, verdictLine}
 use Rattle.tray.specs.Inner.{nextOf}
 
@@ -105,3 +106,16 @@ module _ {s t : List ℕ} {n : ℕ} (j : Judgement) (v : Verdict) (made : Extend
 -- a line put, said otherwise
 pub printed-as : {a b : List ℕ} (s : List ℕ) (at : ℕ) {x : Lent ℕ} → a ≡ b → printedAt b s at ≡ x → printedAt a s at ≡ x
 printed-as s at e p = ap (λ (l : List ℕ). printedAt l s at) e ∙ p
+
+-- what was put from position 0 on lies in the buffer
+pub put-within : (line s : List ℕ) {t : List ℕ} (p : Putting) → printedAt line s 0 ≡ record { answer = puttingOf p; buffer = t } → nextOf (puttingOf p) ≤ length t
+put-within line s {t} p e = go (decLe (length line) (length s - 0))
+  where
+    is : {a : Answer ℕ} {b : List ℕ} → printedAt line s 0 ≡ record { answer = a; buffer = b } → (nextOf a ≡ nextOf (puttingOf p)) × (b ≡ t)
+    is q = let both = sym q ∙ e in (ap (λ (l : Lent ℕ). nextOf (l .answer)) both, ap (λ (l : Lent ℕ). l .buffer) both)
+
+    go : Dec (length line ≤ length s - 0) → nextOf (puttingOf p) ≤ length t
+    go (yes h) =
+        let q = is (print-written line s (written s 0 line) 0 h refl) in
+        omega (arith, h, q .0, ap length (q .1), word-written s line 0 (omega (arith, h)) refl .kept)
+    go (no h) = let q = is (print-no-room line s 0 (omega (arith, h))) in omega (arith, q .0)
