@@ -1,12 +1,12 @@
 -- Lines put behind each other in an array, with a space for each line end but the last. Assumes nothing.
 use mathlib.Core.Path.{_≡_, refl, sym, ap, subst, _∙_}
-use mathlib.Core.List.{List, [], _∷_, _++_, append-assoc, append-nil}
-use Prim.Native.Nat.{ℕ, _+_, _-_, _≤_, _<_}
+use mathlib.Core.List.{List, [], _++_, append-assoc}
+use Prim.Native.Nat.{ℕ, _+_, _-_, _≤_}
 use native.Mathlib.Decide.{decLe}
 use native.Mathlib.Omega.{arith}
-use lib.ListN.{length, take, drop, set, length-set, length-append, length-take}
-use lib.Seq.{take-set-lt, take-at, set-at, length-take-le}
-use Rattle.bundle.specs.Answer.{Answer, gives, refuses}
+use lib.ListN.{length, take, set, length-set, length-append}
+use lib.Seq.{take-set-lt, set-at, length-take-le}
+use Rattle.bundle.specs.Answer.{Answer, gives}
 use Rattle.bundle.specs.Commands.{Lent, written, puttingOf}
 use Rattle.bundle.specs.declared.command.Putting.{Putting}
 use Rattle.verdict.specs.declared.race.Race.{Race}
@@ -16,11 +16,12 @@ use Rattle.verdict.specs.declared.race.Judgement.{Judgement}
 use Rattle.text.specs.Digits.{ascii}
 use Rattle.text.specs.Lines.{lineEnd, countsLine, raceLine, pairsLine, printedAt}
 use Rattle.text.specs.Inner.{Extended}
-use Rattle.text.proofs.LineEnds.{IsLine, line-some, counts-ends, race-ends, pairs-ends}
+use Rattle.text.proofs.LineEnds.{IsLine, line-some, counts-ends, race-ends}
 use Rattle.text.proofs.Making.{extended-then, extended-as, word-written}
 use Rattle.text.proofs.Printing.{print-written, print-no-room}
 use Rattle.tray.specs.Texts.{spaced, verdictLine}
 use Rattle.tray.specs.Inner.{nextOf}
+use Rattle.tray.proofs.LineLaws.{line-body, verdict-ends}
 
 -- a line put at a position where there is room
 pub put-extended : (line s : List ℕ) {t : List ℕ} (at most n : ℕ) (r : Putting) → printedAt line s at ≡ record { answer = puttingOf r; buffer = t } → n ≡ nextOf (puttingOf r)
@@ -51,16 +52,13 @@ module _ {s t : List ℕ} {at n most : ℕ} {line : List ℕ} (made : Extended s
       let body = ends .body in
       let size : length line ≡ length body + 1 = ap length (ends .ended) ∙ length-append body lineEnd in
       let place : length (take at s ++ body) ≡ n - 1 = omega (arith, length-append (take at s) body, length-take-le at s (omega arith), whole, size) in
-      let rest : take (length line - 1) line ≡ body =
-      ap (take (length line - 1)) (ends .ended) ∙ take-at body lineEnd (length line - 1) (omega (arith, size))
-      in
       record {
         text =
             take-set-lt n t (n - 1) 0x20 (omega (arith, end-some))
             ∙ ap (λ (l : List ℕ). set l (n - 1) 0x20) (made .text ∙ ap (λ (l : List ℕ). take at s ++ l) (ends .ended) ∙ sym (append-assoc (take at s) body lineEnd))
             ∙ set-at (take at s ++ body) 0x0a [] 0x20 (n - 1) place
             ∙ append-assoc (take at s) body (ascii " ")
-            ∙ ap (λ (l : List ℕ). take at s ++ (l ++ ascii " ")) (sym rest);
+            ∙ ap (λ (l : List ℕ). take at s ++ (l ++ ascii " ")) (sym (line-body ends));
         long = made .long;
         kept = length-set t (n - 1) 0x20 ∙ made .kept;
       }
@@ -90,15 +88,8 @@ module _ {s t : List ℕ} {n : ℕ} (j : Judgement) (v : Verdict) (made : Extend
   pub judged-size : length s ≡ 256 → n ≡ length (take n t)
   judged-size e = sym (length-take-le n t (omega (arith, made .long, made .kept)))
 
-  line-not-empty : (x : Verdict) → 1 ≤ length (verdictLine j x)
-  unfolding verdictLine
-  line-not-empty Ver.RaceFree = omega (arith, length-append (ascii "race-free ") (countsLine (j .chunks) (j .segments) (j .accesses)))
-  line-not-empty (Ver.Least r) =
-      let c = countsLine (j .chunks) (j .segments) (j .accesses) in
-      omega (arith, length-append (ascii "race " ++ spaced c ++ spaced (raceLine r)) (pairsLine (j .races)), line-some (pairs-ends (j .races)))
-
   pub judged-some : 1 ≤ length (take n t)
-  judged-some = rw (made .text) (line-not-empty v)
+  judged-some = rw (made .text) (line-some (verdict-ends j v))
 
   pub judged-printed : (u : List ℕ) (at : ℕ) {x : Lent ℕ} → printedAt (take n t) u at ≡ x → printedAt (verdictLine j v) u at ≡ x
   judged-printed u at e = ap (λ (l : List ℕ). printedAt l u at) (sym (made .text)) ∙ e

@@ -22,7 +22,7 @@ use Rattle.tray.specs.declared.word.Outcome.the-variants as Out
 use Rattle.tray.specs.declared.word.Word.{Word}
 use Rattle.tray.specs.declared.word.Word.the-variants as Wor
 use Rattle.tray.specs.Words.{verdictOutcome, isRace, isRefused, File, fileOutcome, buildWord}
-use Rattle.tray.specs.Demand.{Clean, Racing, TurnedAway, Some, Released, EveryBuild}
+use Rattle.tray.specs.Demand.{Clean, Racing, TurnedAway, Some, EveryBuild}
 use Rattle.tray.proofs.WordLaws.{byTests, empty, tests}
 
 -- the outcome of a bundle that is accepted, by its races

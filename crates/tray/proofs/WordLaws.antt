@@ -1,13 +1,13 @@
 -- The word of a build, bundle by bundle. Assumes nothing.
 use mathlib.Core.Path.{_≡_, refl, sym, ap, _∙_}
 use mathlib.Core.Bool.{Bool, true, false, cond, _||_}
-use mathlib.Core.List.{List, [], _∷_, _++_}
+use mathlib.Core.List.{List, [], _∷_, _++_, append-assoc, append-nil}
 use Rattle.bundle.specs.Lists.{any}
 use Rattle.tray.specs.declared.word.Outcome.{Outcome}
 use Rattle.tray.specs.declared.word.Outcome.the-variants as Out
 use Rattle.tray.specs.declared.word.Word.{Word}
 use Rattle.tray.specs.declared.word.Word.the-variants as Wor
-use Rattle.tray.specs.Words.{isRace, isRefused, wordOf, afterOutcome, Onward}
+use Rattle.tray.specs.Words.{isRace, isRefused, wordOf, afterOutcome, afterAll, Onward}
 
 or-assoc : (a b c : Bool) → (a || b || c) ≡ (a || (b || c))
 or-assoc true b c = refl
@@ -64,6 +64,17 @@ word-after os o =
     ∙ rw (any-snoc isRace os o, any-snoc isRefused os o, empty-snoc os o)
     (step (any isRace os) (any isRefused os) (empty os) o)
     ∙ ap (λ (w : Word). afterOutcome w o) (sym (tests os))
+
+-- all bundles, one after another
+word-more : (before os : List Outcome) → afterAll (wordOf before) os ≡ wordOf (before ++ os)
+word-more before [] = ap wordOf (sym (append-nil before))
+word-more before (o ∷ os) =
+    ap (λ (w : Word). afterAll w os) (sym (word-after before o))
+    ∙ word-more (before ++ (o ∷ [])) os
+    ∙ ap wordOf (append-assoc before (o ∷ []) os)
+
+pub word-all : (os : List Outcome) → afterAll Wor.Missing os ≡ wordOf os
+word-all os = ap (λ (w : Word). afterAll w os) (sym word-none) ∙ word-more [] os
 
 -- the same at the answers of the code, where the outcome is known
 pub settled : {word r : Word} {outcome o : Outcome} → outcome ≡ o → r ≡ afterOutcome word o → (r ≡ afterOutcome word outcome) × Onward word outcome r

@@ -60,6 +60,11 @@ afterOutcome word Out.Race = Wor.Race
 afterOutcome word Out.RaceFree = afterRaceFree word
 afterOutcome word Out.Refused = afterRefused word
 
+-- the word after more bundles, one after another: by `word-all` from `Missing` on that of all of them
+abbrev pub afterAll : Word → List Outcome → Word
+afterAll word [] = word
+afterAll word (o ∷ os) = afterAll (afterOutcome word o) os
+
 -- what the word after one bundle more has to be: whatever the bundles before, that of all of them
 abbrev pub Onward : Word → Outcome → Word → Type 0
 Onward word outcome next = (os : List Outcome) → word ≡ wordOf os → next ≡ wordOf (os ++ (outcome ∷ []))

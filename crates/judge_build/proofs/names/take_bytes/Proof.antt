@@ -1,12 +1,10 @@
+-- `judge_build::names::take_bytes` meets its contract. The measure: the bytes left. Assumes nothing.
 use borrow.Author.Needs.{needs}
 use mathlib.Core.Path.{_≡_}
 use Prim.Native.Nat.{_-_, _≤_}
 use lib.ListN.{length}
 use Rattle.judge_build.proofs.names.take_bytes.Statement.{statement}
 use Rattle.judge_build.proofs.names.take_bytes.Tie as tie
-use Rattle.judge_build.proofs.names.take_bytes.Reads as reads
-use Rattle.judge_build.proofs.names.take_bytes.Lts as lts
-use Rattle.judge_build.proofs.names.take_byte.Reads as take-byte-reads
 
 abbrev Inv-loop : tie.InvT-loop
 Inv-loop bytes name₀ naming₀ i₀ name naming i = (i ≤ length bytes) × (length name ≡ length name₀)
@@ -14,59 +12,19 @@ Inv-loop bytes name₀ naming₀ i₀ name naming i = (i ≤ length bytes) × (l
 abbrev μ-loop : tie.MeasureT-loop
 μ-loop bytes name₀ naming₀ i₀ name naming i = length bytes - i
 
--- src/names.rt:73:5
-loop-holds : tie.Need-loop-holds Inv-loop μ-loop
-loop-holds c = search needs
-
--- src/names.rt:74:28
-shared-slice-read-take-byte : tie.Need-shared-slice-read-take-byte Inv-loop μ-loop
-shared-slice-read-take-byte c = search needs
-
--- src/names.rt:74:9
-take-byte-requires : tie.Need-take-byte-requires Inv-loop μ-loop
-take-byte-requires c κs = search needs
-
--- src/names.rt:75:9
-add-i : tie.Need-add-i Inv-loop μ-loop
-add-i c = search needs
-
--- src/names.rt:73:5
-loop-less : tie.Need-loop-less Inv-loop μ-loop
-loop-less c = search needs
-
--- src/names.rt:73:5
-loop-again : tie.Need-loop-again Inv-loop μ-loop
-loop-again c = search needs
-
--- src/names.rt:70:1
-same-length : tie.Need-same-length Inv-loop μ-loop
-same-length c = search needs
-
--- src/names.rt:70:1
-returns : tie.Need-returns Inv-loop μ-loop
-returns c = search needs
-
--- src/names.rt:70:1
-same-length-2 : tie.Need-same-length-2 Inv-loop μ-loop
-same-length-2 c = search needs
-
--- src/names.rt:70:1
-returns-2 : tie.Need-returns-2 Inv-loop μ-loop
-returns-2 c = search needs
-
 pub take-bytes-spec : {M : Type 1} → statement M
 take-bytes-spec =
     tie.close
     (tie.spec
     Inv-loop
     μ-loop
-    loop-holds
-    shared-slice-read-take-byte
-    take-byte-requires
-    add-i
-    loop-less
-    loop-again
-    same-length
-    returns
-    same-length-2
-    returns-2)
+    (λ c. search needs)
+    (λ c. search needs)
+    (λ c κs. search needs)
+    (λ c. search needs)
+    (λ c. search needs)
+    (λ c. search needs)
+    (λ c. search needs)
+    (λ c. search needs)
+    (λ c. search needs)
+    (λ c. search needs))

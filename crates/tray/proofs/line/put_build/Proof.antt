@@ -1,5 +1,5 @@
 -- `tray::line::put_build` meets its contract. Assumes nothing.
-use mathlib.Core.Path.{sym, ap}
+use mathlib.Core.Path.{ap}
 use Rattle.tray.specs.Texts.{buildLine}
 use Rattle.tray.proofs.Adding.{printed-as}
 use borrow.Author.Needs.{needs}
