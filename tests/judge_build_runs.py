@@ -4,6 +4,7 @@ input; all of the output is compared."""
 import os
 import random
 import shutil
+import socket
 import subprocess
 import tempfile
 import time
@@ -228,9 +229,13 @@ def compare_many(program, tally):
 
 def compare_special(program, tally):
     """Files that are not regular, files that may not be read, a standard input that cannot be read."""
+    names = [b"free.bundle", b"pipe", b"socket", b"/", b"e.bundle"]
     os.mkfifo("pipe")
-    names = [b"free.bundle", *SPECIAL, b"e.bundle"]
-    tally.add(held("files that are not regular", names, by_arguments(program, names)))
+    pipe = os.open("pipe", os.O_RDWR)  # the open of a named pipe waits for its other end
+    with socket.socket(socket.AF_UNIX) as other:
+        other.bind("socket")
+        tally.add(held("files that are not regular", names, by_arguments(program, names)))
+    os.close(pipe)
     if os.geteuid() == 0:
         compare_forbidden(program, tally)
     for title, command in (("closed", 'exec "$0" <&-'), ("a directory", 'exec "$0" < /')):
@@ -238,9 +243,6 @@ def compare_special(program, tally):
         hold_end(f"standard input {title}", status, given, said)
         if given:
             raise Different(f"standard input {title}: {given[:200]!r}")
-
-
-SPECIAL = ()
 
 
 def compare_forbidden(program, tally):
