@@ -153,12 +153,12 @@ class Log:
             raise NotAsExpected("no such access")
         return member.accesses[name[2]]
 
-    def above(self, team, member):
-        """The member and those that it descends from, as (team, member)."""
-        found = [(team, member)]
+    def above(self, team, member, segment):
+        """The segment and those that it descends from by forks: their number for each (team, member)."""
+        found = {(team, member): segment}
         while team:
-            team, member, _ = self.forked_by[team]
-            found.append((team, member))
+            team, member, segment = self.forked_by[team]
+            found[team, member] = segment
         return found
 
     def edges(self):

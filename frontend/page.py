@@ -194,15 +194,16 @@ class Drawing:
         self.page, self.log = page, log
         self.whole = Graph(log)
         self.large = self.whole.is_large()
-        self.graphs = {}  # the members kept: (name, graph)
+        self.graphs = {}  # what is kept: (name, graph)
 
     def graph_for(self, first, second):
         """The graph that shows both segments: the whole one, or what leads to the two."""
-        keep = frozenset(self.log.above(*first[:2]) + self.log.above(*second[:2])) if self.large else None
-        if keep not in self.graphs:
+        keep = self.log.above(*first) | self.log.above(*second) if self.large else None
+        key = frozenset(keep.items()) if keep else None
+        if key not in self.graphs:
             self.page.drawn += 1
-            self.graphs[keep] = (f"g{self.page.drawn}", Graph(self.log, keep) if keep else self.whole)
-        return self.graphs[keep]
+            self.graphs[key] = (f"g{self.page.drawn}", Graph(self.log, keep) if keep else self.whole)
+        return self.graphs[key]
 
     def store(self):
         """The drawings under their names; it has to be asked for last."""
@@ -213,13 +214,12 @@ class Drawing:
         here, there = (*race.first[:2], first.segment), (*race.second[:2], second.segment)
         name, graph = self.graph_for(here, there)
         title = f"Graph of the run with segments {segment_text(here)} and {segment_text(there)} marked"
-        picture, cut = graph.marked(title, here, there, name)
-        notes = []
+        picture = graph.marked(title, here, there, name)
+        caption = "No path leads from one marked segment to the other."
         if graph.left_out:
-            notes.append(f"{counted(graph.left_out, 'other member')} left out")
-        if cut:
-            notes.append("cut at the sides")
-        caption = "No path leads from one marked segment to the other" + (f" ({', '.join(notes)})." if notes else ".")
+            caption += f" {counted(graph.left_out, 'other member')} left out."
+        if graph.is_cut:
+            caption += " Dotted: more segments or teams."
         return f'<figure><div class="box">{picture}</div><figcaption>{caption}</figcaption></figure>'
 
     def overview(self):

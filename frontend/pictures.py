@@ -6,7 +6,7 @@ The graph: a row for each member, time to the right, a team below the segment th
 from frontend.bundles import REGION
 
 BOX, TALL = 26, 16  # a segment
-ROW = 30  # from one row to the next
+ROW = 34  # from one row to the next
 GAP = 12  # between two segments of an interval
 BUS = 10  # from a segment to the line that leads to the members of a team, and from there to them
 BARRIER_GAP = 18
@@ -14,7 +14,7 @@ LETTER = 6.1  # width of a letter of a row's label
 MARGIN = 4
 
 MANY_ROWS, MANY_PIXELS = 12, 760  # a larger graph is cut down to what leads to the two accesses of a race
-WINDOW = 240  # pixels kept on both sides of the two segments where even that is too wide
+NEAR = 2  # segments that are kept there on both sides
 
 
 def number(x):
@@ -23,7 +23,7 @@ def number(x):
 
 
 class Graph:
-    """A drawing of a log, or of those of its members that are in keep, as (team, member)."""
+    """A drawing of a log, or of the members in keep, which gives for each (team, member) a segment to draw with those near it."""
 
     def __init__(self, log, keep=None):
         self.log = log
@@ -31,17 +31,29 @@ class Graph:
         self.places = {}  # (team, member, segment): (x, y) of the box
         self.rows = []  # (y, label)
         self.lines, self.waits, self.barriers, self.cuts = [], [], [], []  # parts of paths
-        self.sizes = {}
+        self.sizes, self.rows_of_team, self.ends = {}, {}, {}
         labels = [f"{t}.{m}" for t, m in log.members if self.kept(t, m)]
-        self.left = MARGIN + LETTER * max(map(len, labels)) + 8
+        self.left = MARGIN + LETTER * max(map(len, labels)) + 14
         self.measure(0)
         width, height = self.place(0, self.left, MARGIN + 6)
-        self.width = self.left + width + MARGIN
+        self.width = self.left + width + MARGIN + 8
         self.height = height + MARGIN + 4
         self.left_out = sum(not self.kept(t, m) for t, m in log.members)
+        self.is_cut = bool(self.cuts)
 
     def kept(self, team, member):
         return self.keep is None or (team, member) in self.keep
+
+    def shown(self, m, number):
+        """Whether a segment of a kept member is drawn."""
+        return self.keep is None or abs(number - self.keep[m.team, m.member]) <= NEAR
+
+    def intervals(self, m):
+        """The drawn segments between two barriers; an interval in which no kept member has any is left out."""
+        members = self.team(m.team)
+        all_of = [[[n for n in part if self.shown(x, n)] for part in x.intervals()] for x in members]
+        used = [k for k in range(len(all_of[0])) if any(parts[k] for parts in all_of)]
+        return [all_of[members.index(m)][k] for k in used]
 
     def team(self, team):
         return [m for m in self.log.teams[team] if self.kept(m.team, m.member)]
@@ -58,9 +70,9 @@ class Graph:
             for fork in m.forks.values():
                 if self.team(fork.team):
                     self.measure(fork.team)
-        widths = [0] * len(members[0].intervals())
+        widths = [0] * len(self.intervals(members[0]))
         for m in members:
-            for k, interval in enumerate(m.intervals()):
+            for k, interval in enumerate(self.intervals(m)):
                 widths[k] = max(widths[k], sum(BOX + self.room_behind(m, s) for s in interval[:-1]) + BOX)
         total = sum(widths) + BARRIER_GAP * (len(widths) - 1)
         height = sum(ROW + self.room_below(m) for m in members)
@@ -87,25 +99,31 @@ class Graph:
         for m in self.team(team):
             self.place_member(m, starts, y)
             y += ROW + self.room_below(m)
-        bottom = self.places[m.team, m.member, 0][1] + TALL
+        bottom = self.rows_of_team[team] + TALL
         for start in starts[1:]:
             self.barriers.append(f"M{number(start - BARRIER_GAP / 2)} {top}V{bottom + 4}")
         return total, height
 
     def place_member(self, m, starts, y):
         self.rows.append((y + 4, f"{m.team}.{m.member}"))
+        self.rows_of_team[m.team] = y + 4
         middle = y + 4 + TALL / 2
         behind = None  # the right end of the segment before
-        for start, interval in zip(starts, m.intervals()):
+        for start, interval in zip(starts, self.intervals(m)):
             x = start
             for s in interval:
                 self.places[m.team, m.member, s] = (x, y + 4)
                 if behind is not None:
                     waits = m.segments[s] == REGION
                     (self.waits if waits else self.lines).append(f"M{number(behind)} {number(middle)}H{number(x)}")
+                elif s:
+                    self.cuts.append(f"M{number(x)} {number(middle)}h-10")
                 behind = x + BOX
-                if s in m.forks:
+                if s in m.forks and self.shown(m, s + 1):
                     x = self.place_fork(m, s, behind, y, middle)
+                elif s + 1 < len(m.segments) and not self.shown(m, s + 1):
+                    self.cuts.append(f"M{number(behind)} {number(middle)}h10")
+        self.ends[m.team, m.member] = behind
 
     def place_fork(self, m, segment, x, y, middle):
         """The team that this segment forks; answers where the next segment of the member starts."""
@@ -117,10 +135,13 @@ class Graph:
         self.place(team, x + 2 * BUS, y + ROW)
         fork, join = x + BUS, x + room - BUS
         for inner in self.team(team):
-            left, row = self.places[inner.team, inner.member, 0]
-            right = self.places[inner.team, inner.member, len(inner.segments) - 1][0] + BOX
+            first = min(n for n in range(len(inner.segments)) if self.shown(inner, n))
+            left, row = self.places[inner.team, inner.member, first]
             row += TALL / 2
-            self.lines.append(f"M{number(fork)} {number(row)}H{number(left)}M{number(right)} {number(row)}H{number(join)}")
+            if first == 0:
+                self.lines.append(f"M{number(fork)} {number(row)}H{number(left)}")
+            if self.shown(inner, len(inner.segments) - 1):
+                self.lines.append(f"M{number(self.ends[inner.team, inner.member])} {number(row)}H{number(join)}")
         self.lines.append(f"M{number(x)} {number(middle)}H{number(fork)}V{number(row)}")
         self.lines.append(f"M{number(join)} {number(row)}V{number(middle)}H{number(x + room)}")
         return x + room
@@ -138,8 +159,8 @@ class Graph:
         paths = "".join(f'<path class="{name}" d="{"".join(drawn)}"/>' for name, drawn in parts if drawn)
         return f'{paths}<g class="n">{"".join(texts)}</g>'
 
-    def labels(self, x=MARGIN):
-        return '<g class="r">' + "".join(f'<text x="{number(x)}" y="{y + 12}">{label}</text>' for y, label in self.rows) + "</g>"
+    def labels(self):
+        return '<g class="r">' + "".join(f'<text x="{MARGIN}" y="{y + 12}">{label}</text>' for y, label in self.rows) + "</g>"
 
     def mark(self, key, which, text):
         x, y = self.places[key]
@@ -155,22 +176,10 @@ class Graph:
     def marked(self, title, first, second, reference):
         """The drawing that stands under the reference, with two segments marked."""
         marks = self.mark(first, 1, "1st") + self.mark(second, 2, "2nd")
-        if self.width <= MANY_PIXELS:
-            return self.svg(title, f'{self.labels()}<use href="#{reference}"/>{marks}'), False
-        ends = [self.places[first][0], self.places[second][0]]
-        start = max(self.left - 4, min(ends) - WINDOW)
-        stop = min(self.width, max(ends) + BOX + WINDOW)
-        if stop - start > 3 * WINDOW:  # far apart: all of it, in a box that scrolls
-            return self.svg(title, f'{self.labels()}<use href="#{reference}"/>{marks}'), False
-        width = stop - start
-        inner = (
-            f'<svg x="{number(self.left)}" width="{number(width)}" height="{self.height}"'
-            f' viewBox="{number(start)} 0 {number(width)} {self.height}"><use href="#{reference}"/>{marks}</svg>'
-        )
-        return self.svg(title, self.labels() + inner, self.left + width), True
+        return self.svg(title, f'{self.labels()}<use href="#{reference}"/>{marks}')
 
-    def svg(self, title, inner, width=None):
-        width = number(round(width or self.width, 1))
+    def svg(self, title, inner):
+        width = number(round(self.width, 1))
         return (
             f'<svg xmlns="http://www.w3.org/2000/svg" class="graph" role="img" width="{width}" height="{self.height}"'
             f' viewBox="0 0 {width} {self.height}"><title>{title}</title>{inner}</svg>'
