@@ -7,7 +7,7 @@ import os
 import re
 import select
 import subprocess
-import tempfile
+import threading
 import time
 from collections import namedtuple
 
@@ -88,13 +88,18 @@ class Programs:
                 f"no program {' and no '.join(self.path(n) for n in lacking)}; build with: rt check judge_build racelist"
             )
 
-    def start(self, name, stdin, folder=None):
+    def start(self, name, given, folder=None):
+        """Starts a program; given is what it reads: bytes, or an open file."""
+        stdin = subprocess.PIPE if isinstance(given, bytes) else given
         try:
-            return subprocess.Popen(
+            process = subprocess.Popen(
                 [self.path(name)], stdin=stdin, stdout=subprocess.PIPE, stderr=subprocess.DEVNULL, cwd=folder, bufsize=0
             )
         except OSError as error:
             raise CannotDo(f"{self.path(name)} does not start: {reason_of(error)}") from error
+        if stdin is not given:
+            feed(process, given)
+        return process
 
     def lines(self, process):
         """The lines of a process as they come, without their ends. Ends by raising Failed if it hangs, prints no text of ours
@@ -142,8 +147,7 @@ class Programs:
     def judge_build(self, names, folder):
         """One run over the bundles of a build. Names are bytes, read in the folder; an empty one cannot be read."""
         lines, word = [], None
-        with given(b"".join(n + b"\0" for n in names)) as stdin:
-            process = self.start("judge_build", stdin, folder)
+        process = self.start("judge_build", b"".join(n + b"\0" for n in names), folder)
         try:
             for text in self.lines(process):
                 if len(lines) < len(names):
@@ -194,15 +198,22 @@ class Failed(Exception):
     """A run of a program that is not whole, and why."""
 
 
-def given(data):
-    """Standard input that holds these bytes: a file in memory, so that neither side waits for the other."""
-    if hasattr(os, "memfd_create"):
-        file = os.fdopen(os.memfd_create("names"), "w+b")
+def feed(process, data):
+    """Gives a process what it reads. What may not fit into the pipe is written by a thread, so that neither side waits for the other."""
+
+    def write():
+        try:
+            with process.stdin as pipe:
+                rest = memoryview(data)
+                while rest:
+                    rest = rest[pipe.write(rest) :]
+        except OSError:
+            pass  # it ended before it had read everything, which its output tells
+
+    if len(data) <= select.PIPE_BUF:
+        write()
     else:
-        file = tempfile.TemporaryFile()
-    file.write(data)
-    file.seek(0)
-    return file
+        threading.Thread(target=write, daemon=True).start()
 
 
 def end(process):

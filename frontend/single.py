@@ -7,7 +7,7 @@ import sys
 from frontend import bundles
 from frontend.failures import CannotDo, reason_of
 from frontend.names import counted, readable
-from frontend.programs import COUNTS_LINE, REFUSED_LINE, Failed, Programs, end, given
+from frontend.programs import COUNTS_LINE, REFUSED_LINE, Failed, Programs, end
 from frontend.refusals import in_words
 
 
@@ -33,8 +33,7 @@ def list_file(options):
     programs = programs_of(options)
     data = read_input(options.file)
     last = None
-    with given(data) as stdin:
-        process = programs.start("racelist", stdin)
+    process = programs.start("racelist", data)
     try:
         for last in programs.lines(process):
             sys.stdout.buffer.write(last + b"\n")
@@ -55,8 +54,7 @@ def verdict_of(options, data):
     """(counts, None) of an accepted bundle, (None, (number, place)) of a refused one."""
     programs = programs_of(options)
     lines = []
-    with given(data) as stdin:
-        process = programs.start("racelist", stdin)
+    process = programs.start("racelist", data)
     try:
         for line in programs.lines(process):
             lines.append(line)
