@@ -12,6 +12,9 @@ from frontend.sheet import read_sheet
 from frontend.tray import Build, read_tray
 
 
+MOST_TOLD = 20  # bundles of a build on the terminal; the page has all
+
+
 def judge_tray(options):
     """Answers the exit status."""
     programs = Programs(options.programs, options.timeout, options.stop)
@@ -79,7 +82,7 @@ def folder_name(cell, tray):
 
 
 def tell_missing(name, build, notes):
-    if build.path is None and (name in (".", "..") or "/" in name or name.startswith(".")):
+    if build.path is None and (name.startswith(".") or "/" in name or "\0" in name):
         notes.append(f"build {readable(name)} in the sheet is not the name of a folder in the tray")
     elif build.path is None:
         notes.append(f"build {readable(name)} has no folder in the tray")
@@ -140,8 +143,11 @@ def tell_words(builds, notes, quiet):
             if quiet and build.word == "race-free":
                 continue
             print(f"{readable(build.name):{width}}  {build.word:9}  {counted(len(build.bundles), 'bundle')}")
-            for bundle in build.not_free() if build.path else ():
+            others = build.not_free()
+            for bundle in others[:MOST_TOLD]:
                 print(f"    {readable(bundle.name) or '(the folder)'}: {why(bundle)}")
+            if others[MOST_TOLD:]:
+                print(f"    and {counted(len(others) - MOST_TOLD, 'bundle')} more that are not race-free")
             if build.reason:
                 print(f"    {build.reason}")
         for note in notes:

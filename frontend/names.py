@@ -1,4 +1,4 @@
-"""Names of files and builds as readable text."""
+"""Names of files and builds: as bytes, as text that stands for any bytes, and as readable text."""
 
 import unicodedata
 
@@ -6,6 +6,15 @@ SHORT = {"\n": "\\n", "\r": "\\r", "\t": "\\t"}
 
 # Controls, format characters (they can turn the direction of writing), surrogates, unassigned ones, line separators.
 HIDDEN = ("Cc", "Cf", "Cs", "Co", "Cn", "Zl", "Zp")
+
+
+def to_text(name):
+    """The text of a file's name, whatever the locale: UTF-8, other bytes as surrogates, as in the sheet."""
+    return name.decode("utf-8", "surrogateescape")
+
+
+def to_bytes(text):
+    return text.encode("utf-8", "surrogateescape")
 
 
 def readable(name):

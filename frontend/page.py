@@ -7,7 +7,7 @@ import os
 import time
 
 from frontend import bundles
-from frontend.names import counted, readable
+from frontend.names import counted, readable, to_text
 from frontend.pictures import Graph, bytes_picture
 from frontend.refusals import in_words
 from frontend.tray import open_file
@@ -18,6 +18,7 @@ SIGNS = {"race": "✗", "refused": "⚠", "missing": "–", "race-free": "✓"} 
 
 MOST_RACES = 200  # of a bundle
 ALL_RACES = 1200  # of the page, if there are many bundles with races
+MANY_NOTES = 20  # more are folded
 MOST_PAGE = 5_000_000  # bytes; past them a bundle gets one line
 
 
@@ -46,7 +47,7 @@ class Page:
     def html(self):
         parts = [self.head(), self.table(), self.told()]
         for number, build in enumerate(self.builds):
-            if build.word != "race-free":
+            if has_section(build):
                 parts.append(self.section(number, build))
         parts.append(self.foot())
         return "".join(parts).encode("utf-8", "backslashreplace")
@@ -82,16 +83,19 @@ class Page:
         rows = []
         for number, build in enumerate(self.builds):
             name = f'<span class="name">{text(build.name)}</span>'
-            if build.word != "race-free":
+            if has_section(build):
                 name = f'<a href="#build{number}">{name}</a>'
             rows.append(f"<tr><td>{name}</td><td>{word_html(build.word)}</td><td>{in_short(build)}</td></tr>")
         head = "<tr><th>Build</th><th>Word</th><th>Bundles</th></tr>"
-        return f"<table><thead>{head}</thead><tbody>\n" + "\n".join(rows) + "\n</tbody></table>\n"
+        return f"<table class=\"builds\"><thead>{head}</thead><tbody>\n" + "\n".join(rows) + "\n</tbody></table>\n"
 
     def told(self):
         if not self.notes:
             return ""
-        return "<h2>Notes</h2><ul class=\"notes\">" + "".join(f"<li>{text(n)}</li>" for n in self.notes) + "</ul>\n"
+        notes = '<ul class="notes">' + "".join(f"<li>{text(n)}</li>" for n in self.notes) + "</ul>"
+        if len(self.notes) > MANY_NOTES:
+            notes = f"<details><summary>{counted(len(self.notes), 'note')}</summary>{notes}</details>"
+        return f"<h2>Notes</h2>{notes}\n"
 
     def foot(self):
         short = ""
@@ -114,8 +118,6 @@ segments, filled if they have accesses; a team stands below the segment that for
 
     def section(self, number, build):
         parts = [f'<section>\n<h2 id="build{number}"><span class="name">{text(build.name)}</span> {word_html(build.word)}</h2>\n']
-        if build.word == "missing":
-            parts.append("<p>The sheet has this build, and the tray has no bundle of it.</p>\n")
         if build.reason:
             parts.append(f"<p>{text(build.reason)}</p>\n")
         short = []
@@ -267,8 +269,7 @@ def race_html(race, log, drawing):
         f'<table class="accesses">{head}{body}</table>',
     ]
     if accesses:
-        parts.append(bytes_html(race, *accesses))
-        parts.append(drawing.race(race, *accesses))
+        parts.append(f'<div class="pictures">{bytes_html(race, *accesses)}{drawing.race(race, *accesses)}</div>')
     return "\n".join(parts)
 
 
@@ -327,13 +328,17 @@ def read_bytes(path):
         return file.read(bundles.MOST_BYTES + 1)
 
 
+def has_section(build):
+    return bool(build.reason or build.not_free())
+
+
 def in_short(build):
     """The bundles of a build in few words."""
     if build.reason:
         return "not judged"
     others = build.not_free()
     if not build.bundles:
-        return "none"
+        return "empty folder" if build.path else "no folder"
     if not others:
         return counted(len(build.bundles), "bundle")
     words = [b.line.word for b in others if b.line]
@@ -352,7 +357,8 @@ def one_line(bundle):
 
 def shell_name(path):
     """A path as one word of a shell, if it is plain; else FILE."""
-    return path if all(c.isalnum() or c in "/._-+" for c in path) and path.isascii() else "FILE"
+    plain = to_text(path)
+    return plain if all(c.isalnum() or c in "/._-+" for c in plain) and plain.isascii() else "FILE"
 
 
 def made_at():

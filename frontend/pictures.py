@@ -209,7 +209,7 @@ def bytes_picture(title, first, second, witness):
             parts.append(f'<text class="a" x="{x}" y="10">{address:08x}</text><path class="t" d="M{x} 13v5"/>')
     for word, y, touched in (("1st", 22, first), ("2nd", 56, second)):
         parts.append(byte_row(touched, y, start, stop))
-        parts.append(f'<text class="o" x="1" y="{y + 28}">{word}</text>')
+        parts.append(f'<text class="o" x="{width - 3}" y="{y + 28}">{word}</text>')
     x = (witness - start) * CELL + 1
     parts.append(f'<rect class="x" x="{x - 1.5}" y="18" width="{CELL + 1}" height="68" rx="2"/>')
     anchor = min(max(x + CELL / 2, 52), width - 52)

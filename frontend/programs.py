@@ -3,6 +3,7 @@
 An output is taken only if it is whole and every line has one of the forms of docs/TRAY.md. All else is a worker that died.
 """
 
+import errno
 import os
 import re
 import select
@@ -26,6 +27,8 @@ BUNDLE_FREE = re.compile(rb"race-free " + COUNTS)
 BUILD_LINE = re.compile(rb"build (race|refused|missing|race-free)")
 
 MOST_LINE = 400  # bytes; the longest line of a whole output is shorter
+FOR_NOW = (errno.EAGAIN, errno.ENOMEM, errno.ETXTBSY)  # why a program may not start now, and start a moment later
+MOST_TRIES = 10
 TICK = 0.1  # seconds between two looks at whether the job was stopped
 
 Counts = namedtuple("Counts", "chunks segments accesses")
@@ -91,12 +94,18 @@ class Programs:
     def start(self, name, given, folder=None):
         """Starts a program; given is what it reads: bytes, or an open file."""
         stdin = subprocess.PIPE if isinstance(given, bytes) else given
-        try:
-            process = subprocess.Popen(
-                [self.path(name)], stdin=stdin, stdout=subprocess.PIPE, stderr=subprocess.DEVNULL, cwd=folder, bufsize=0
-            )
-        except OSError as error:
-            raise CannotDo(f"{self.path(name)} does not start: {reason_of(error)}") from error
+        for tries in range(MOST_TRIES):
+            try:
+                process = subprocess.Popen(
+                    [self.path(name)], stdin=stdin, stdout=subprocess.PIPE, stderr=subprocess.DEVNULL, cwd=folder, bufsize=0
+                )
+                break
+            except OSError as error:
+                if folder is not None and error.filename == folder:
+                    raise Failed(f"the folder cannot be entered: {reason_of(error)}") from error
+                if error.errno not in FOR_NOW or tries + 1 == MOST_TRIES:
+                    raise CannotDo(f"{self.path(name)} does not start: {reason_of(error)}") from error
+                self.stop.wait(0.3)
         if stdin is not given:
             feed(process, given)
         return process
@@ -147,7 +156,10 @@ class Programs:
     def judge_build(self, names, folder):
         """One run over the bundles of a build. Names are bytes, read in the folder; an empty one cannot be read."""
         lines, word = [], None
-        process = self.start("judge_build", b"".join(n + b"\0" for n in names), folder)
+        try:
+            process = self.start("judge_build", b"".join(n + b"\0" for n in names), folder)
+        except Failed as failure:
+            return Run(lines, None, str(failure))
         try:
             for text in self.lines(process):
                 if len(lines) < len(names):

@@ -79,7 +79,7 @@ def put(row, place, raw, insert=False):
 
 def read_sheet(data, column, verdict_column):
     """The sheet of a file's bytes."""
-    if data.startswith((b"\xff\xfe", b"\xfe\xff")) or b"\0" in data:
+    if data.startswith((b"\xff\xfe", b"\xfe\xff")) or 4 * data.count(b"\0") > len(data):
         raise CannotDo("the sheet is no CSV in UTF-8 (UTF-16, or no text): save it as CSV, UTF-8")
     mark = BYTE_ORDER_MARK if data.startswith(BYTE_ORDER_MARK) else b""
     text = data[len(mark) :].decode("utf-8", "surrogateescape")

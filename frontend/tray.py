@@ -5,7 +5,7 @@ import os
 import stat
 
 from frontend.failures import CannotDo, reason_of
-from frontend.names import readable
+from frontend.names import readable, to_bytes, to_text
 
 SPECIAL = {
     stat.S_IFDIR: "it is a folder; folders inside a build's folder are not searched",
@@ -17,7 +17,7 @@ SPECIAL = {
 
 
 class Bundle:
-    """An entry of a build's folder. The reason is why it cannot be read, or None; the line is what was found."""
+    """An entry of a build's folder; its path is bytes. The reason is why it cannot be read, or None; the line is what was found."""
 
     def __init__(self, name, path, reason):
         self.name = name
@@ -29,11 +29,11 @@ class Bundle:
 
     def given_name(self):
         """The name as judge_build gets it."""
-        return b"" if self.reason else os.fsencode(self.name)
+        return b"" if self.reason else to_bytes(self.name)
 
 
 class Build:
-    """A build: its folder, if there is one, and what was found. The word is the proved program's."""
+    """A build: its folder (bytes), if there is one, and what was found. The word is the proved program's."""
 
     def __init__(self, name, path=None):
         self.name = name
@@ -66,22 +66,22 @@ def why_unreadable(path):
 
 def shown_names(path):
     """The names in a folder that do not begin with a dot, in the order of their bytes."""
-    return sorted((n for n in os.listdir(path) if not n.startswith(".")), key=os.fsencode)
+    return sorted(n for n in os.listdir(path) if not n.startswith(b"."))
 
 
 def read_tray(path):
     """All builds of a tray with their bundles. Entries that are no folders are told of."""
     try:
-        names = shown_names(path)
+        names = shown_names(os.fsencode(path))
     except OSError as error:
         raise CannotDo(f"the tray {readable(path)} cannot be read: {reason_of(error)}") from error
     builds, notes = {}, []
     for name in names:
-        inner = os.path.join(path, name)
+        inner = os.path.join(os.fsencode(path), name)
         if os.path.isdir(inner):
-            builds[name] = read_build(name, inner)
+            builds[to_text(name)] = read_build(to_text(name), inner)
         else:
-            notes.append(f"{readable(name)} in the tray is not a folder and was not judged")
+            notes.append(f"{readable(to_text(name))} in the tray is not a folder and was not judged")
     return Tray(builds, notes)
 
 
@@ -95,7 +95,7 @@ def read_build(name, path):
         return build
     for entry in names:
         inner = os.path.join(path, entry)
-        build.bundles.append(Bundle(entry, inner, why_unreadable(inner)))
+        build.bundles.append(Bundle(to_text(entry), inner, why_unreadable(inner)))
     return build
 
 

@@ -6,8 +6,7 @@ import subprocess
 import sys
 import time
 
-import front_end_setting as setting
-from front_end_setting import BY_NAME, EXAMPLE, LATE, SCRIPT, TORN, Case
+from front_end_setting import BY_NAME, EXAMPLE, LATE, ROOT, SCRIPT, TORN, Case
 
 
 class Faults(Case):
@@ -86,6 +85,17 @@ class Faults(Case):
         self.assertEqual(process.returncode, 0)
         self.assertEqual(self.words(), {"b": "race-free"})
 
+    def test_a_folder_that_vanishes(self):
+        """One build's folder goes away while another build is judged."""
+        gone = self.put("z gone", a=LATE)
+        programs = self.faulty_programs(
+            f"import shutil\nif len(names) == 2: shutil.rmtree({str(gone)!r}, ignore_errors=True)\n[say(x) for x in real(names)]\n"
+        )
+        self.put("b", a=LATE, b=LATE)
+        ended = self.judge("--jobs", "1", sheet="build\nb\nz gone\n", status=1, programs_at=programs)
+        self.assertEqual(self.words(), {"b": "race-free", "z gone": "refused"})
+        self.assertIn("the folder cannot be entered", ended.out)
+
     def test_a_program_that_cannot_start(self):
         programs = self.faulty_programs("")
         (programs / "judge_build").write_text("#!/no/such/interpreter\n")
@@ -99,16 +109,7 @@ class Faults(Case):
         (programs / "racelist").unlink()
         (programs / "racelist").write_text("#!/bin/sh\nkill -9 $$\n")
         (programs / "racelist").chmod(0o755)
-        from generators import bundle_bytes, one_interval
-        import random
-
-        data = b""
-        rng = random.Random(1)
-        import second_reader as sr
-
-        while not (data and sr.judge(16384, data).races > 1):
-            data = bundle_bytes(one_interval(rng))
-        self.put("b", a=data)
+        self.put("b", a=(ROOT / "examples" / "tray" / "settle-4.2.1" / "dam.bundle").read_bytes())  # with 6 races
         self.judge(sheet="build\nb\n", status=1, programs_at=programs)
         self.assertEqual(self.words(), {"b": "race"})
         self.assertIn("The other races could not be listed", self.page_text())

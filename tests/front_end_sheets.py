@@ -53,6 +53,10 @@ class Sheets(Case):
     def test_not_utf8_survives(self):
         self.assert_sheet(b"build,x\nfree,\xe4\xff\nracy,\n", b"build,x,verdict\nfree,\xe4\xff,race-free\nracy,,race\n")
 
+    def test_names_with_nul(self):
+        ended = self.assert_sheet(b"build,x\nfree\0,1\nracy,2\n", b"build,x,verdict\nfree\0,1,missing\nracy,2,race\n")
+        self.assertIn("free\\x00 in the sheet is not the name of a folder", ended.out)
+
     def test_two_rows_of_one_build(self):
         ended = self.assert_sheet("build,x\nracy,1\nfree,2\nracy,3\n", "build,x,verdict\nracy,1,race\nfree,2,race-free\nracy,3,race\n")
         self.assertIn("build racy has two rows or more", ended.out)
@@ -89,7 +93,7 @@ class Sheets(Case):
             ('build,x\nfree,"1\nracy,2\n', "never closed"),
             ('build,x\nfree,"1\nracy,"2"\n', "behind a closing quote"),
             ("build\nfree\n".encode("utf-16"), "UTF-16"),
-            (b"build\nfr\0ee\n", "no text"),
+            (b"build" + bytes(20), "no text"),
         ):
             with self.subTest(sheet=sheet):
                 ended = self.judge(sheet=sheet, status=2)

@@ -2,14 +2,14 @@
 
 import ctypes
 import os
+import pty
 import random
+import select
 import signal
 import stat
 import subprocess
 import sys
 import time
-import unittest
-from pathlib import Path
 
 import front_end_setting as setting
 import generators
@@ -164,6 +164,24 @@ class Entries(Case):
         ended = self.judge(sheet="build\n" + "\n".join(names) + "\n", status=1)
         self.assertEqual(self.words(), dict.fromkeys(names, "missing"))
         self.assertIn("../outside in the sheet is not the name of a folder", ended.out)
+
+
+class Terminal(Case):
+    def test_progress(self):
+        """A line that is written over, on a terminal alone."""
+        for k in range(5):
+            self.put(f"b{k}", a=LATE)
+        ours, theirs = pty.openpty()
+        self.addCleanup(os.close, ours)
+        command = [sys.executable, SCRIPT, "tray", self.tray]
+        environment = {**os.environ, "DEZHAKOM_PROGRAMS": str(setting.programs)}
+        for more, shown in (([], True), (["--quiet"], False)):
+            ended = subprocess.run([*command, *more], stderr=theirs, stdout=subprocess.PIPE, env=environment)
+            self.assertEqual(ended.returncode, 0)
+            seen = os.read(ours, 10000) if select.select([ours], [], [], 0)[0] else b""
+            self.assertEqual(b"5 of 5 builds, 5 of 5 bundles, 0 not race-free" in seen, shown)
+        os.close(theirs)
+        self.assertEqual(self.run_command("tray", self.tray).err, "")
 
 
 class Statuses(Case):
