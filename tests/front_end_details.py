@@ -2,6 +2,7 @@
 
 import os
 import random
+import re
 import subprocess
 import sys
 import unittest
@@ -326,16 +327,35 @@ class Single(Case):
             ended = subprocess.run(["sh", "-c", line], capture_output=True, cwd=self.folder, env=environment)
             self.assertEqual((ended.stdout.count(b"\n"), ended.stderr), (1, b""))
 
-    def test_words_split_over_machines(self):
-        """The lines of docs/TRAY.md for xargs: builds one by one give the words of the whole tray."""
+
+class Splitting(Case):
+    """The lines of docs/TRAY.md for more than one machine, as they stand there, give the words of the whole tray."""
+
+    def setUp(self):
+        super().setUp()
+        self.tray = self.tray.rename(self.folder / "TRAY")
+        self.wanted = {"build 0": "race", "build 1": "race-free", "build 2": "refused", "build 3": "missing", "build 4": "refused"}
         for k, data in enumerate((EXAMPLE, LATE, TORN)):
-            self.put(f"build {k}", a=data)
-        line = (
-            "find tray -mindepth 1 -maxdepth 1 -type d -print0 | xargs -0 -P 2 -I{} sh -c "
-            "'cd \"$1\" && printf \"%s %s\\n\" \"$(find . -type f -print0 | \"$2\" | tail -n 1)\" \"$1\"' sh {} "
-            f"'{setting.programs / 'judge_build'}'"
-        )
-        ended = subprocess.run(["sh", "-c", line], cwd=self.folder, capture_output=True, text=True)
-        self.assertEqual(
-            sorted(ended.stdout.splitlines()), ["build race tray/build 0", "build race-free tray/build 1", "build refused tray/build 2"]
-        )
+            self.put(f"build {k}", a=data, b=LATE)
+        self.put("build 3")
+        (self.put("build 4", a=LATE) / "inner").mkdir()
+        (self.folder / "target").mkdir()
+        (self.folder / "target" / "bin").symlink_to(setting.programs)
+        (self.folder / "dezhakom").symlink_to(SCRIPT)
+        text = (ROOT / "docs" / "TRAY.md").read_text(encoding="utf-8")
+        blocks = re.findall(r"(?:^    .*\n)+", text[text.index("## More than one machine") :], re.MULTILINE)
+        self.xargs, self.slurm = ("".join(line[4:] for line in block.splitlines(True)) for block in blocks)
+
+    def run_lines(self, lines, **environment):
+        environment = {**os.environ, "DEZHAKOM_PROGRAMS": str(setting.programs), **environment}
+        return subprocess.run(["sh", "-c", lines], cwd=self.folder, capture_output=True, text=True, env=environment).stdout
+
+    def test_xargs(self):
+        words = dict(line.rsplit(",", 1) for line in self.run_lines(self.xargs).splitlines())
+        self.assertEqual(words, self.wanted)
+
+    def test_slurm(self):
+        for part in range(10):
+            self.run_lines(self.slurm, SLURM_ARRAY_TASK_ID=str(part))
+        lines = [line for out in (self.folder / "parts").glob("*.csv") for line in out.read_text().splitlines()[1:]]
+        self.assertEqual({name.strip('"'): word for name, word in (line.split(",") for line in lines)}, self.wanted)
