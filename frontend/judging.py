@@ -67,13 +67,15 @@ def judge_again(programs, names, folder):
 # ------------------------------------------------------------------ all builds
 
 
-def in_parallel(programs, jobs, tasks, done):
-    """Runs each of the tasks, some at a time, and calls done(task's item) in this thread. A task is (function, item)."""
+def in_parallel(programs, jobs, tasks, done, tick=lambda: None):
+    """Runs each of the tasks, some at a time, and calls done(task's item) in this thread, and tick() now and then. A task is
+    (function, item)."""
     pool = ThreadPoolExecutor(jobs)
     try:
         pending = {pool.submit(function, programs, item): item for function, item in tasks}
         while pending:
             ended, _ = wait(pending, timeout=0.2, return_when=FIRST_COMPLETED)
+            tick()
             for future in ended:
                 item = pending.pop(future)
                 future.result()
@@ -88,7 +90,7 @@ def in_parallel(programs, jobs, tasks, done):
 def judge_all(programs, jobs, builds, progress):
     """Judges all builds; those with most bundles first, so that none is left over at the end."""
     order = sorted(builds, key=lambda b: -len(b.bundles))
-    in_parallel(programs, jobs, [(judge, b) for b in order], progress.judged)
+    in_parallel(programs, jobs, [(judge, b) for b in order], progress.judged, lambda: progress.tick(programs.judged))
 
 
 def list_races(programs, jobs, bundles, most):

@@ -47,7 +47,7 @@ def undisturbed():
 
 
 def write_all(files):
-    """Writes [(path, bytes)]; the last of them is the last to be renamed."""
+    """Writes [(path, bytes)]; the last of them is the last to be renamed. From then on the job is done and cannot be stopped."""
     with contextlib.ExitStack() as leftovers:
         made = []
         for path, data in files:
@@ -55,6 +55,8 @@ def write_all(files):
             made.append((path, target, make_beside(path, target, data, leftovers)))
         with undisturbed():
             rename_all(made, leftovers)
+            for number in STOPPING:
+                signal.signal(number, signal.SIG_IGN)
 
 
 def make_beside(path, target, data, leftovers):

@@ -79,6 +79,7 @@ class Programs:
         self.folder = os.path.abspath(folder)
         self.timeout = timeout
         self.stop = stop  # a threading.Event
+        self.judged = 0  # lines of bundles so far, for the progress alone
 
     def path(self, name):
         return os.path.join(self.folder, name)
@@ -167,6 +168,7 @@ class Programs:
                     if line is None:
                         raise Failed("the program printed a line that has no form of ours")
                     lines.append(line)
+                    self.judged += 1
                 elif word is None and (found := BUILD_LINE.fullmatch(text)):
                     word = found[1].decode()
                 else:

@@ -15,10 +15,15 @@ class Progress:
         self.last = 0.0
 
     def judged(self, build):
+        """A build is judged."""
         self.judged_builds += 1
-        self.judged_bundles += len(build.bundles)
         self.others += build.word != "race-free"
-        if self.shown and (time.monotonic() - self.last > EVERY or self.judged_builds == self.builds):
+        self.tick(self.bundles if self.judged_builds == self.builds else self.judged_bundles, self.judged_builds == self.builds)
+
+    def tick(self, bundles, last=False):
+        """So many bundles are judged; some of them twice, where a program failed."""
+        self.judged_bundles = min(bundles, self.bundles)
+        if self.shown and (last or time.monotonic() - self.last > EVERY):
             self.last = time.monotonic()
             self.write(
                 f"{self.judged_builds:,} of {self.builds:,} builds, {self.judged_bundles:,} of {self.bundles:,} bundles,"

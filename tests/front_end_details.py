@@ -182,6 +182,14 @@ class Pages(Case):
             self.assertTrue(wrong.startswith(mine.wrong.rstrip(".")), number)
         self.assertEqual(len(rows), len(refusals.REFUSALS))
 
+    def test_readme_shows_the_example(self):
+        text = readme_lines.readme()
+        if "./dezhakom tray" not in text:
+            self.skipTest("README.md has no section on trays")
+        for name in ("builds.csv", "verdicts.csv"):
+            self.assertIn(f"examples/{name}", text)
+        self.assertIn((ROOT / "examples" / "verdicts.csv").read_text(), text)
+
     def test_readable_names(self):
         self.assertEqual(readable("plain"), "plain")
         self.assertEqual(readable("a\nb\x1b[31m\u202e\udcff"), "a\\nb\\x1b[31m\\u202e\\xff")
@@ -298,6 +306,14 @@ class Single(Case):
             ended = self.run_command("show", "-", input=data)
             self.assertIn(ended.status, (0, 1), ended)
             self.assertEqual(ended.err, "")
+            refused = re.search(r"^refused (\d+) at (\d+): ", ended.out, re.MULTILINE)
+            try:
+                wanted = len([c for chunk in sr.check(data).chunks for c in chunk.accesses])
+                self.assertEqual((refused, ended.out.count("site ")), (None, wanted))
+            except sr.Refused as refusal:
+                self.assertEqual((int(refused[1]), int(refused[2])), (refusal.number, refusal.place))
+                offsets = [int(line.split()[0]) for line in ended.out[: refused.start()].splitlines()]
+                self.assertEqual([at for at in offsets if at >= refusal.place], [])
 
     def test_graph(self):
         ended = self.run_command("graph", ROOT / "examples" / "e.bundle")

@@ -1,6 +1,7 @@
 """Whole trays: every word is the second reader's; names, odd entries, exit statuses, files that are written whole."""
 
 import ctypes
+import importlib.util
 import os
 import pty
 import random
@@ -10,6 +11,7 @@ import stat
 import subprocess
 import sys
 import time
+from importlib.machinery import SourceFileLoader
 
 import front_end_setting as setting
 import generators
@@ -78,6 +80,22 @@ class Words(Case):
             results.append((self.out.read_bytes(), self.page.read_bytes()))
         self.assertEqual(results[0], results[1])
         self.assertEqual(results[0], results[2])
+
+
+class Speed(Case):
+    def test_a_thousand_bundles_in_five_seconds(self):
+        """The tray of bench/tray, the page included."""
+        bench = SourceFileLoader("bench_tray", str(ROOT / "bench" / "tray"))
+        module = importlib.util.module_from_spec(importlib.util.spec_from_loader("bench_tray", bench))
+        bench.exec_module(module)
+        module.WORK = self.folder / "work"
+        module.make_tray(1000)
+        start = time.monotonic()
+        ended = self.run_command(
+            "tray", module.WORK / "tray", "--sheet", module.WORK / "builds.csv", "--out", self.out, "--page", self.page
+        )
+        self.assertEqual(ended.status, 1)
+        self.assertLess(time.monotonic() - start, 5)
 
 
 class Entries(Case):
