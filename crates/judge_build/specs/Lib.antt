@@ -1,0 +1,2 @@
+-- What the program judge_build reads.
+pub mod Reading
