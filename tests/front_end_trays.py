@@ -15,8 +15,8 @@ from importlib.machinery import SourceFileLoader
 
 import front_end_setting as setting
 import generators
+import second_reader as sr
 from front_end_setting import EXAMPLE, LATE, ROOT, SCRIPT, TORN, Case
-from tray_words import build_word, bundle_line, word_of
 
 
 def as_anybody():
@@ -46,7 +46,7 @@ class Words(Case):
             datas = [self.random_bundle(rng) for _ in range(rng.choice((0, 1, 1, 2, 3, 5)))]
             for k, data in enumerate(datas):
                 (folder / f"case {k}").write_bytes(data)
-            wanted[build] = build_word([word_of(data) for data in datas])
+            wanted[build] = sr.build_word(map(sr.bundle_line, datas))
         self.judge(sheet="build\n" + "".join(f"{b}\n" for b in wanted), status=1)
         self.assertEqual(self.words(), wanted)
         self.assertEqual(set(wanted.values()), {"race", "refused", "missing", "race-free"})
@@ -59,9 +59,7 @@ class Words(Case):
             (folder / f"{k:02}").write_bytes(data)
         names = b"".join(b"%02d\0" % k for k in range(len(datas))) + b"\0none\0"
         ended = subprocess.run([setting.programs / "judge_build"], input=names, capture_output=True, cwd=folder)
-        lines = [bundle_line(d) for d in datas] + ["refused unreadable"] * 2
-        wanted = [*lines, f"build {build_word([line.split()[0] for line in lines])}"]
-        self.assertEqual(ended.stdout.decode().splitlines(), wanted)
+        self.assertEqual(ended.stdout, sr.build_text([*datas, None, None]))
 
     def test_example_tray(self):
         ended = self.run_command(
