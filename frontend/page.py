@@ -1,0 +1,370 @@
+"""The page: one HTML file without outside parts and without scripts. All that comes from files goes through text()."""
+
+import base64
+import hashlib
+import html
+import os
+import time
+
+from frontend import bundles
+from frontend.names import counted, readable, to_text
+from frontend.pictures import Graph, bytes_picture
+from frontend.refusals import in_words
+from frontend.tray import open_file
+
+STYLE = os.path.join(os.path.dirname(os.path.abspath(__file__)), "style.css")
+WORDS = ("race", "refused", "missing", "race-free")
+SIGNS = {"race": "✗", "refused": "⚠", "missing": "–", "race-free": "✓"}  # so that a word is not told by its colour alone
+
+MOST_RACES = 200  # of a bundle
+ALL_RACES = 1200  # of the page, if there are many bundles with races
+MANY_NOTES = 20  # more are folded
+MOST_PAGE = 5_000_000  # bytes; past them a bundle gets one line
+
+
+def text(value):
+    """Any text from outside, as text of the page."""
+    return html.escape(readable(str(value)))
+
+
+def word_html(word):
+    return f'<span class="word {word}">{SIGNS[word]} {word}</span>'
+
+
+def races_each(racy):
+    """How many races of a bundle are shown where so many bundles have races."""
+    return max(1, min(MOST_RACES, ALL_RACES // max(1, racy)))
+
+
+class Page:
+    def __init__(self, tray, builds, notes, sheet=None):
+        self.tray, self.builds, self.notes, self.sheet = tray, builds, notes, sheet
+        self.size = 0
+        self.short = 0  # bundles with one line only
+        self.drawn = 0
+        self.most = races_each(sum(b.line is not None and b.line.word == "race" for build in builds for b in build.bundles))
+
+    def html(self):
+        parts = [self.head(), self.table(), self.told()]
+        for number, build in enumerate(self.builds):
+            if has_section(build):
+                parts.append(self.section(number, build))
+        parts.append(self.foot())
+        return "".join(parts).encode("utf-8", "backslashreplace")
+
+    # ------------------------------------------------------------------- frame
+
+    def head(self):
+        with open(STYLE, encoding="utf-8") as file:
+            style = "\n" + file.read()
+        digest = base64.b64encode(hashlib.sha256(style.encode()).digest()).decode()
+        counts = "".join(
+            f"<li>{word_html(w)} {sum(b.word == w for b in self.builds):,}</li>" for w in WORDS
+        )
+        sheet = f", sheet <span class=\"name\">{text(self.sheet)}</span>" if self.sheet else ""
+        bundles_there = sum(len(b.bundles) for b in self.builds)
+        return f"""<!DOCTYPE html>
+<html lang="en">
+<head>
+<meta charset="utf-8">
+<meta http-equiv="Content-Security-Policy" content="default-src 'none'; style-src 'sha256-{digest}'; base-uri 'none'; form-action 'none'">
+<meta name="viewport" content="width=device-width, initial-scale=1">
+<meta name="referrer" content="no-referrer">
+<title>Verdicts: {text(self.tray)}</title>
+<style>{style}</style>
+</head>
+<body>
+<h1>Verdicts</h1>
+<p class="soft">Tray <span class="name">{text(self.tray)}</span>{sheet}: {counted(len(self.builds), "build")}, {counted(bundles_there, "bundle")}. {made_at()}</p>
+<ul class="counts">{counts}</ul>
+"""
+
+    def table(self):
+        rows = []
+        for number, build in enumerate(self.builds):
+            name = f'<span class="name">{text(build.name)}</span>'
+            if has_section(build):
+                name = f'<a href="#build{number}">{name}</a>'
+            rows.append(f"<tr><td>{name}</td><td>{word_html(build.word)}</td><td>{in_short(build)}</td></tr>")
+        head = "<tr><th>Build</th><th>Word</th><th>Bundles</th></tr>"
+        return f"<table class=\"builds\"><thead>{head}</thead><tbody>\n" + "\n".join(rows) + "\n</tbody></table>\n"
+
+    def told(self):
+        if not self.notes:
+            return ""
+        notes = '<ul class="notes">' + "".join(f"<li>{text(n)}</li>" for n in self.notes) + "</ul>"
+        if len(self.notes) > MANY_NOTES:
+            notes = f"<details><summary>{counted(len(self.notes), 'note')}</summary>{notes}</details>"
+        return f"<h2>Notes</h2>{notes}\n"
+
+    def foot(self):
+        short = ""
+        if self.short:
+            short = (
+                f"<p>{counted(self.short, 'bundle')} got one line each, to keep this page small:"
+                " <code>./dezhakom list FILE</code> lists the races of a bundle, <code>./dezhakom show FILE</code> its commands.</p>\n"
+            )
+        return f"""{short}<h2>How to read this</h2>
+<p class="soft">The words come from the proved program judge_build, the races from the proved program racelist; this page shows them. {word_html("race")}: two accesses
+touch a byte, one writes, and nothing orders them. {word_html("refused")}: a log is torn, damaged or could not be read, so there is no verdict. {word_html("missing")}: the sheet
+has the build, the tray has no log of it. {word_html("race-free")}: every log of the build was judged, and none has a race.</p>
+<p class="soft">A segment is what a member of a team does between two forks or barriers. In the pictures each row is a member, named by its team and its number; time runs to the right; boxes are
+segments, filled if they have accesses; a team stands below the segment that forks it; a thick line down is a barrier. Addresses are hexadecimal.</p>
+</body>
+</html>
+"""
+
+    # ------------------------------------------------------------------ builds
+
+    def section(self, number, build):
+        parts = [f'<section>\n<h2 id="build{number}"><span class="name">{text(build.name)}</span> {word_html(build.word)}</h2>\n']
+        if build.reason:
+            parts.append(f"<p>{text(build.reason)}</p>\n")
+        short = []
+        order = {"race": 0, "refused": 1}
+        for bundle in sorted(build.not_free(), key=lambda b: order.get(b.line.word if b.line else None, 2)):
+            if self.size < MOST_PAGE:
+                part = self.article(bundle)
+                self.size += len(part)
+                parts.append(part)
+            else:
+                self.short += 1
+                short.append(f"<li>{one_line(bundle)}</li>")
+        if short:
+            parts.append(f"<details><summary>{counted(len(short), 'bundle')} more</summary><ul>{''.join(short)}</ul></details>\n")
+        parts.append("</section>\n")
+        return "".join(parts)
+
+    def article(self, bundle):
+        if bundle.line is None:
+            body = f"<p>{text(bundle.reason or 'It was not judged.')}</p>"
+            word = "refused"
+        elif bundle.line.word == "race":
+            body, word = self.races(bundle), "race"
+        else:
+            body, word = refusal(bundle), "refused"
+        name = text(bundle.name) if bundle.name else "(the folder)"
+        return f'<article>\n<h3><span class="name">{name}</span> {word_html(word)}</h3>\n{body}\n</article>\n'
+
+    # ------------------------------------------------------------------- races
+
+    def races(self, bundle):
+        line = bundle.line
+        shown = bundle.races[: self.most] or [line.least]
+        log, problem = self.log_of(bundle)
+        drawing = Drawing(self, log) if log else None
+        parts = [
+            f"<p>{counted(line.pairs, 'race')} among {counted(line.counts.accesses, 'access', 'accesses')} in"
+            f" {counted(line.counts.segments, 'segment')} of {counted(line.counts.chunks, 'member')}. The least:</p>"
+        ]
+        if problem:
+            parts.append(f'<p class="soft">{text(problem)}</p>')
+        parts.append(race_html(shown[0], log, drawing))
+        rest = [
+            f"<details><summary>{race_title(race)}</summary>{race_html(race, log, drawing)}</details>\n" for race in shown[1:]
+        ]
+        if rest:
+            left = "" if len(shown) == line.pairs else f", the first {len(rest):,} of them here"
+            parts.append(f"<details><summary>{counted(line.pairs - 1, 'other race')}{left}</summary>\n{''.join(rest)}</details>")
+        if len(shown) < line.pairs:
+            parts.append(
+                f'<p class="soft">{counted(len(shown), "race")} of {line.pairs:,} shown. All of them:'
+                f" <code>./dezhakom list {text(shell_name(bundle.path))}</code></p>"
+            )
+        if bundle.races_failure and line.pairs > 1:
+            parts.append(f'<p class="soft">The other races could not be listed: {text(bundle.races_failure)}.</p>')
+        if drawing:
+            parts[1:1] = [drawing.store()]
+            parts.append(drawing.overview())
+        return "\n".join(parts)
+
+    def log_of(self, bundle):
+        """The decoded bundle for pictures, or None and why there are none."""
+        try:
+            log = bundles.read_log(read_bytes(bundle.path))
+            if log.counts() != tuple(bundle.line.counts):
+                raise bundles.NotAsExpected("other counts")
+            return log, None
+        except (OSError, bundles.NotAsExpected):
+            return None, "There are no pictures: the file is no longer the one that was judged."
+
+
+class Drawing:
+    """The pictures of one bundle. What several races draw alike stands once, under a name."""
+
+    def __init__(self, page, log):
+        self.page, self.log = page, log
+        self.whole = Graph(log)
+        self.large = self.whole.is_large()
+        self.graphs = {}  # what is kept: (name, graph)
+
+    def graph_for(self, first, second):
+        """The graph that shows both segments: the whole one, or what leads to the two."""
+        keep = self.log.above(*first) | self.log.above(*second) if self.large else None
+        key = frozenset(keep.items()) if keep else None
+        if key not in self.graphs:
+            self.page.drawn += 1
+            self.graphs[key] = (f"g{self.page.drawn}", Graph(self.log, keep) if keep else self.whole)
+        return self.graphs[key]
+
+    def store(self):
+        """The drawings under their names; it has to be asked for last."""
+        inner = "".join(f'<g id="{name}">{graph.shapes()}</g>' for name, graph in self.graphs.values())
+        return f'<svg class="store" aria-hidden="true"><defs>{inner}</defs></svg>'
+
+    def race(self, race, first, second):
+        here, there = (*race.first[:2], first.segment), (*race.second[:2], second.segment)
+        name, graph = self.graph_for(here, there)
+        title = f"Graph of the run with segments {segment_text(here)} and {segment_text(there)} marked"
+        picture = graph.marked(title, here, there, name)
+        caption = "No path leads from one marked segment to the other."
+        if graph.left_out:
+            caption += f" {counted(graph.left_out, 'other member')} left out."
+        if graph.is_cut:
+            caption += " Dotted: more segments or teams."
+        return f'<figure><div class="box">{picture}</div><figcaption>{caption}</figcaption></figure>'
+
+    def overview(self):
+        if not self.large:
+            return ""
+        graph = self.whole
+        title = f"The whole graph: {counted(len(graph.rows), 'member')}, {counted(len(graph.places), 'segment')}"
+        return f'<details><summary>{title}</summary><div class="box">{graph.whole(title)}</div></details>'
+
+
+def race_title(race):
+    return f"byte <code>{race.witness:08x}</code>, sites {race.first_site} and {race.second_site}"
+
+
+def name_text(name):
+    return ".".join(map(str, name))
+
+
+def segment_text(key):
+    return f"{key[2]} of member {key[0]}.{key[1]}"
+
+
+def race_html(race, log, drawing):
+    """One race: the two accesses side by side, and the pictures."""
+    try:
+        accesses = [log.access(race.first), log.access(race.second)] if log else None
+    except bundles.NotAsExpected:
+        accesses = None
+    rows = [
+        ("Site", f"<b>{race.first_site}</b>", f"<b>{race.second_site}</b>"),
+        ("Access", name_text(race.first), name_text(race.second)),
+    ]
+    if accesses:
+        keys = (race.first, race.second)
+        rows += [
+            ("Does", *(a.kind for a in accesses)),
+            ("Segment", *(f"team {k[0]}, member {k[1]}, segment {a.segment}" for k, a in zip(keys, accesses))),
+            ("Bytes", *(f"<code>{a.range.text()}</code>" for a in accesses)),
+            ("Locks", *(", ".join(map(str, a.locks)) or "none" for a in accesses)),
+        ]
+    head = '<tr><th></th><th class="one">1st access</th><th class="two">2nd access</th></tr>'
+    body = "".join(f"<tr><th>{a}</th><td>{b}</td><td>{c}</td></tr>" for a, b, c in rows)
+    parts = [
+        f"<p>Both touch byte <code>{race.witness:08x}</code>, the lowest that they share, and nothing orders them.</p>",
+        f'<table class="accesses">{head}{body}</table>',
+    ]
+    if accesses:
+        parts.append(f'<div class="pictures">{bytes_html(race, *accesses)}{drawing.race(race, *accesses)}</div>')
+    return "\n".join(parts)
+
+
+def bytes_html(race, first, second):
+    title = f"The bytes of both accesses around byte {race.witness:08x}"
+    picture, whole = bytes_picture(title, first.range, second.range, race.witness)
+    cut = "" if whole else " Cut: a range goes on at a side."
+    return (
+        f'<figure><div class="box">{picture}</div><figcaption>Bytes touched are filled, a bar starts an element.{cut}</figcaption></figure>'
+    )
+
+
+# ------------------------------------------------------------------- refusals
+
+
+def refusal(bundle):
+    if bundle.line.refusal is None:
+        return f"<p>It could not be read: {text(bundle.reason or 'no reason known')}.</p>"
+    number, place = bundle.line.refusal
+    try:
+        data = read_bytes(bundle.path)
+        length = os.stat(bundle.path).st_size
+    except OSError:
+        data, length = None, None
+    wrong, advice = in_words(number, place, length)
+    told = f"<p>{text(wrong)} {text(advice)}</p>\n<p class=\"soft\">Refusal {number} at byte {place:,}"
+    told += f" of {length:,}.</p>" if length is not None else ".</p>"
+    if not data:
+        return told
+    if place > len(data):
+        return told + '\n<p class="soft">The file is no longer the one that was judged.</p>'
+    return f"{told}\n{dump(data, place)}"
+
+
+def dump(data, place, rows=3):
+    """The bytes around a place, eight to a line, the place marked. At the end of the log the mark stands behind the last byte."""
+    start = max(0, place // 8 * 8 - 8 * rows)
+    stop = min(len(data), place // 8 * 8 + 8 * (rows + 1))
+    lines = []
+    for at in range(start, max(stop, place + 1), 8):
+        cells = [f"{data[k]:02x}" if k < stop else "  " for k in range(at, at + 8)]
+        if at <= place < at + 8:
+            k = place - at
+            cells[k] = f"<mark>{cells[k] if place < len(data) else '▮ end'}</mark>"
+        lines.append(f"{at:8,}  {' '.join(cells)}".rstrip())
+    more = [f"{'…':>8}"] if start else []
+    tail = [f"{'…':>8}"] if stop < len(data) else []
+    return "<pre>" + "\n".join(more + lines + tail) + "</pre>"
+
+
+# ----------------------------------------------------------------- small parts
+
+
+def read_bytes(path):
+    with open_file(path) as file:
+        return file.read(bundles.MOST_BYTES + 1)
+
+
+def has_section(build):
+    return bool(build.reason or build.not_free())
+
+
+def in_short(build):
+    """The bundles of a build in few words."""
+    if build.reason:
+        return "not judged"
+    others = build.not_free()
+    if not build.bundles:
+        return "empty folder" if build.path else "no folder"
+    if not others:
+        return counted(len(build.bundles), "bundle")
+    words = [b.line.word for b in others if b.line]
+    parts = [f"{words.count(w):,} {w}" for w in ("race", "refused") if w in words]
+    return f"{', '.join(parts)} of {len(build.bundles):,}"
+
+
+def one_line(bundle):
+    name = f'<span class="name">{text(bundle.name)}</span>'
+    line = bundle.line
+    if line is None or line.word == "refused":
+        why = f"refusal {line.refusal[0]} at {line.refusal[1]}" if line and line.refusal else text(bundle.reason or "not judged")
+        return f"{name}: {word_html('refused')}, {why}"
+    return f"{name}: {word_html('race')}, {counted(line.pairs, 'race')}, the least at {race_title(line.least)}"
+
+
+def shell_name(path):
+    """A path as one word of a shell, if it is plain; else FILE."""
+    plain = to_text(path)
+    return plain if all(c.isalnum() or c in "/._-+" for c in plain) and plain.isascii() else "FILE"
+
+
+def made_at():
+    """When the page was made; SOURCE_DATE_EPOCH stands in for the clock."""
+    try:
+        now = int(os.environ["SOURCE_DATE_EPOCH"])
+    except (KeyError, ValueError):
+        now = time.time()
+    return time.strftime("Made %Y-%m-%d %H:%M UTC.", time.gmtime(now))

@@ -1,0 +1,62 @@
+"""The refusals in plain words: the table of README.md."""
+
+from collections import namedtuple
+
+Refusal = namedtuple("Refusal", "wrong place advice")
+
+REFUSALS = {
+    1: Refusal("It has over 65,536 bytes.", "0", "Ask for a smaller regression case."),
+    2: Refusal("A byte is no command.", "that byte", "The log is damaged, or a newer logger wrote it: ask for it again."),
+    3: Refusal("It ends inside a command.", "that command", "Ask for it again."),
+    4: Refusal(
+        "It ends inside a member's log; or a command stands between two members' logs, or a MEMBER inside one.",
+        "the log's length; or that command",
+        "If P is the length, it was torn: ask for it again. Else parts were mixed up.",
+    ),
+    5: Refusal(
+        "A number is out of its range, or a REGION's team is not greater than the team that it stands in.",
+        "that command",
+        "The log is damaged, or the logger at fault.",
+    ),
+    6: Refusal(
+        "A lock is acquired while held, released while not held, or held at the END.",
+        "that command",
+        "Lock commands are missing: look at the logger.",
+    ),
+    7: Refusal(
+        "It has over 512 segments or over 1,024 accesses.", "the first command too many", "Ask for a smaller regression case."
+    ),
+    8: Refusal("A team is forked twice.", "the later REGION", "Team numbers were used again, or two runs are in one log."),
+    9: Refusal(
+        "A member's log is there twice, or its team was never forked, or its number is not below the team's size.",
+        "its MEMBER",
+        "Two runs are in one log, or the log of the member that forks the team is missing.",
+    ),
+    10: Refusal(
+        "The log of a member is missing.",
+        "its team's REGION; 0 if the log is empty",
+        "Part of the log is still to come: wait for it, or ask for it.",
+    ),
+    11: Refusal("A team is nested more than 4 deep.", "its REGION", "This reader does not take such a case."),
+    12: Refusal(
+        "A member met more or fewer barriers than member 0 of its team.",
+        "its MEMBER",
+        "Part of the log is missing, or the run was broken off: ask for it again.",
+    ),
+}
+
+TORN = "It ends inside a member's log: it was torn."
+MIXED = "A command stands between two members' logs, or a MEMBER inside one."
+NONE_THERE = "The log is empty."
+
+
+def in_words(number, place, length):
+    """(what is wrong, what to do) of a refused bundle. The length tells two meanings of one number apart; None if not known."""
+    known = REFUSALS.get(number)
+    if known is None:
+        return "It is refused for a reason that this front end does not know.", "Look into README.md."
+    if number == 4 and length is not None:
+        return (TORN, "Ask for it again.") if place == length else (MIXED, "Parts of the log were mixed up.")
+    if number == 10 and length == 0:
+        return NONE_THERE, known.advice
+    return known.wrong, known.advice

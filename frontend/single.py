@@ -1,0 +1,180 @@
+"""The commands for one bundle: list, check, show, graph. Whether it is accepted is racelist's word."""
+
+import html
+import os
+import sys
+
+from frontend import bundles
+from frontend.failures import CannotDo, reason_of
+from frontend.names import counted, readable
+from frontend.programs import COUNTS_LINE, REFUSED_LINE, Failed, Programs, end
+from frontend.refusals import in_words
+
+
+def read_input(name):
+    """The bytes of a bundle; of one that is too long, no more than tells it."""
+    try:
+        if name == "-":
+            return sys.stdin.buffer.read(bundles.MOST_BYTES + 1)
+        with open(name, "rb") as file:
+            return file.read(bundles.MOST_BYTES + 1)
+    except OSError as error:
+        raise CannotDo(f"{readable(name)} cannot be read: {reason_of(error)}") from error
+
+
+def programs_of(options):
+    programs = Programs(options.programs, options.timeout, options.stop)
+    programs.demand("racelist")
+    return programs
+
+
+def list_file(options):
+    """Hands racelist's output on as it comes. The status is told by its last line."""
+    programs = programs_of(options)
+    data = read_input(options.file)
+    last = None
+    process = programs.start("racelist", data)
+    try:
+        for last in programs.lines(process):
+            sys.stdout.buffer.write(last + b"\n")
+    except Failed as failure:
+        sys.stdout.buffer.flush()
+        raise CannotDo(f"no verdict: {failure}") from failure
+    finally:
+        end(process)
+    sys.stdout.buffer.flush()
+    if last == b"race-free":
+        return 0
+    if last is None or not (last.startswith(b"pairs ") or REFUSED_LINE.fullmatch(last)):
+        raise CannotDo("no verdict: the output of racelist is not whole")
+    return 1
+
+
+def verdict_of(options, data):
+    """(counts, None) of an accepted bundle, (None, (number, place)) of a refused one."""
+    programs = programs_of(options)
+    lines = []
+    process = programs.start("racelist", data)
+    try:
+        for line in programs.lines(process):
+            lines.append(line)
+            if len(lines) == 2:
+                break
+    except Failed as failure:
+        raise CannotDo(f"no verdict: {failure}") from failure
+    finally:
+        end(process)
+    if lines and (found := REFUSED_LINE.fullmatch(lines[0])):
+        return None, tuple(map(int, found.groups()))
+    if len(lines) == 2 and (found := COUNTS_LINE.fullmatch(lines[0])):
+        return tuple(map(int, found.groups())), None
+    raise CannotDo("no verdict: the output of racelist is not whole")
+
+
+def told(refusal, data):
+    number, place = refusal
+    wrong, advice = in_words(number, place, len(data))
+    return f"refused {number} at {place}: {wrong} {advice}"
+
+
+def check_file(options):
+    data = read_input(options.file)
+    counts, refusal = verdict_of(options, data)
+    if refusal:
+        print(told(refusal, data))
+        return 1
+    print("accepted chunks {} segments {} accesses {}".format(*counts))
+    return 0
+
+
+def show_file(options):
+    """The commands of a bundle, or those before the place of the refusal, which stands below them."""
+    data = read_input(options.file)
+    counts, refusal = verdict_of(options, data)
+    inside, segment = False, 0
+    for command in bundles.commands(data[: bundles.MOST_BYTES]):
+        if refusal and command.offset >= refusal[1]:
+            break
+        note = ""
+        if command.code in (bundles.MEMBER, bundles.REGION, bundles.BARRIER):
+            segment = 0 if command.code == bundles.MEMBER else segment + 1
+            note = f"  -- segment {segment}"
+        inside = inside and command.code != bundles.END
+        print(f"{command.offset:6}  {'  ' if inside else ''}{bundles.command_text(command)}{note}")
+        inside = inside or command.code == bundles.MEMBER
+    if refusal:
+        print(told(refusal, data))
+        if data and refusal[0] != 1:
+            print(plain_dump(data, refusal[1]))
+        return 1
+    return 0
+
+
+def plain_dump(data, place):
+    """The bytes from the place on, in hexadecimal."""
+    if place >= len(data):
+        return f"{place:6}  (the end of the log)"
+    more = " .." if place + 16 < len(data) else ""
+    return f"{place:6}  {data[place : place + 16].hex(' ')}{more}"
+
+
+# ---------------------------------------------------------------------- graph
+
+
+def segment_name(key):
+    return f"{key[0]}.{key[1]}:{key[2]}"
+
+
+def graph_file(options):
+    data = read_input(options.file)
+    counts, refusal = verdict_of(options, data)
+    if refusal:
+        print(told(refusal, data))
+        return 1
+    try:
+        log = bundles.read_log(data)
+    except bundles.NotAsExpected as problem:
+        raise CannotDo(f"the graph cannot be shown: {problem}") from problem
+    if options.svg:
+        write_picture(options.svg, log, options.file)
+    elif options.dot:
+        print_dot(log)
+    else:
+        print_graph(log)
+    return 0
+
+
+def print_graph(log):
+    edges = list(log.edges())
+    print(f"segments {log.counts()[1]} edges {len(edges)}")
+    for (team, member), m in sorted(log.members.items()):
+        for number in range(len(m.segments)):
+            there = sum(a.segment == number for a in m.accesses)
+            print(f"segment {team}.{member}:{number} {counted(there, 'access', 'accesses')}")
+    for here, after, word in edges:
+        print(f"edge {segment_name(here)} {segment_name(after)} {word}")
+
+
+def print_dot(log):
+    print("digraph bundle {\n  rankdir=LR;\n  node [shape=box];")
+    for (team, member), m in sorted(log.members.items()):
+        names = "; ".join(f'"{team}.{member}:{n}"' for n in range(len(m.segments)))
+        print(f'  subgraph "{team}.{member}" {{ {names}; }}')
+    for here, after, word in log.edges():
+        print(f'  "{segment_name(here)}" -> "{segment_name(after)}" [label="{word}"];')
+    print("}")
+
+
+def write_picture(path, log, name):
+    from frontend.outputs import demand_writable, write_all
+    from frontend.pictures import Graph
+
+    demand_writable([path])
+    graph = Graph(log)
+    style = (
+        "<style>svg{background:#fff}text{font:10px monospace;fill:#1b1f24}.n text{text-anchor:middle}path{fill:none;stroke:#6e7781}"
+        "path.w{stroke-dasharray:2 3}path.b{stroke:#1b1f24;stroke-width:2.5}path.e{fill:#fff}path.f{fill:#dbe4ee}</style>"
+    )
+    title = html.escape(f"The fork-join graph of {readable(os.path.basename(name))}")
+    picture = graph.svg(title, style + graph.labels() + graph.shapes())
+    write_all([(path, picture.encode("utf-8", "backslashreplace"))])
