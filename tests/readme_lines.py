@@ -3,8 +3,10 @@
 An indented block is commands, each a line that begins with "$ ", and below each the lines that it prints.
 """
 
+import os
 import re
 import subprocess
+import tempfile
 from collections import namedtuple
 from pathlib import Path
 
@@ -16,7 +18,7 @@ PROGRAM = "target/bin/racelist"
 
 # The tests themselves: it is only looked whether they are there.
 NOT_RUN = (".ci/run",)
-BUILDING = re.compile(r"rt check [a-z]+ && ")  # in front of a command; its own lines are not in the README
+BUILDING = re.compile(r"rt check [a-z_ ]+ && ")  # in front of a command; its own lines are not in the README
 
 Example = namedtuple("Example", "command wanted")
 
@@ -52,29 +54,31 @@ def examples(text):
     return found
 
 
-def run_examples(racelist, ask):
-    """Runs the examples with this program for racelist. ask(words) gives the lines of tests/ask; None leaves them out.
-    Answers how many were run."""
+def run_examples(racelist, judge_build):
+    """Runs the examples with these programs; without judge_build those of the front end are left out. Answers how many were run."""
     count = 0
-    for example in examples(readme()):
-        command = BUILDING.sub("", example.command)
-        if command in NOT_RUN:
-            continue
-        words = command.split()
-        if words[0] == "tests/ask":
-            if ask is None:
+    with tempfile.TemporaryDirectory() as folder:
+        for name, path in (("racelist", racelist), ("judge_build", judge_build)):
+            if path is not None:
+                (Path(folder) / name).symlink_to(Path(path).absolute())
+        for example in examples(readme()):
+            command = BUILDING.sub("", example.command)
+            if command in NOT_RUN or (judge_build is None and not PROGRAM in command):
                 continue
-            given = ask(words[1:])
-        else:
-            given = run(command.replace(PROGRAM, str(racelist)))
-        want(example.command, given, example.wanted)
-        count += 1
+            given = run(command.replace(PROGRAM, str(racelist)), folder)
+            want(example.command, given, example.wanted)
+            count += 1
     return count
 
 
-def run(command):
-    """The lines that it prints, in the folder of the README."""
-    return subprocess.run(["sh", "-c", command], cwd=ROOT, check=True, capture_output=True, text=True).stdout.splitlines()
+def run(command, programs):
+    """The lines that it prints, in the folder of the README. The front end's status is 1 where something is not race-free."""
+    (ROOT / "target").mkdir(exist_ok=True)
+    given = dict(os.environ, DEZHAKOM_PROGRAMS=programs)
+    done = subprocess.run(["sh", "-c", command], cwd=ROOT, env=given, capture_output=True, text=True)
+    if done.returncode not in (0, 1) or done.stderr:
+        raise Wrong(f"README.md: {command}: status {done.returncode}: {done.stderr}")
+    return done.stdout.splitlines()
 
 
 # ------------------------------------------------------------------- tables
@@ -119,7 +123,7 @@ def check_refusals(text, refused):
 
 def check_paths(text):
     """What is named by its path is there."""
-    for words in re.findall(r"`((?:tests|bench|docs|crates|examples|\.ci)/[^`]*)`", text) + [e.command for e in examples(text)]:
+    for words in re.findall(r"`((?:tests|bench|docs|crates|examples|bindings|include|frontend|\.ci)/[^`]*)`", text) + [e.command for e in examples(text)]:
         path = BUILDING.sub("", words).split()[0]
         if "/" in path and not path.startswith("target/"):
             want(f"{path} is there", bool(list(ROOT.glob(path))), True)
