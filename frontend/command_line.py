@@ -114,8 +114,13 @@ def parser():
     one = "FILE, '-' for standard input"
     listing = add("list", "list the races of a bundle", "Prints exactly what the proved program racelist prints of a bundle.")
     check = add("check", "tell whether a bundle is whole", "Prints 'accepted' and the counts, or the refusal in plain words.")
-    show = add("show", "print the commands of a bundle", "Prints each command with its offset; of a refused bundle those before the place of the refusal, and the refusal.")
-    graph = add("graph", "print the fork-join graph of a bundle", "Prints the segments and the edges of the graph of an accepted bundle.")
+    show = add(
+        "show", "print the commands of a bundle",
+        "Prints each command with its offset; of a refused bundle those before the place of the refusal, and the refusal.",
+    )
+    graph = add(
+        "graph", "print the fork-join graph of a bundle", "Prints the segments and the edges of the graph of an accepted bundle."
+    )
     for made in (listing, check, show, graph):
         made.add_argument("file", metavar="FILE", help=one)
     form = graph.add_mutually_exclusive_group()
