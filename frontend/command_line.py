@@ -184,18 +184,26 @@ def status_of(arguments):
     return 2
 
 
+def open_closed_streams():
+    """Standard streams that the caller closed lead nowhere, so that no file of ours gets their numbers."""
+    while (handle := os.open(os.devnull, os.O_RDWR)) <= 2:
+        pass
+    os.close(handle)
+    sys.stdin = sys.stdin or open(0)
+    sys.stdout = sys.stdout or open(1, "w")
+    sys.stderr = sys.stderr or open(2, "w")
+    for stream in (sys.stdout, sys.stderr):
+        stream.reconfigure(errors="backslashreplace")
+
+
 def run(arguments):
     """Ends the process with the status; nothing that happens behind it can change the status."""
-    for stream in (sys.stdout, sys.stderr):
-        if stream is not None:
-            stream.reconfigure(errors="backslashreplace")
-    status = status_of(arguments)
+    status = 2
     try:
+        open_closed_streams()
+        status = status_of(arguments)
         sys.stdout.flush()
-    except (OSError, ValueError):
+    except BaseException:  # what could be told was told
         status = 2
-    try:
-        sys.stderr.flush()
-    except (OSError, ValueError):
-        pass
-    os._exit(status)
+    finally:
+        os._exit(status)
