@@ -114,8 +114,13 @@ def parser():
     one = "FILE, '-' for standard input"
     listing = add("list", "list the races of a bundle", "Prints exactly what the proved program racelist prints of a bundle.")
     check = add("check", "tell whether a bundle is whole", "Prints 'accepted' and the counts, or the refusal in plain words.")
-    show = add("show", "print the commands of a bundle", "Prints each command with its offset; of a refused bundle those before the place of the refusal, and the refusal.")
-    graph = add("graph", "print the fork-join graph of a bundle", "Prints the segments and the edges of the graph of an accepted bundle.")
+    show = add(
+        "show", "print the commands of a bundle",
+        "Prints each command with its offset; of a refused bundle those before the place of the refusal, and the refusal.",
+    )
+    graph = add(
+        "graph", "print the fork-join graph of a bundle", "Prints the segments and the edges of the graph of an accepted bundle."
+    )
     for made in (listing, check, show, graph):
         made.add_argument("file", metavar="FILE", help=one)
     form = graph.add_mutually_exclusive_group()
@@ -179,18 +184,26 @@ def status_of(arguments):
     return 2
 
 
+def open_closed_streams():
+    """Standard streams that the caller closed lead nowhere, so that no file of ours gets their numbers."""
+    while (handle := os.open(os.devnull, os.O_RDWR)) <= 2:
+        pass
+    os.close(handle)
+    sys.stdin = sys.stdin or open(0)
+    sys.stdout = sys.stdout or open(1, "w")
+    sys.stderr = sys.stderr or open(2, "w")
+    for stream in (sys.stdout, sys.stderr):
+        stream.reconfigure(errors="backslashreplace")
+
+
 def run(arguments):
     """Ends the process with the status; nothing that happens behind it can change the status."""
-    for stream in (sys.stdout, sys.stderr):
-        if stream is not None:
-            stream.reconfigure(errors="backslashreplace")
-    status = status_of(arguments)
+    status = 2
     try:
+        open_closed_streams()
+        status = status_of(arguments)
         sys.stdout.flush()
-    except (OSError, ValueError):
+    except BaseException:  # what could be told was told
         status = 2
-    try:
-        sys.stderr.flush()
-    except (OSError, ValueError):
-        pass
-    os._exit(status)
+    finally:
+        os._exit(status)

@@ -1,6 +1,7 @@
 """The whole job: read the sheet and the tray, judge, write the sheet and the page, tell what was found."""
 
 import os
+import sys
 
 from frontend import outputs
 from frontend.failures import CannotDo, reason_of
@@ -136,24 +137,29 @@ def page_of(options, programs, builds, notes):
 
 
 def tell_words(builds, notes, quiet):
-    """One line for each build, then the notes. Whoever reads no further does not change the verdict."""
+    """One line for each build, then the notes. The files are written: whoever reads no further does not change the verdict."""
+    width = min(40, max(len(readable(b.name)) for b in builds))
     try:
-        width = min(40, max(len(readable(b.name)) for b in builds))
         for build in builds:
-            if quiet and build.word == "race-free":
-                continue
-            print(f"{readable(build.name):{width}}  {build.word:9}  {counted(len(build.bundles), 'bundle')}")
-            others = build.not_free()
-            for bundle in others[:MOST_TOLD]:
-                print(f"    {readable(bundle.name) or '(the folder)'}: {why(bundle)}")
-            if others[MOST_TOLD:]:
-                print(f"    and {counted(len(others) - MOST_TOLD, 'bundle')} more that are not race-free")
-            if build.reason:
-                print(f"    {build.reason}")
+            if not (quiet and build.word == "race-free"):
+                print("\n".join(lines_of(build, width)))
         for note in notes:
             print(f"note: {note}")
-    except BrokenPipeError:
+        sys.stdout.flush()
+    except OSError:
         os.dup2(os.open(os.devnull, os.O_WRONLY), 1)
+
+
+def lines_of(build, width):
+    """What is told of a build."""
+    yield f"{readable(build.name):{width}}  {build.word:9}  {counted(len(build.bundles), 'bundle')}"
+    others = build.not_free()
+    for bundle in others[:MOST_TOLD]:
+        yield f"    {readable(bundle.name) or '(the folder)'}: {why(bundle)}"
+    if others[MOST_TOLD:]:
+        yield f"    and {counted(len(others) - MOST_TOLD, 'bundle')} more that are not race-free"
+    if build.reason:
+        yield f"    {build.reason}"
 
 
 def why(bundle):

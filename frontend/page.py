@@ -75,7 +75,8 @@ class Page:
 </head>
 <body>
 <h1>Verdicts</h1>
-<p class="soft">Tray <span class="name">{text(self.tray)}</span>{sheet}: {counted(len(self.builds), "build")}, {counted(bundles_there, "bundle")}. {made_at()}</p>
+<p class="soft">Tray <span class="name">{text(self.tray)}</span>{sheet}: {counted(len(self.builds), "build")},
+{counted(bundles_there, "bundle")}. {made_at()}</p>
 <ul class="counts">{counts}</ul>
 """
 
@@ -105,11 +106,13 @@ class Page:
                 " <code>./dezhakom list FILE</code> lists the races of a bundle, <code>./dezhakom show FILE</code> its commands.</p>\n"
             )
         return f"""{short}<h2>How to read this</h2>
-<p class="soft">The words come from the proved program judge_build, the races from the proved program racelist; this page shows them. {word_html("race")}: two accesses
-touch a byte, one writes, and nothing orders them. {word_html("refused")}: a log is torn, damaged or could not be read, so there is no verdict. {word_html("missing")}: the sheet
-has the build, the tray has no log of it. {word_html("race-free")}: every log of the build was judged, and none has a race.</p>
-<p class="soft">A segment is what a member of a team does between two forks or barriers. In the pictures each row is a member, named by its team and its number; time runs to the right; boxes are
-segments, filled if they have accesses; a team stands below the segment that forks it; a thick line down is a barrier. Addresses are hexadecimal.</p>
+<p class="soft">The words come from the proved program judge_build, the races from the proved program racelist; this page shows them.
+{word_html("race")}: two accesses of a log touch a byte, one writes, not both are atomic, they hold no lock in common, and nothing orders
+them. {word_html("refused")}: a log is torn, damaged or could not be read, so there is no verdict. {word_html("missing")}: the sheet has
+the build, the tray has no log of it. {word_html("race-free")}: every log of the build was judged, and none has a race.</p>
+<p class="soft">A segment is what a member of a team does between two forks or barriers. In the pictures each row is a member, named by
+its team and its number; time runs to the right; boxes are segments, filled if they have accesses; a team stands below the segment
+that forks it; a thick line down is a barrier. Addresses are hexadecimal.</p>
 </body>
 </html>
 """

@@ -6,6 +6,7 @@ import os
 import pty
 import random
 import select
+import shutil
 import signal
 import stat
 import subprocess
@@ -187,7 +188,10 @@ class Terminal(Case):
         """A line that is written over, on a terminal alone."""
         for k in range(5):
             self.put(f"b{k}", a=LATE)
-        ours, theirs = pty.openpty()
+        try:
+            ours, theirs = pty.openpty()
+        except OSError as error:
+            self.skipTest(f"no terminal can be made here: {error}")
         self.addCleanup(os.close, ours)
         command = [sys.executable, SCRIPT, "tray", self.tray]
         environment = {**os.environ, "DEZHAKOM_PROGRAMS": str(setting.programs)}
@@ -206,12 +210,13 @@ class Statuses(Case):
         self.judge(sheet="build\nb\n", status=0)
 
     def test_race_refused_missing(self):
-        self.put("race", a=EXAMPLE)
-        self.put("refused", a=TORN)
-        for name in ("race", "refused", "missing"):
-            for other in self.tray.iterdir():
-                self.assertIn(other.name, ("race", "refused"))
-            self.judge(sheet=f"build\n{name}\n", status=1)
+        for name, data in (("race", EXAMPLE), ("refused", TORN), ("missing", None)):
+            self.put("free", a=LATE)
+            if data:
+                self.put(name, a=data)
+            self.judge(sheet=f"build\nfree\n{name}\n", status=1)
+            self.assertEqual(self.words(), {"free": "race-free", name: name})
+            shutil.rmtree(self.tray / name, ignore_errors=True)
 
     def test_folder_without_row_counts(self):
         self.put("b", a=LATE)
@@ -267,6 +272,10 @@ class Statuses(Case):
             )
             ended = subprocess.run([sys.executable, "-c", text, ROOT], capture_output=True)
             self.assertEqual(ended.returncode, 2, error)
+        shutil.copy(SCRIPT, self.folder / "alone")  # without its modules
+        ended = subprocess.run([sys.executable, self.folder / "alone", "tray", self.tray], capture_output=True)
+        self.assertEqual(ended.returncode, 2)
+        self.assertIn(b"cannot be loaded", ended.stderr)
 
 
 class Files(Case):
@@ -322,15 +331,17 @@ class Files(Case):
 
     def test_stopped(self):
         self.old()
-        programs = self.faulty_programs(setting.BY_NAME)
-        self.put("b", hangs=LATE)
+        note = self.folder / "hanging"
+        programs = self.faulty_programs(f"open({str(note)!r}, 'w').close()\ntime.sleep(1000)\n")
         for number in (signal.SIGINT, signal.SIGTERM, signal.SIGHUP):
             process = subprocess.Popen(
                 [sys.executable, SCRIPT, "tray", self.tray, "--sheet", self.sheet, "--out", self.out, "--page", self.page],
                 env={**os.environ, "DEZHAKOM_PROGRAMS": str(programs)}, stdout=subprocess.PIPE, stderr=subprocess.PIPE,
                 preexec_fn=lambda: signal.signal(signal.SIGINT, signal.default_int_handler),
             )
-            time.sleep(0.8)
+            while not note.exists():
+                time.sleep(0.05)
+            note.unlink()
             process.send_signal(number)
             _, err = process.communicate(timeout=20)
             self.assertEqual(process.returncode, 2)
@@ -390,6 +401,19 @@ class Files(Case):
         os.close(writer)
         self.assertEqual((process.returncode, process.stderr), (0, b""))
         self.assertEqual(self.words(), {"b": "race-free"})
+
+    def test_output_that_cannot_be_written_changes_no_verdict(self):
+        self.put("b", a=LATE)
+        self.sheet.write_text("build\nb\n")
+        for where in (">/dev/full", ">&-", ">&- 2>&- <&-"):
+            self.out.unlink(missing_ok=True)
+            line = f'"{sys.executable}" "{SCRIPT}" tray tray --sheet builds.csv --out verdicts.csv {where}'
+            environment = {**os.environ, "DEZHAKOM_PROGRAMS": str(setting.programs)}
+            ended = subprocess.run(["sh", "-c", line], cwd=self.folder, env=environment)
+            self.assertEqual(ended.returncode, 0)
+            self.assertEqual(self.words(), {"b": "race-free"})
+            ended = subprocess.run(["sh", "-c", f'"{sys.executable}" "{SCRIPT}" list tray/b/a {where}'], cwd=self.folder, env=environment)
+            self.assertEqual(ended.returncode, 2 if "full" in where else 0)
 
     def test_without_sheet_and_without_files(self):
         self.put("b", a=LATE)
