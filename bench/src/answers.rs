@@ -2,7 +2,7 @@
 //! `check HEX` gives `accepted` or `refused N at P`; `label TEAM MEMBER SEGMENT HEX` gives the numbers of the triples;
 //! `shared` and the two ranges' eight numbers give `byte N`, `none` or a refusal;
 //! `judge WORDS HEX`, `next WORDS KEY HEX` and `list HEX` give a judgement, a race or `none`, and a listing whose lines
-//! end in `;`. WORDS is the length of the work area, which is not clean before and must be left as document 01 says; KEY
+//! end in `;`. WORDS is the length of the work area, which is not clean before and must be left as docs/FORMAT.md says; KEY
 //! is a witness and two names, seven numbers.
 //! bench/compare_reader holds them to the second reader's.
 

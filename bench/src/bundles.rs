@@ -1,4 +1,4 @@
-//! Bundles as large as document 01 allows, and damaged ones whose fault shows only near the end of the check.
+//! Bundles as large as the format allows, and damaged ones whose fault shows only near the end of the check.
 
 use crate::generate::Random;
 

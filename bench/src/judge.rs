@@ -1,4 +1,4 @@
-//! Judging in plain Rust, written from document 01: the counts and the least race, the next race above a key, and a
+//! Judging in plain Rust, written from the scope paper: the counts and the least race, the next race above a key, and a
 //! listing.
 //! As in the proved code, the matrix and the table of accesses stand in a lent work area, whose words are 0 afterwards.
 

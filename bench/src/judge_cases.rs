@@ -1,4 +1,4 @@
-//! Bundles for judging: as many segments and accesses as document 01 allows, and small ones.
+//! Bundles for judging: as many segments and accesses as the format allows, and small ones.
 
 use crate::bundles::{self, Case, Chunk};
 use crate::generate::Random;
@@ -204,7 +204,7 @@ fn small(random: &mut Random) -> Vec<Chunk> {
     chunks
 }
 
-/// Document 01's example, whose chunks stay in their order.
+/// The example of docs/FORMAT.md, whose chunks stay in their order.
 pub fn example_e() -> Vec<Chunk> {
     let root = [0x01, 0, 0, 0, 0x10, 1, 0, 2, 0x02];
     let writer = [0x01, 1, 0, 0, 0x31, 0x0a, 0, 0, 0x10, 0, 0, 8, 0, 2, 0, 4, 0x11, 0x02];

@@ -85,7 +85,7 @@ fn print_row(name: &str, counts: [String; 3], seconds: [f64; 3]) {
 }
 
 /// The answers of the three over work areas of so many words, which hold something before: they must be equal, and the
-/// areas left as document 01 says.
+/// areas left as docs/FORMAT.md says.
 fn equal_answers<T: PartialEq + Debug>(name: &str, words: usize, ask: impl Fn(usize, &mut [u32]) -> T) -> bool {
     let before: Vec<u32> = (1..=words as u32).map(|word| word.wrapping_mul(0x9e37_79b9)).collect();
     let answers = [0, 1, 2].map(|which| {

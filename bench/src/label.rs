@@ -1,4 +1,4 @@
-//! The label of a segment, written from document 01.
+//! The label of a segment, written from the scope paper.
 
 use crate::reader::{self, Chunk, Fork, Refusal, refuse};
 

@@ -1,4 +1,4 @@
-//! A plain reader of bundles, written from document 01: check, with refusals 1 to 12.
+//! A plain reader of bundles, written from the scope paper: check, with refusals 1 to 12.
 
 use crate::ranges::Range;
 
