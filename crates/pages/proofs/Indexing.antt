@@ -11,7 +11,7 @@ use lib.Dec.{eqb}
 use lib.ListN.{length, getD, take, drop, length-map, length-append, length-take, List·getD-append, List·getD-eq-default, take-append-drop}
 use lib.Seq.{getD-take, getD-at}
 use Rattle.bundle.specs.Answer.{gives}
-use Rattle.bundle.specs.Commands.{Lent, written}
+use Rattle.bundle.specs.Commands.{written}
 use Rattle.bundle.proofs.Tests.{cond-elim}
 use Rattle.text.specs.Lines.{countsLine, raceLine, pairsLine, raceFreeLine, printedAt}
 use Rattle.text.proofs.LineEnds.{line-some, counts-ends, race-ends, pairs-ends, race-free-ends}
@@ -92,10 +92,6 @@ last-free n e = rw (eq-eqb n 0 e)
 pub last-pairs : (n : ℕ) → (n ≡ 0 → ⊥) → lastLine n ≡ pairsLine n
 unfolding lastLine
 last-pairs n e = rw (ne-eqb n 0 e)
-
--- a line put, said otherwise
-pub printed-as : {a b : List ℕ} (s : List ℕ) (at : ℕ) {x : Lent ℕ} → a ≡ b → printedAt b s at ≡ x → printedAt a s at ≡ x
-printed-as s at e p = ap (λ (l : List ℕ). printedAt l s at) e ∙ p
 
 -- an empty line is put anywhere
 pub printed-none : (s : List ℕ) (at : ℕ) → printedAt [] s at ≡ record { answer = gives at; buffer = s }

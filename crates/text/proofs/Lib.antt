@@ -7,3 +7,4 @@ pub mod LineEnds
 pub mod Printing
 pub mod Reading
 pub mod Examples
+pub mod LineLengths

@@ -21,6 +21,10 @@ pub print-written : (line s new : List ℕ) (at : ℕ) → length line ≤ lengt
 unfolding printedAt
 print-written line s new at h e = rw (le-leb (length line) (length s - at) h, e)
 
+-- a line put, said otherwise
+pub printed-as : {a b : List ℕ} (s : List ℕ) (at : ℕ) {x : Lent ℕ} → a ≡ b → printedAt b s at ≡ x → printedAt a s at ≡ x
+printed-as s at e p = ap (λ (l : List ℕ). printedAt l s at) e ∙ p
+
 -- a line that was made from position 0 on
 module _ {s t : List ℕ} {r most : ℕ} {line : List ℕ} (made : Extended s t 0 r most line) where
   pub made-fits : length s ≡ 96 → most ≤ 96 → r ≤ length t

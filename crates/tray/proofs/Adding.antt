@@ -94,10 +94,6 @@ module _ {s t : List ℕ} {n : ℕ} (j : Judgement) (v : Verdict) (made : Extend
   pub judged-printed : (u : List ℕ) (at : ℕ) {x : Lent ℕ} → printedAt (take n t) u at ≡ x → printedAt (verdictLine j v) u at ≡ x
   judged-printed u at e = ap (λ (l : List ℕ). printedAt l u at) (sym (made .text)) ∙ e
 
--- a line put, said otherwise
-pub printed-as : {a b : List ℕ} (s : List ℕ) (at : ℕ) {x : Lent ℕ} → a ≡ b → printedAt b s at ≡ x → printedAt a s at ≡ x
-printed-as s at e p = ap (λ (l : List ℕ). printedAt l s at) e ∙ p
-
 -- what was put from position 0 on lies in the buffer
 pub put-within : (line s : List ℕ) {t : List ℕ} (p : Putting) → printedAt line s 0 ≡ record { answer = puttingOf p; buffer = t } → nextOf (puttingOf p) ≤ length t
 put-within line s {t} p e = go (decLe (length line) (length s - 0))

@@ -15,7 +15,6 @@ use Rattle.bundle.proofs.ListLaws.{any-elim, any-intro}
 use Rattle.verdict.specs.Races.{racesOf}
 use Rattle.verdict.specs.Judge.{verdictOf, judgementOf, judgedOf}
 use Rattle.verdict.specs.declared.race.Race.{Race}
-use Rattle.verdict.specs.declared.race.Verdict.the-variants as Ver
 use Rattle.verdict.proofs.RaceList.{races-elim, races-intro}
 use Rattle.tray.specs.declared.word.Outcome.{Outcome}
 use Rattle.tray.specs.declared.word.Outcome.the-variants as Out

@@ -1,5 +1,5 @@
 -- One file of a build, from what the functions below promise; and all of its files, one after another. Assumes nothing.
-use mathlib.Core.Path.{_≡_, refl, sym, ap, _∙_}
+use mathlib.Core.Path.{_≡_, refl, ap, _∙_}
 use mathlib.Core.List.{List, map}
 use mathlib.Core.Option.{some}
 use Prim.Native.Nat.{ℕ, _≤_}
@@ -7,7 +7,7 @@ use lib.ListN.{length, take}
 use borrow.Author.Tests.{le-ltb}
 use Rattle.bundle.specs.Commands.{Lent, puttingOf}
 use Rattle.bundle.specs.declared.command.Putting.{Putting}
-use Rattle.verdict.specs.Judge.{overWork, judgedOf, judgeOf, judgingOf}
+use Rattle.verdict.specs.Judge.{overWork, judgeOf, judgingOf}
 use Rattle.verdict.specs.declared.race.Judgement.{Judgement}
 use Rattle.verdict.specs.declared.race.Judging.{Judging}
 use Rattle.text.specs.Lines.{printedAt}
@@ -17,7 +17,7 @@ use Rattle.tray.specs.declared.word.Word.{Word}
 use Rattle.tray.specs.declared.word.Word.the-variants as Wor
 use Rattle.tray.specs.Words.{outcomeOf, afterOutcome, afterAll, File, fileOutcome, buildWord}
 use Rattle.tray.specs.Texts.{bundleLine, unreadableLine}
-use Rattle.tray.specs.Telling.{Telling, Judged, toldOf, unreadableTold, judgedTold}
+use Rattle.tray.specs.Telling.{Telling, Judged, unreadableTold, judgedTold}
 use Rattle.tray.specs.Inner.{nextOf}
 use Rattle.tray.proofs.WordLaws.{word-all}
 use Rattle.tray.proofs.Adding.{put-within}

@@ -10,6 +10,7 @@ use bundle::command::Command;
 use bundle::command::Putting;
 use bundle::command::Range;
 use bundle::command::Reading;
+use bundle::command::kind_of;
 
 fn put_kind(kind: AccessKind) {
     match kind {
@@ -80,15 +81,6 @@ pub fn read(body: &[u8]) -> bool {
     }
     put_reading(bundle::command::read_command(&body[8..], position_of(body)));
     true
-}
-
-fn kind_of(byte: u8) -> AccessKind {
-    match byte {
-        0x30 => AccessKind::Read,
-        0x31 => AccessKind::Write,
-        0x32 => AccessKind::AtomicRead,
-        _ => AccessKind::AtomicWrite,
-    }
 }
 
 fn access_of(record: &[u8]) -> Access {

@@ -1,6 +1,7 @@
 -- `pages::line::put_last` meets its contract. Assumes nothing.
 use borrow.Author.Needs.{needs}
-use Rattle.pages.proofs.Indexing.{last-free, last-pairs, printed-as}
+use Rattle.pages.proofs.Indexing.{last-free, last-pairs}
+use Rattle.text.proofs.Printing.{printed-as}
 use Rattle.pages.proofs.line.put_last.Statement.{statement}
 use Rattle.pages.proofs.line.put_last.Tie as tie
 

@@ -1,7 +1,8 @@
 -- `pages::line::put_line_at` meets its contract. Assumes nothing.
 use denote.Ref.{now}
 use borrow.Author.Needs.{needs}
-use Rattle.pages.proofs.Indexing.{line-first, race-read, at-race, at-last, at-none, printed-as, printed-none}
+use Rattle.pages.proofs.Indexing.{line-first, race-read, at-race, at-last, at-none, printed-none}
+use Rattle.text.proofs.Printing.{printed-as}
 use Rattle.pages.proofs.line.put_line_at.Statement.{statement}
 use Rattle.pages.proofs.line.put_line_at.Tie as tie
 

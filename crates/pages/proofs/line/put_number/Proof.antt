@@ -3,7 +3,7 @@ use mathlib.Core.Path.{sym, ap, _∙_}
 use denote.Ref.{now}
 use borrow.Author.Needs.{needs}
 use Rattle.text.specs.Lines.{raceLine}
-use Rattle.pages.proofs.Indexing.{printed-as}
+use Rattle.text.proofs.Printing.{printed-as}
 use Rattle.pages.proofs.Texts.{made-line}
 use Rattle.pages.proofs.line.put_number.Statement.{statement}
 use Rattle.pages.proofs.line.put_number.Tie as tie

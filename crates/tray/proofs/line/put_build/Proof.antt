@@ -1,7 +1,7 @@
 -- `tray::line::put_build` meets its contract. Assumes nothing.
 use mathlib.Core.Path.{ap}
 use Rattle.tray.specs.Texts.{buildLine}
-use Rattle.tray.proofs.Adding.{printed-as}
+use Rattle.text.proofs.Printing.{printed-as}
 use borrow.Author.Needs.{needs}
 use Rattle.tray.proofs.line.put_build.Statement.{statement}
 use Rattle.tray.proofs.line.put_build.Tie as tie

@@ -3,7 +3,7 @@ use mathlib.Core.Path.{sym, ap, _∙_}
 use Rattle.verdict.specs.Judge.{judgingOf}
 use Rattle.text.specs.Lines.{refusedLine}
 use Rattle.tray.specs.Texts.{bundleLine}
-use Rattle.tray.proofs.Adding.{printed-as}
+use Rattle.text.proofs.Printing.{printed-as}
 use borrow.Author.Needs.{needs}
 use Rattle.tray.proofs.line.put_bundle.Statement.{statement}
 use Rattle.tray.proofs.line.put_bundle.Tie as tie
