@@ -8,10 +8,9 @@ use crate::word::outcome_of;
 use bundle::command::Putting;
 use verdict::judge::judge;
 ghost use mathlib.Core.Path.{_≡_};
-ghost use mathlib.Core.List.{[]};
 ghost use Rattle.bundle.specs.Commands.{puttingOf};
 ghost use Rattle.verdict.specs.Judge.{judgeOf};
-ghost use Rattle.tray.specs.Telling.{toldOf, unreadableTold};
+ghost use Rattle.tray.specs.Telling.{judgedTold, unreadableTold};
 
 // The build's word so far, and where the line ends.
 pub struct Told {
@@ -27,7 +26,7 @@ pub fn tell_bundle(
     buffer: &mut [u8],
     position: usize,
 ) -> Told
-    ensures { λ r. ⌜ toldOf (judgeOf (now (bytes .entry)) (now (work .entry))) word (now (buffer .entry)) position ≡ record { word = r .word; line = puttingOf (r .line); buffer = now (buffer .exit); work = now (work .exit) } ⌝ }
+    ensures { λ r. ⌜ judgedTold (judgeOf (now (bytes .entry)) (now (work .entry))) word (now (buffer .entry)) position ≡ record { told = record { word = r .word; line = puttingOf (r .line); buffer = now (buffer .exit) }; work = now (work .exit) } ⌝ }
 {
     let judging = judge(bytes, work);
     Told {
@@ -38,7 +37,7 @@ pub fn tell_bundle(
 
 // A file that could not be read.
 pub fn tell_unreadable(word: Word, buffer: &mut [u8], position: usize) -> Told
-    ensures { λ r. ⌜ unreadableTold word (now (buffer .entry)) position ≡ record { word = r .word; line = puttingOf (r .line); buffer = now (buffer .exit); work = [] } ⌝ }
+    ensures { λ r. ⌜ unreadableTold word (now (buffer .entry)) position ≡ record { word = r .word; line = puttingOf (r .line); buffer = now (buffer .exit) } ⌝ }
 {
     Told {
         word: after(word, Outcome::Refused),

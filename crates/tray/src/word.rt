@@ -60,7 +60,7 @@ fn after_race_free(word: Word) -> Word
     match word {
         Word::Missing => Word::RaceFree,
         Word::RaceFree => Word::RaceFree,
-        Word::Refused => Word::Refused,
+        Word::Refused => Word::Refused, // it stays refused
         Word::Race => Word::Race,
     }
 }
