@@ -19,7 +19,7 @@ SIGNS = {"race": "✗", "refused": "⚠", "missing": "–", "race-free": "✓"} 
 MOST_RACES = 200  # of a bundle
 ALL_RACES = 1200  # of the page, if there are many bundles with races
 MANY_NOTES = 20  # more are folded
-MOST_PAGE = 5_000_000  # bytes; past them a bundle gets one line
+MOST_PAGE = 3_000_000  # bytes; past them a bundle gets one line
 
 
 def text(value):
