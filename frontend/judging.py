@@ -4,7 +4,8 @@ Where a run is not whole, the bundle that ended it is looked for, gets an empty 
 program counts that bundle as one that it could not read. Where that fails too, the word is `refused`, with the reason.
 """
 
-from concurrent.futures import FIRST_COMPLETED, ThreadPoolExecutor, wait
+import queue
+from concurrent.futures import ThreadPoolExecutor
 
 from frontend.failures import reason_of
 from frontend.tray import open_file, why_not_opened
@@ -70,21 +71,38 @@ def judge_again(programs, names, folder):
 def in_parallel(programs, jobs, tasks, done, tick=lambda: None):
     """Runs each of the tasks, some at a time, and calls done(task's item) in this thread, and tick() now and then. A task is
     (function, item)."""
+    ended = queue.SimpleQueue()
+
+    def work(function, item):
+        try:
+            function(programs, item)
+            ended.put((item, None))
+        except BaseException as error:
+            ended.put((item, error))
+
     pool = ThreadPoolExecutor(jobs)
     try:
-        pending = {pool.submit(function, programs, item): item for function, item in tasks}
-        while pending:
-            ended, _ = wait(pending, timeout=0.2, return_when=FIRST_COMPLETED)
-            tick()
-            for future in ended:
-                item = pending.pop(future)
-                future.result()
-                done(item)
+        for function, item in tasks:
+            pool.submit(work, function, item)
+        for _ in tasks:
+            item, error = next_of(ended, tick)
+            if error:
+                raise error
+            done(item)
     except BaseException:
         programs.stop.set()
         pool.shutdown(wait=True, cancel_futures=True)
         raise
     pool.shutdown()
+
+
+def next_of(ended, tick):
+    while True:
+        tick()
+        try:
+            return ended.get(timeout=0.2)
+        except queue.Empty:
+            pass
 
 
 def judge_all(programs, jobs, builds, progress):

@@ -19,7 +19,8 @@ SIGNS = {"race": "✗", "refused": "⚠", "missing": "–", "race-free": "✓"} 
 MOST_RACES = 200  # of a bundle
 ALL_RACES = 1200  # of the page, if there are many bundles with races
 MANY_NOTES = 20  # more are folded
-MOST_PAGE = 5_000_000  # bytes; past them a bundle gets one line
+MANY_BUNDLES = 60  # more are laid out as they come into sight
+MOST_PAGE = 3_000_000  # bytes; past them a bundle gets one line
 
 
 def text(value):
@@ -63,6 +64,7 @@ class Page:
         )
         sheet = f", sheet <span class=\"name\">{text(self.sheet)}</span>" if self.sheet else ""
         bundles_there = sum(len(b.bundles) for b in self.builds)
+        many = ' class="many"' if sum(len(b.not_free()) for b in self.builds) > MANY_BUNDLES else ""
         return f"""<!DOCTYPE html>
 <html lang="en">
 <head>
@@ -73,7 +75,7 @@ class Page:
 <title>Verdicts: {text(self.tray)}</title>
 <style>{style}</style>
 </head>
-<body>
+<body{many}>
 <h1>Verdicts</h1>
 <p class="soft">Tray <span class="name">{text(self.tray)}</span>{sheet}: {counted(len(self.builds), "build")},
 {counted(bundles_there, "bundle")}. {made_at()}</p>
