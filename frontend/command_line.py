@@ -132,7 +132,7 @@ def parser():
 def command_of(options):
     """The function for a command; only its modules are loaded."""
     if options.command == "tray":
-        from frontend.monday import judge_tray
+        from frontend.job import judge_tray
 
         return judge_tray
     from frontend import single

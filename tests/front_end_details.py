@@ -183,12 +183,9 @@ class Pages(Case):
         self.assertEqual(len(rows), len(refusals.REFUSALS))
 
     def test_readme_shows_the_example(self):
-        text = readme_lines.readme()
-        if "./dezhakom tray" not in text:
-            self.skipTest("README.md has no section on trays")
-        for name in ("builds.csv", "verdicts.csv"):
-            self.assertIn(f"examples/{name}", text)
-        self.assertIn((ROOT / "examples" / "verdicts.csv").read_text(), text)
+        examples = {example.command: example.wanted for example in readme_lines.examples(readme_lines.readme())}
+        self.assertIn((ROOT / "examples" / "verdicts.csv").read_text().splitlines(), examples.values())
+        self.assertTrue([c for c in examples if "./dezhakom tray examples/tray --sheet examples/builds.csv" in c])
 
     def test_readable_names(self):
         self.assertEqual(readable("plain"), "plain")

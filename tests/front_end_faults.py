@@ -1,4 +1,4 @@
-"""Programs that die, hang or print nonsense cost their bundle its word, never the Monday."""
+"""Programs that die, hang or print nonsense cost their bundle its word and nothing else."""
 
 import os
 import signal

@@ -265,9 +265,9 @@ class Statuses(Case):
         for error in ("ValueError('x')", "RecursionError()", "MemoryError()", "SystemExit(1)", "AssertionError()"):
             text = (
                 "import sys; sys.path.insert(0, sys.argv[1])\n"
-                "from frontend import command_line, monday\n"
+                "from frontend import command_line, job\n"
                 f"def fail(options): raise {error}\n"
-                "monday.judge_tray = fail\n"
+                "job.judge_tray = fail\n"
                 "command_line.run(['tray', '.'])\n"
             )
             ended = subprocess.run([sys.executable, "-c", text, ROOT], capture_output=True)
