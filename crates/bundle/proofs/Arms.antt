@@ -1,7 +1,7 @@
 -- What each arm of decoding answers, at the byte that stands at the position; and what reading makes of it.
 -- Assumes nothing.
 use mathlib.Core.Path.{_≡_, refl, sym, ap, _∙_}
-use mathlib.Core.Bool.{Bool, true, false, cond}
+use mathlib.Core.Bool.{true, false}
 use mathlib.Core.List.{List}
 use mathlib.Core.Option.{none}
 use Prim.Native.Nat.{ℕ, suc, _+_, _-_, _≤_, _<_}
@@ -51,21 +51,6 @@ module _ {b : ℕ} (s : List ℕ) (at : ℕ) (stands : StandsAt s at b) where
         le-ltb (length s - at) (widthOf b) h,
         ← e,
       ))
-
--- one of two bytes with operands of the same width, told by a flag
-either-width : (t : Bool) (x y w : ℕ) → widthOf x ≡ w → widthOf y ≡ w → widthOf (cond t x y) ≡ w
-either-width true x y w e f = e
-either-width false x y w e f = f
-
-module _ (t : Bool) (x y : ℕ) (s : List ℕ) (at : ℕ) (stands : StandsAt s at (cond t x y)) where
-  pub either-cut : (w : ℕ) → widthOf x ≡ w → widthOf y ≡ w → length s - at < w → refuses 3 at ≡ decodeAt s at
-  either-cut w e f h = decode-cut s at stands (rw (either-width t x y w e f) h)
-
-  pub stands-one : t ≡ true → StandsAt s at x
-  stands-one e = record { within = stands .within; byte = stands .byte ∙ ap (λ (b : Bool). cond b x y) e }
-
-  pub stands-other : t ≡ false → StandsAt s at y
-  stands-other e = record { within = stands .within; byte = stands .byte ∙ ap (λ (b : Bool). cond b x y) e }
 
 module _ (s : List ℕ) (at : ℕ) (stands : AccessAt s at) where
   access-stands : StandsAt s at (getD s at 0)

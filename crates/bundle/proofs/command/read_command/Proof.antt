@@ -12,24 +12,24 @@ returns : tie.Need-returns
 returns c = read-not _ _ 18 _ (decode-past _ _ (c .if1 .taken))
 
 returns-2 : tie.Need-returns-2
-returns-2 c = read-accepted _ _ (c .before .decode-team .ensures) (c .accept .ensures)
+returns-2 c = read-accepted _ _ (c .before .decode-member .ensures) (c .accept .ensures)
 
 returns-3 : tie.Need-returns-3
 unfolding formOf sum widthOf commandAt codeOf widthsOf fitWidths operandsOk inRange
 returns-3 c = read-whole _ _ _ (decode-whole _ _ (record { within = c .before .before .if1 .left; byte = c .match .keys2 }) _ (omega arith) (search needs) refl) refl
 
 returns-4 : tie.Need-returns-4
-returns-4 c = read-accepted _ _ (c .before .decode-team2 .ensures) (c .accept2 .ensures)
+returns-4 c = read-accepted _ _ (c .before .decode-region .ensures) (c .accept2 .ensures)
 
 returns-5 : tie.Need-returns-5
 unfolding formOf sum widthOf commandAt codeOf widthsOf fitWidths operandsOk inRange
 returns-5 c = read-whole _ _ _ (decode-whole _ _ (record { within = c .before .before .if1 .left; byte = c .match .keys4 }) _ (omega arith) (search needs) refl) refl
 
 returns-6 : tie.Need-returns-6
-returns-6 c = read-accepted _ _ (c .before .decode-lock .ensures) (c .accept3 .ensures)
+returns-6 c = read-accepted _ _ (c .before .decode-acquire .ensures) (c .accept3 .ensures)
 
 returns-7 : tie.Need-returns-7
-returns-7 c = read-accepted _ _ (c .before .decode-lock2 .ensures) (c .accept4 .ensures)
+returns-7 c = read-accepted _ _ (c .before .decode-release .ensures) (c .accept4 .ensures)
 
 returns-8 : tie.Need-returns-8
 returns-8 c = read-accepted _ _ (c .before .decode-access .ensures) (c .accept5 .ensures)
