@@ -21,7 +21,7 @@ programs; this front end walks the tray, runs them, and writes the spreadsheet a
 
 STATUSES = """\
 exit status:
-  0  every build is race-free (list: the bundle is race-free; check, show, graph: it is accepted)
+  0  every build is race-free (list: the bundle is race-free; check, show, graph, canon: it is accepted)
   1  some build or bundle is not
   2  the job could not be done, or was stopped: there is no verdict, and no file was changed"""
 
@@ -51,6 +51,11 @@ example:
   ./dezhakom tray TRAY --sheet builds.csv --out verdicts.csv --page report.html
 
 Files are written whole and last: a job that is stopped leaves the old ones as they were."""
+
+
+CANON = """\
+example (are these two the same run?):
+  ./dezhakom canon ONE --out one.fixed && ./dezhakom canon OTHER --out other.fixed && cmp one.fixed other.fixed"""
 
 
 def jobs_of(text):
@@ -121,7 +126,13 @@ def parser():
     graph = add(
         "graph", "print the fork-join graph of a bundle", "Prints the segments and the edges of the graph of an accepted bundle."
     )
-    for made in (listing, check, show, graph):
+    canon = add(
+        "canon", "write a bundle with its chunks in the fixed order",
+        "Writes an accepted bundle with its chunks by team, then member: two bundles come out as equal bytes exactly when they hold the same chunks.",
+        CANON + "\n\n" + STATUSES,
+    )
+    canon.add_argument("--out", metavar="OUT", help="the file to write, whole and last (default: standard output)")
+    for made in (listing, check, show, graph, canon):
         made.add_argument("file", metavar="FILE", help=one)
     form = graph.add_mutually_exclusive_group()
     form.add_argument("--svg", metavar="OUT", help="write a picture instead")
@@ -137,7 +148,13 @@ def command_of(options):
         return judge_tray
     from frontend import single
 
-    return {"list": single.list_file, "check": single.check_file, "show": single.show_file, "graph": single.graph_file}[options.command]
+    return {
+        "list": single.list_file,
+        "check": single.check_file,
+        "show": single.show_file,
+        "graph": single.graph_file,
+        "canon": single.canon_file,
+    }[options.command]
 
 
 def stop_on_signals(stop):

@@ -89,16 +89,16 @@ class Programs:
         lacking = [n for n in names if not (os.path.isfile(self.path(n)) and os.access(self.path(n), os.X_OK))]
         if lacking:
             raise CannotDo(
-                f"no program {' and no '.join(self.path(n) for n in lacking)}; build with: rt check judge_build racelist"
+                f"no program {' and no '.join(self.path(n) for n in lacking)}; build with: rt check {' '.join(names)}"
             )
 
-    def start(self, name, given, folder=None):
+    def start(self, name, given, folder=None, errors=subprocess.DEVNULL):
         """Starts a program; given is what it reads: bytes, or an open file."""
         stdin = subprocess.PIPE if isinstance(given, bytes) else given
         for tries in range(MOST_TRIES):
             try:
                 process = subprocess.Popen(
-                    [self.path(name)], stdin=stdin, stdout=subprocess.PIPE, stderr=subprocess.DEVNULL, cwd=folder, bufsize=0
+                    [self.path(name)], stdin=stdin, stdout=subprocess.PIPE, stderr=errors, cwd=folder, bufsize=0
                 )
                 break
             except OSError as error:
@@ -206,6 +206,30 @@ class Programs:
         finally:
             end(process)
         return counts, races, None
+
+
+    # ------------------------------------------------------------------ canon
+
+    def rewrite(self, data):
+        """What canon writes of a bundle to standard output, and to standard error."""
+        process = self.start("canon", subprocess.PIPE, errors=subprocess.PIPE)
+        deadline = time.monotonic() + self.timeout
+        try:
+            while True:
+                if self.stop.is_set():
+                    raise Stopped()
+                try:
+                    written, said = process.communicate(data, timeout=TICK)
+                    break
+                except subprocess.TimeoutExpired:
+                    if time.monotonic() > deadline:
+                        raise Failed(f"the program gave no answer within {self.timeout:g} s") from None
+                    data = None  # it is on its way
+        finally:
+            end(process)
+        if process.returncode:
+            raise Failed(f"the program ended too early, with status {process.returncode}")
+        return written, said
 
 
 class Failed(Exception):

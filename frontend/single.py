@@ -1,4 +1,4 @@
-"""The commands for one bundle: list, check, show, graph. Whether it is accepted is racelist's word."""
+"""The commands for one bundle: list, check, show, graph, canon. Whether it is accepted is a proved program's word."""
 
 import html
 import os
@@ -22,9 +22,9 @@ def read_input(name):
         raise CannotDo(f"{readable(name)} cannot be read: {reason_of(error)}") from error
 
 
-def programs_of(options):
+def programs_of(options, name="racelist"):
     programs = Programs(options.programs, options.timeout, options.stop)
-    programs.demand("racelist")
+    programs.demand(name)
     return programs
 
 
@@ -116,6 +116,37 @@ def plain_dump(data, place):
         return f"{place:6}  (the end of the log)"
     more = " .." if place + 16 < len(data) else ""
     return f"{place:6}  {data[place : place + 16].hex(' ')}{more}"
+
+
+# ---------------------------------------------------------------------- canon
+
+
+def canon_file(options):
+    """Writes the bundle with its chunks in the fixed order: to standard output, or whole and last to a file."""
+    from frontend.outputs import demand_writable, write_all
+
+    if options.out:
+        demand_writable([options.out])
+    elif sys.stdout.isatty():
+        raise CannotDo("a bundle is no text for a terminal: give --out, or send the output to a file")
+    programs = programs_of(options, "canon")
+    data = read_input(options.file)
+    try:
+        written, said = programs.rewrite(data)
+    except Failed as failure:
+        raise CannotDo(f"nothing was written: {failure}") from failure
+    if written and len(written) == len(data) and not said:
+        if options.out:
+            write_all([(options.out, written)])
+        else:
+            sys.stdout.buffer.write(written)
+            sys.stdout.buffer.flush()
+        return 0
+    found = REFUSED_LINE.fullmatch(said.rstrip(b"\n"))
+    if written or not found:
+        raise CannotDo("nothing was written: the output of canon is not whole")
+    sys.stderr.write(told(tuple(map(int, found.groups())), data) + "\n")
+    return 1
 
 
 # ---------------------------------------------------------------------- graph

@@ -324,8 +324,29 @@ class Single(Case):
         self.assertTrue(picture.read_text().startswith("<svg"))
         self.assertEqual(self.run_command("graph", "-", input=TORN).status, 1)
 
+    def test_canon(self):
+        rng = random.Random(17)
+        for _ in range(20):
+            chunks = sr.check(data := generators.random_bundle(rng, rng.choice(generators.STYLES))).chunks
+            parts = [data[c.offset : c.end] for c in chunks]
+            rng.shuffle(parts)
+            wanted, _ = sr.canon(data)
+            for given in (data, b"".join(parts), wanted):
+                path, out = self.folder / "given", self.folder / "fixed"
+                path.write_bytes(given)
+                self.assertEqual(self.run_command("canon", path, "--out", out), (0, "", ""))
+                self.assertEqual(out.read_bytes(), wanted)
+        line = f'"{sys.executable}" "{SCRIPT}" canon given | cmp - fixed'
+        environment = {**os.environ, "DEZHAKOM_PROGRAMS": str(setting.programs)}
+        self.assertEqual(subprocess.run(["sh", "-c", line], cwd=self.folder, env=environment).returncode, 0)
+        for data, said in ((TORN, "refused 3 at 31: "), (b"", "refused 10 at 0: "), (bytes(70000), "refused 1 at 0: ")):
+            path.write_bytes(data)
+            ended = self.run_command("canon", path, "--out", out)
+            self.assertEqual((ended.status, ended.out, ended.err.startswith(said)), (1, "", True), ended)
+            self.assertEqual(out.read_bytes(), wanted)
+
     def test_files_that_cannot_be_read(self):
-        for command in ("list", "check", "show", "graph"):
+        for command in ("list", "check", "show", "graph", "canon"):
             for name in (self.folder / "none", self.tray):
                 ended = self.run_command(command, name)
                 self.assertEqual(ended.status, 2)
