@@ -54,18 +54,18 @@ def examples(text):
     return found
 
 
-def run_examples(racelist, judge_build):
-    """Runs the examples with these programs; without judge_build those of the front end are left out. Answers how many were run."""
+def run_examples(programs):
+    """Runs the examples with these programs, by name; without judge_build those of the front end are left out. Answers how many
+    were run."""
     count = 0
     with tempfile.TemporaryDirectory() as folder:
-        for name, path in (("racelist", racelist), ("judge_build", judge_build)):
-            if path is not None:
-                (Path(folder) / name).symlink_to(Path(path).absolute())
+        for name, path in programs.items():
+            (Path(folder) / name).symlink_to(Path(path).absolute())
         for example in examples(readme()):
             command = BUILDING.sub("", example.command)
-            if command in NOT_RUN or (judge_build is None and not PROGRAM in command):
+            if command in NOT_RUN or ("judge_build" not in programs and PROGRAM not in command):
                 continue
-            given = run(command.replace(PROGRAM, str(racelist)), folder)
+            given = run(command.replace(PROGRAM, str(programs["racelist"])), folder)
             want(example.command, given, example.wanted)
             count += 1
     return count
