@@ -1,7 +1,8 @@
 -- The bytes of a bundle's chunks: they tell team and member, and a bundle in another order has the same.
 use Prim.Native.Nat.{ℕ, _<_}
 use mathlib.Core.Path.{_≡_, refl, sym, _∙_, ap, subst}
-use mathlib.Core.List.{List, [], _∷_, _++_, map, map-map, List·Memᴰ, List·Memᴰ·head, List·Memᴰ·tail, List·Permᴰ, Permᴰ·symm}
+use mathlib.Core.Bool.{true}
+use mathlib.Core.List.{List, [], _∷_, map, map-map, List·Memᴰ, List·Memᴰ·head, List·Memᴰ·tail, List·Permᴰ, Permᴰ·symm}
 use mathlib.Core.Option.{some}
 use native.Mathlib.Omega.{arith}
 use lib.ListN.{length, getD}
@@ -12,6 +13,7 @@ use Rattle.bundle.specs.Cases.{onDelimiter}
 use Rattle.bundle.specs.Chunks.{Chunk, chunksOf, commandsOf, partOf}
 use Rattle.bundle.specs.Scan.{start}
 use Rattle.bundle.specs.Check.{Accepted, Reordered}
+use Rattle.bundle.specs.declared.command.Command.{Command}
 use Rattle.bundle.specs.declared.command.Command.the-variants as Com
 use Rattle.bundle.proofs.ListLaws.{perm-mem, perm-map, perm-length, perm-concatMap, concatMap-intro, Distinct}
 use Rattle.bundle.proofs.Places.{unplaced, memberKey, commandsOf-unplaced}
@@ -45,7 +47,7 @@ mem-bytes : (s : List ℕ) → ((x : ℕ) → List·Memᴰ x s → x < 256) → 
 mem-bytes s h i l = h (getD s i 0) (at-mem s i (at-getD s i 0 l))
 
 -- team and member as the first command of a chunk's bytes tells them
-unfoldable nameIn : Answer Taken → List ℕ
+abbrev nameIn : Answer Taken → List ℕ
 nameIn (gives t) = onDelimiter [] (λ team member. team ∷ member ∷ []) [] (t .command)
 nameIn (refuses n p) = []
 
@@ -58,9 +60,9 @@ module _ (b : List ℕ) (bytes : Bytes b) (ok : Accepted b) where
   part-name c m =
       ap (λ (s : List ℕ). nameIn (decodeAt s 0)) (part-printed b bytes ok c m)
       ∙ unfold logOf printed in
-      (ap nameIn (decode-printed [] (concatMap bytesOf (commandsOf c)) first in-range) ∙ unfold nameIn in refl)
+      (ap nameIn (decode-printed [] (concatMap bytesOf (commandsOf c)) first in-range))
     where
-      first : _
+      first : Command
       first = Com.Member (c .team) (c .member)
 
       in-range : inRange first ≡ true

@@ -2,7 +2,7 @@
 use Prim.Native.Nat.{ℕ, _≤_, _<_}
 use mathlib.Core.Path.{_≡_, refl, sym, _∙_, ap, subst}
 use mathlib.Core.List.{List, _++_, map, List·Permᴰ, List·Permᴰ·trans, Permᴰ·symm}
-use native.Mathlib.Omega.{arith}
+use native.Mathlib.Nat.{zero-add}
 use lib.ListN.{length, drop}
 use borrow.Author.Tests.{lt-ltb, le-ltb}
 use Rattle.bundle.specs.Answer.{gives, refuses}
@@ -36,14 +36,14 @@ module _ (b c : List ℕ) (bytes : Bytes b) (bytes′ : Bytes c) (ok : Accepted 
 
   same-chunks : rewritten b ≡ rewritten c → SameChunks b c
   same-chunks e =
-      List·Permᴰ·trans (reordered-chunks b (rewritten b) bytes ok (in-some-order b))
+      List·Permᴰ·trans {l₃ = chunkBytes c} (reordered-chunks b (rewritten b) bytes ok (in-some-order b))
       (rw e (Permᴰ·symm (reordered-chunks c (rewritten c) bytes′ ok′ (in-some-order c))))
 
 -- what the operation does with the result
 module _ (b buffer : List ℕ) (ok : Accepted b) (long : length (rewritten b) ≡ length b) where
   fills : length b ≤ length buffer → rewriteOf b buffer ≡ record { answer = gives (length b); buffer = rewritten b ++ drop (length b) buffer }
   unfolding rewriteOf rewriteAs fillingOf written
-  fills h = rw (ok, long, le-ltb (length buffer) (length b) h)
+  fills h = rw (ok, long, le-ltb (length buffer) (length b) h, zero-add (length b))
 
   short : length buffer < length b → rewriteOf b buffer ≡ record { answer = refuses 17 0; buffer = buffer }
   unfolding rewriteOf rewriteAs fillingOf

@@ -1,1 +1,6 @@
 -- Laws over the definitions.
+pub mod KeySort
+pub mod ChunkBytes
+pub mod FixedChunks
+pub mod Pieces
+pub mod WordOrder

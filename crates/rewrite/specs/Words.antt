@@ -35,7 +35,7 @@ pub record PiecesFit (s chunks words : List ℕ) (room : ℕ) : Type 0 where
   pub each : (i : ℕ) → i < length words → RowFits s (chunkRowAt chunks (getD words i 0 % 65536))
   pub all : length (pieces s chunks words) ≤ room
 
--- the words hold the rows of an accepted bundle's chunks
+-- the words hold the rows of the n chunks of an accepted bundle
 pub record ByIndex (s : List ℕ) (n : ℕ) (chunks : List ℕ) : Type 0 where
   pub accepted : checkOf s ≡ gives tt
   pub few : n ≤ 512

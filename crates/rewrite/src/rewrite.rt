@@ -82,15 +82,21 @@ fn copy_chunks(bytes: &[u8], chunks: &[u64], order: &[u64], buffer: &mut [u8])
     }
 }
 
-// The chunks of an accepted bundle, by its index, in the order of their names.
+// The same in the order of their names. The words, one for each chunk, are lent.
+fn put_in_order(bytes: &[u8], chunks: &[u64], order: &mut [u64], buffer: &mut [u8])
+    requires { ⌜ ByIndex (now bytes) (length (now order)) (now chunks) × (length (now bytes) ≤ length (now buffer)) ⌝ }
+    ensures { λ _. ⌜ now (buffer .exit) ≡ written (now (buffer .entry)) 0 (rewritten (now (bytes .entry))) ⌝ }
+{
+    order_chunks(chunks, order);
+    copy_chunks(bytes, chunks, order, buffer);
+}
+
 fn put_chunks(bytes: &[u8], chunks: &[u64], count: u32, buffer: &mut [u8])
     requires { ⌜ ByIndex (now bytes) count (now chunks) × (length (now bytes) ≤ length (now buffer)) ⌝ }
     ensures { λ _. ⌜ now (buffer .exit) ≡ written (now (buffer .entry)) 0 (rewritten (now (bytes .entry))) ⌝ }
 {
     let mut order = [0u64; MOST_SEGMENTS as usize];
-    let size = count as usize;
-    order_chunks(chunks, &mut order[..size]);
-    copy_chunks(bytes, chunks, &order[..size], buffer);
+    put_in_order(bytes, chunks, &mut order[..count as usize], buffer);
 }
 
 fn rewrite_accepted(bytes: &[u8], chunks: &[u64], count: u32, buffer: &mut [u8]) -> Rewriting

@@ -1,59 +1,52 @@
+-- `rewrite::rewrite::copy_chunks` meets its contract. The invariant: the chunks of the words passed are copied. The measure: the words left. Assumes nothing.
+use Prim.Native.Nat.{_-_}
+use lib.ListN.{length}
+use Rattle.rewrite.proofs.Pieces.{CopiedTo, copied-none, row-fits, piece-fits, copied-more, copied-all}
+use borrow.Author.Needs.{needs}
 use Rattle.rewrite.proofs.rewrite.copy_chunks.Statement.{statement}
 use Rattle.rewrite.proofs.rewrite.copy_chunks.Tie as tie
-use Rattle.rewrite.proofs.rewrite.copy_chunks.Reads as reads
-use Rattle.rewrite.proofs.rewrite.copy_chunks.Lts as lts
-use Rattle.bundle.proofs.index.chunk_at.Reads as chunk-at-reads
-use Rattle.rewrite.proofs.rewrite.copy_chunk.Reads as copy-chunk-reads
 
 abbrev Inv-loop : tie.InvT-loop
-Inv-loop bytes chunks order buffer₀ i₀ position₀ buffer i position = ?
+Inv-loop bytes chunks order buffer₀ i₀ position₀ buffer i position = CopiedTo bytes chunks order buffer₀ i position buffer
 
 abbrev μ-loop : tie.MeasureT-loop
-μ-loop bytes chunks order buffer₀ i₀ position₀ buffer i position = ?
+μ-loop bytes chunks order buffer₀ i₀ position₀ buffer i position = length order - i
 
--- src/rewrite.rt:78:5
 loop-holds : tie.Need-loop-holds Inv-loop μ-loop
-loop-holds c = ?
+loop-holds c = copied-none _ _ _ _
 
--- src/rewrite.rt:79:22
 mul-index : tie.Need-mul-index Inv-loop μ-loop
-mul-index c = ?
+mul-index c = search needs
 
--- src/rewrite.rt:79:22
 shared-slice-read-index : tie.Need-shared-slice-read-index Inv-loop μ-loop
-shared-slice-read-index c = ?
+shared-slice-read-index c = search needs
 
--- src/rewrite.rt:79:21
 cast-index : tie.Need-cast-index Inv-loop μ-loop
-cast-index c = ?
+cast-index c = search needs
 
--- src/rewrite.rt:80:38
 chunk-at-requires : tie.Need-chunk-at-requires Inv-loop μ-loop
-chunk-at-requires c κs = ?
+chunk-at-requires c κs = search needs
 
--- src/rewrite.rt:80:9
 copy-chunk-requires : tie.Need-copy-chunk-requires Inv-loop μ-loop
-copy-chunk-requires c κs = ?
+copy-chunk-requires c κs = (
+  row-fits _ _ _ _ (c .before .before .before .before .before .before .before .before .before .pre) (c .before .before .before .before .loop .inv) (c .before .before .before .loop-test .taken) (c .before .chunk-at .ensures),
+  piece-fits _ _ _ _ (c .before .before .before .before .before .before .before .before .before .pre) (c .before .before .before .before .loop .inv) (c .before .before .before .loop-test .taken) (c .before .chunk-at .ensures),
+)
 
--- src/rewrite.rt:81:9
 add-i : tie.Need-add-i Inv-loop μ-loop
-add-i c = ?
+add-i c = search needs
 
--- src/rewrite.rt:78:5
 loop-less : tie.Need-loop-less Inv-loop μ-loop
-loop-less c = ?
+loop-less c = search needs
 
--- src/rewrite.rt:78:5
 loop-again : tie.Need-loop-again Inv-loop μ-loop
-loop-again c = ?
+loop-again c = copied-more _ _ _ _ (c .before .before .before .before .before .before .before .before .before .before .before .before .pre) (c .before .before .before .before .before .before .before .loop .inv) (c .before .before .before .before .before .before .loop-test .taken) (c .before .before .before .before .chunk-at .ensures) (c .before .before .copy-chunk .ensures .0) (search needs) (c .before .before .copy-chunk .ensures .1)
 
--- src/rewrite.rt:72:1
 same-length : tie.Need-same-length Inv-loop μ-loop
-same-length c = ?
+same-length c = c .before .loop .inv .long
 
--- src/rewrite.rt:72:1
 returns : tie.Need-returns Inv-loop μ-loop
-returns c = ?
+returns c = copied-all _ _ _ _ (c .before .before .before .before .before .before .pre) (c .before .loop .inv) (c .loop-test .left)
 
 pub copy-chunks-spec : {M : Type 1} → statement M
 copy-chunks-spec =

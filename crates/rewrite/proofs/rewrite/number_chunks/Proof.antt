@@ -1,63 +1,60 @@
+-- `rewrite::rewrite::number_chunks` meets its contract. The invariant: the words of the chunks passed are written. The measure: those left. Assumes nothing.
+use Prim.Native.Nat.{_≤_, _-_}
+use mathlib.Core.Path.{_≡_, refl, sym}
+use lib.ListN.{length, take}
+use Rattle.bundle.specs.Index.{table}
+use Rattle.bundle.proofs.Tables.{table-none}
+use Rattle.bundle.proofs.TeamOrder.{written-more, written-all}
+use Rattle.rewrite.specs.Words.{nameWord}
+use borrow.Author.Needs.{needs}
 use Rattle.rewrite.proofs.rewrite.number_chunks.Statement.{statement}
 use Rattle.rewrite.proofs.rewrite.number_chunks.Tie as tie
-use Rattle.rewrite.proofs.rewrite.number_chunks.Reads as reads
-use Rattle.rewrite.proofs.rewrite.number_chunks.Lts as lts
-use Rattle.bundle.proofs.index.chunk_at.Reads as chunk-at-reads
-use Rattle.rewrite.proofs.rewrite.word_of.Reads as word-of-reads
 
 abbrev Inv-loop : tie.InvT-loop
-Inv-loop chunks order₀ i₀ order i = ?
+Inv-loop chunks order₀ i₀ order i = (i ≤ length order₀) × (length order ≡ length order₀) × (take i order ≡ table (nameWord chunks) i)
 
 abbrev μ-loop : tie.MeasureT-loop
-μ-loop chunks order₀ i₀ order i = ?
+μ-loop chunks order₀ i₀ order i = length order₀ - i
 
--- src/rewrite.rt:44:5
 loop-holds : tie.Need-loop-holds Inv-loop μ-loop
-loop-holds c = ?
+loop-holds c = (search needs, refl, sym (table-none _))
 
--- src/rewrite.rt:45:45
 cast-chunk-at : tie.Need-cast-chunk-at Inv-loop μ-loop
-cast-chunk-at c = ?
+cast-chunk-at c = search needs
 
--- src/rewrite.rt:45:28
 chunk-at-requires : tie.Need-chunk-at-requires Inv-loop μ-loop
-chunk-at-requires c κs = ?
+chunk-at-requires c κs = search needs
 
--- src/rewrite.rt:45:56
 cast-word-of : tie.Need-cast-word-of Inv-loop μ-loop
-cast-word-of c = ?
+cast-word-of c = search needs
 
--- src/rewrite.rt:45:20
 word-of-requires : tie.Need-word-of-requires Inv-loop μ-loop
-word-of-requires c κs = ?
+word-of-requires c κs = search needs
 
--- src/rewrite.rt:45:9
 mul-order : tie.Need-mul-order Inv-loop μ-loop
-mul-order c = ?
+mul-order c = search needs
 
--- src/rewrite.rt:45:9
 slice-write-order : tie.Need-slice-write-order Inv-loop μ-loop
-slice-write-order c = ?
+slice-write-order c = search needs
 
--- src/rewrite.rt:46:9
 add-i : tie.Need-add-i Inv-loop μ-loop
-add-i c = ?
+add-i c = search needs
 
--- src/rewrite.rt:44:5
 loop-less : tie.Need-loop-less Inv-loop μ-loop
-loop-less c = ?
+loop-less c = search needs
 
--- src/rewrite.rt:44:5
 loop-again : tie.Need-loop-again Inv-loop μ-loop
-loop-again c = ?
+loop-again c = (
+  search needs,
+  search needs,
+  written-more _ _ _ (c .before .before .before .loop .inv .2) _ (c .before .before .loop-test .taken) (unfold nameWord in (rw (c .word-of .ensures, c .before .chunk-at .ensures))),
+)
 
--- src/rewrite.rt:39:1
 same-length : tie.Need-same-length Inv-loop μ-loop
-same-length c = ?
+same-length c = c .before .loop .inv .1
 
--- src/rewrite.rt:39:1
 returns : tie.Need-returns Inv-loop μ-loop
-returns c = ?
+returns c = written-all _ _ _ (c .before .loop .inv .2) _ (c .before .loop .inv .1) (c .before .loop .inv .0) (c .loop-test .left)
 
 pub number-chunks-spec : {M : Type 1} → statement M
 number-chunks-spec =
