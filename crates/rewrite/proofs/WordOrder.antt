@@ -208,7 +208,7 @@ module _ (s chunks : List ℕ) (n : ℕ) (bytes : Bytes s) (x : ByIndex s n chun
   unfolding chunkRows
   names = rw (x .rows, rows-names 0 0 (chunksOf s)) (names-distinct s bytes (x .accepted))
 
-  pub pieces-rewritten : pieces s chunks (sorted (table (nameWord chunks) n)) ≡ rewritten s
+  pieces-rewritten : pieces s chunks (sorted (table (nameWord chunks) n)) ≡ rewritten s
   unfolding pieces
   pieces-rewritten =
       ap backToBack
@@ -227,13 +227,24 @@ module _ (s chunks : List ℕ) (n : ℕ) (bytes : Bytes s) (x : ByIndex s n chun
     all-fit (suc i) k (omega arith),
   )
 
-  pub pieces-fit : (room : ℕ) → length s ≤ room → PiecesFit s chunks (sorted (table (nameWord chunks) n)) room
+  pieces-fit : (room : ℕ) → length s ≤ room → PiecesFit s chunks (sorted (table (nameWord chunks) n)) room
   pieces-fit room h =
       let words = table (nameWord chunks) n in
       record {
         each = all-at Fits (sorted words) (sorted-all Fits words (unfold table in (all-fit 0 n (omega arith))));
         all = rw (pieces-rewritten, fixed-order s bytes (x .accepted) .as-long) h;
       }
+
+  -- by words that are in order
+  module _ {order : List ℕ} (e : order ≡ sorted (table (nameWord chunks) n)) where
+    pub ordered-fit : (room : ℕ) → length s ≤ room → PiecesFit s chunks order room
+    ordered-fit room h = subst (λ (ws : List ℕ). PiecesFit s chunks ws room) (sym e) (pieces-fit room h)
+
+    pub ordered-put : (buffer : List ℕ) {after : List ℕ} → after ≡ written buffer 0 (pieces s chunks order) → after ≡ written buffer 0 (rewritten s)
+    ordered-put buffer w = w ∙ ap (written buffer 0) (ap (pieces s chunks) e ∙ pieces-rewritten)
+
+pub for-length : (s chunks : List ℕ) {n k : ℕ} → n ≡ k → ByIndex s n chunks → ByIndex s k chunks
+for-length s chunks e x = subst (λ (k : ℕ). ByIndex s k chunks) e x
 
 -- what the answer is
 module _ (s : List ℕ) (bytes : Bytes s) (ok : Accepted s) (buffer : List ℕ) where

@@ -1,27 +1,22 @@
+-- `rewrite::rewrite::put_chunks` meets its contract. Assumes nothing.
+use Rattle.bundle.proofs.TeamOrder.{front-is}
+use Rattle.rewrite.proofs.WordOrder.{for-length}
 use borrow.Author.Needs.{needs}
 use Rattle.rewrite.proofs.rewrite.put_chunks.Statement.{statement}
 use Rattle.rewrite.proofs.rewrite.put_chunks.Tie as tie
-use Rattle.rewrite.proofs.rewrite.put_chunks.Reads as reads
-use Rattle.rewrite.proofs.rewrite.put_chunks.Lts as lts
-use Rattle.rewrite.proofs.rewrite.put_in_order.Reads as put-in-order-reads
 
--- src/rewrite.rt:99:33
 array-borrow-prefix-order : tie.Need-array-borrow-prefix-order
 array-borrow-prefix-order c = search needs
 
--- src/rewrite.rt:99:33
 slice-aggregate-put-in-order : tie.Need-slice-aggregate-put-in-order
-slice-aggregate-put-in-order c = ?
+slice-aggregate-put-in-order c = front-is 512 _ (c .before .before .before .before .pre .0 .few)
 
--- src/rewrite.rt:99:5
 put-in-order-requires : tie.Need-put-in-order-requires
-put-in-order-requires c κs = ?
+put-in-order-requires c κs = (for-length _ _ (front-is 512 _ (c .before .before .before .before .before .pre .0 .few)) (c .before .before .before .before .before .pre .0), c .before .before .before .before .before .pre .1)
 
--- src/rewrite.rt:94:1
 same-length : tie.Need-same-length
 same-length c = search needs
 
--- src/rewrite.rt:94:1
 returns : tie.Need-returns
 returns c = search needs
 
