@@ -1,8 +1,9 @@
 -- Sorting by a key: the same elements; where no key stands twice, the same list for every order of them.
 use Prim.Native.Nat.{ℕ}
 use mathlib.Core.Path.{_≡_, refl, sym, _∙_, ap, ap₂}
+use mathlib.Core.Logic.{⊎-elim}
 use mathlib.Core.Bool.{Bool, true, false, cond}
-use mathlib.Core.List.{List, [], _∷_, map, List·Memᴰ, List·Memᴰ·head, List·Memᴰ·tail, List·Permᴰ, List·Permᴰ·nil, List·Permᴰ·cons, List·Permᴰ·swap, List·Permᴰ·trans, Permᴰ·refl, Permᴰ·symm}
+use mathlib.Core.List.{List, [], _∷_, map, List·Memᴰ, List·Memᴰ·head, List·Memᴰ·tail, List·Memᴰ·not-nil, List·Memᴰ·cases-cons, Memᴰ·cast, Memᴰ·map, List·Permᴰ, List·Permᴰ·nil, List·Permᴰ·cons, List·Permᴰ·swap, List·Permᴰ·trans, Permᴰ·refl, Permᴰ·symm}
 use lib.Dec.{leb}
 use Rattle.sorting.specs.Order.{insert, sorted}
 use Rattle.sorting.proofs.Insertion.{sorted-perm}
@@ -12,6 +13,7 @@ use Rattle.bundle.proofs.Keys.{perm-distinct}
 use Rattle.verdict.specs.Accesses.{lexLess}
 use Rattle.verdict.proofs.Lexical.{Compared, less, same, more, compare, less-trans, less-asymmetric}
 use Rattle.rewrite.specs.Rewriting.{insertBy, sortedBy}
+use Rattle.rewrite.specs.FixedOrder.{Ascending}
 
 module _ {A : Type 0} (key : A → List ℕ) where
   abbrev below : A → A → Bool
@@ -72,6 +74,39 @@ module _ {A : Type 0} (key : A → List ℕ) where
       insert-swap a b (sortedBy key l) (λ q. distinct-head d (List·Memᴰ·head q))
       ∙ ap₂ (λ (x y : A). insertBy key x (insertBy key y (sortedBy key l))) e₂ e₁
   sort-same (List·Permᴰ·trans p q) d = sort-same p d ∙ sort-same q (perm-distinct (perm-map key p) d)
+
+  -- where no key stands twice, each is below all that follow it
+  insert-ascends :
+      (x : A) (ys : List A) → ((y : A) → List·Memᴰ y ys → key x ≡ key y → ⊥) → Ascending (map key ys) → Ascending (map key (insertBy key x ys))
+  unfolding insertBy
+  insert-ascends x [] apart a = Ascending.more (λ l m. absurd (List·Memᴰ·not-nil m)) Ascending.none
+  insert-ascends x (y ∷ ys) apart (Ascending.more least a) =
+      go (insert-ascends x ys (λ z m. apart z (List·Memᴰ·tail m)) a) (compare (key x) (key y))
+    where
+      later : below y x ≡ true → (l : List ℕ) → List·Memᴰ l (map key (insertBy key x ys)) → lexLess (key y) l ≡ true
+      later e l m =
+          ⊎-elim (λ (q : l ≡ key x). rw q e) (least l)
+          (List·Memᴰ·cases-cons (perm-mem (Permᴰ·symm (perm-map key (insert-perm x ys))) m))
+
+      first : below x y ≡ true → (l : List ℕ) → List·Memᴰ l (key y ∷ map key ys) → lexLess (key x) l ≡ true
+      first e l m =
+          ⊎-elim (λ (q : l ≡ key y). rw q e) (λ k. less-trans (key x) (key y) l e (least l k)) (List·Memᴰ·cases-cons m)
+
+      go :
+          Ascending (map key (insertBy key x ys))
+          → Compared (key x) (key y)
+          → Ascending (map key (cond (below x y) (x ∷ y ∷ ys) (y ∷ insertBy key x ys)))
+      go ih (less h) = rw h (Ascending.more (first h) (Ascending.more least a))
+      go ih (same h) = absurd (apart y (List·Memᴰ·head refl) h)
+      go ih (more h) = rw (not-below y x h) (Ascending.more (later h) ih)
+
+  pub sort-ascends : (xs : List A) → Distinct (map key xs) → Ascending (map key (sortedBy key xs))
+  unfolding sortedBy
+  sort-ascends [] d = Ascending.none
+  sort-ascends (x ∷ xs) d =
+      insert-ascends x (sortedBy key xs)
+      (λ y m q. distinct-head d (Memᴰ·cast q (Memᴰ·map key (perm-mem (Permᴰ·symm (sort-perm xs)) m))))
+      (sort-ascends xs (distinct-tail d))
 
 -- what keeps the keys keeps the order
 module _ {A B : Type 0} (key : A → List ℕ) (key′ : B → List ℕ) (f : A → B) where

@@ -2,14 +2,16 @@
 use Prim.Native.Nat.{ℕ, _≤_, _<_}
 use mathlib.Core.Path.{_≡_}
 use mathlib.Core.Logic.{_↔_}
-use mathlib.Core.List.{List, _++_, map, List·Permᴰ}
+use mathlib.Core.Bool.{true}
+use mathlib.Core.List.{List, [], _∷_, _++_, map, List·Memᴰ, List·Permᴰ}
 use lib.ListN.{length, drop}
 use Rattle.bundle.specs.Answer.{gives, refuses}
 use Rattle.bundle.specs.Commands.{Bytes}
 use Rattle.bundle.specs.Chunks.{chunksOf, partOf}
 use Rattle.bundle.specs.Check.{Accepted, Reordered}
+use Rattle.verdict.specs.Accesses.{lexLess}
 use Rattle.verdict.specs.Demand.{Judged}
-use Rattle.rewrite.specs.Rewriting.{rewritten, rewriteOf}
+use Rattle.rewrite.specs.Rewriting.{chunkName, rewritten, rewriteOf}
 
 -- the bytes of each chunk of a bundle, MEMBER to END
 unfoldable pub chunkBytes : List ℕ → List (List ℕ)
@@ -19,10 +21,16 @@ chunkBytes b = map (partOf b) (chunksOf b)
 abbrev pub SameChunks : List ℕ → List ℕ → Type 0
 SameChunks b c = List·Permᴰ (chunkBytes b) (chunkBytes c)
 
+-- each key is below all that follow it
+pub data Ascending : List (List ℕ) → Type 0 where
+  none : Ascending []
+  more : {k : List ℕ} {ks : List (List ℕ)} → ((l : List ℕ) → List·Memᴰ l ks → lexLess k l ≡ true) → Ascending ks → Ascending (k ∷ ks)
+
 -- what rewriting an accepted bundle b does
 pub record Rewrites (b : List ℕ) : Type 0 where
-  -- the result has the bundle's chunks in some order and is as long; it is accepted and judged the same
+  -- the result has the bundle's chunks in some order, "by team, then member", and is as long; it is accepted and judged the same
   pub in-some-order : Reordered b (rewritten b)
+  pub by-name : Ascending (map chunkName (in-some-order .order))
   pub as-long : length (rewritten b) ≡ length b
   pub accepted-too : Accepted (rewritten b)
   pub judged-same : (v w : List ℕ) → 16384 ≤ length v → 16384 ≤ length w → Judged b (rewritten b) v w
