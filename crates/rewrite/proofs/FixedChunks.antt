@@ -1,23 +1,18 @@
 -- Rewriting: the same chunks in one order for all their orders.
 use Prim.Native.Nat.{ℕ, _≤_, _<_}
 use mathlib.Core.Path.{_≡_, refl, sym, _∙_, ap, subst}
-use mathlib.Core.Bool.{Bool, true, false, cond}
 use mathlib.Core.List.{List, _++_, map, List·Permᴰ, List·Permᴰ·trans, Permᴰ·symm}
-use native.Mathlib.Omega.{arith}
 use native.Mathlib.Nat.{zero-add}
 use lib.ListN.{length, drop}
-use lib.Dec.{ltb}
-use borrow.Author.Tests.{lt-ltb, le-ltb, ltb-false}
-use Rattle.bundle.specs.Answer.{Answer, gives, refuses}
+use borrow.Author.Tests.{lt-ltb, le-ltb}
+use Rattle.bundle.specs.Answer.{gives, refuses}
 use Rattle.bundle.specs.Lists.{backToBack}
-use Rattle.bundle.specs.Commands.{Bytes, Lent, written}
+use Rattle.bundle.specs.Commands.{Bytes, written}
 use Rattle.bundle.specs.Chunks.{chunksOf, partOf}
 use Rattle.bundle.specs.Check.{checkOf, Accepted, Reordered}
 use Rattle.bundle.proofs.Reorder.{reordered}
 use Rattle.verdict.proofs.Demand3.{demand3}
-use Rattle.rewrite.specs.Rewriting.{sortedBy, chunkName, rewritten, fillingOf, rewriteAs, rewriteOf, rewritingOf}
-use Rattle.rewrite.specs.declared.rewrite.Rewriting.{Rewriting}
-use Rattle.rewrite.specs.declared.rewrite.Rewriting.the-variants as Rewritings
+use Rattle.rewrite.specs.Rewriting.{sortedBy, chunkName, rewritten, fillingOf, rewriteAs, rewriteOf}
 use Rattle.rewrite.specs.FixedOrder.{chunkBytes, SameChunks, FixedOrder}
 use Rattle.rewrite.proofs.KeySort.{sort-perm, sort-same, sort-map, sort-ascends}
 use Rattle.rewrite.proofs.ChunkBytes.{partName, part-name, names-distinct, parts-distinct, reordered-length, reordered-bytes, reordered-chunks}
@@ -84,25 +79,3 @@ fixed-order b bytes ok =
 
     twice : rewritten (rewritten b) ≡ rewritten b
     twice = sym (same-rewritten b (rewritten b) bytes (reordered-bytes b (rewritten b) bytes ok r) ok ok′ (reordered-chunks b (rewritten b) bytes ok r))
-
--- for callers: what is written lies in the buffer
-pub written-fits :
-    (s buffer : List ℕ) {after : List ℕ} (r : Rewriting) {size : ℕ}
-    → record { answer = rewritingOf r; buffer = after } ≡ rewriteOf s buffer
-    → r ≡ Rewritings.Written size
-    → size ≤ length buffer
-unfolding rewriteOf
-written-fits s buffer {after} r {size} e q = answered (checkOf s) (ap rewritingOf (sym q) ∙ ap (λ (l : Lent ℕ). l .answer) e)
-  where
-    never : (n p : ℕ) → gives size ≡ refuses n p → size ≤ length buffer
-    never n p f = let z : _≡_ {A = ℕ} 0 1 = cc in absurd (omega arith)
-
-    filled : (b : Bool) → ltb (length buffer) (length (rewritten s)) ≡ b
-        → gives size ≡ cond {A = Lent ℕ} b (record { answer = refuses 17 0; buffer = buffer }) (record { answer = gives (length (rewritten s)); buffer = written buffer 0 (rewritten s) }) .answer
-        → size ≤ length buffer
-    filled true t f = never 17 0 f
-    filled false t f = let z : size ≡ length (rewritten s) = cc in omega (arith, ltb-false (length buffer) (length (rewritten s)) t)
-
-    answered : (a : Answer (Unit {0})) → gives size ≡ rewriteAs s buffer a .answer → size ≤ length buffer
-    answered (gives u) f = filled (ltb (length buffer) (length (rewritten s))) refl (unfold rewriteAs fillingOf in f)
-    answered (refuses n p) f = never n p (unfold rewriteAs in f)

@@ -4,3 +4,4 @@ pub mod ChunkBytes
 pub mod FixedChunks
 pub mod Pieces
 pub mod WordOrder
+pub mod Fitting
