@@ -22,7 +22,7 @@ use Rattle.bundle.proofs.Printing.{printed, decode-printed}
 use Rattle.bundle.proofs.Reorder.{known, orderly-range, part-printed, back-to-back, reordered, distinct-members}
 use Rattle.verdict.proofs.ListPlaces.{at-mem, mem-at, at-below, at-getD}
 use Rattle.rewrite.specs.Rewriting.{chunkName}
-use Rattle.rewrite.specs.FixedOrder.{chunkBytes, SameChunks}
+use Rattle.rewrite.specs.FixedOrder.{chunkBytes, SameChunkBytes}
 
 module _ {A B : Type 0} where
   pub map-same : (f g : A → B) (xs : List A) → ((x : A) → List·Memᴰ x xs → f x ≡ g x) → map f xs ≡ map g xs
@@ -106,7 +106,7 @@ module _ (b c : List ℕ) (bytes : Bytes b) (ok : Accepted b) (r : Reordered b c
   pub reordered-bytes : Bytes c
   reordered-bytes = mem-bytes c (λ x m. bytes-mem bytes (perm-mem (Permᴰ·symm same-bytes) m))
 
-  pub reordered-chunks : SameChunks b c
+  pub reordered-chunks : SameChunkBytes b c
   reordered-chunks =
       let q = reordered b c bytes ok r in
       rw (bytes-unplaced b bytes ok, bytes-unplaced c reordered-bytes (q .0)) (perm-map (λ (d : Chunk). printed (logOf d)) (q .1))

@@ -13,7 +13,7 @@ use Rattle.bundle.specs.Check.{checkOf, Accepted, Reordered}
 use Rattle.bundle.proofs.Reorder.{reordered}
 use Rattle.verdict.proofs.Demand3.{demand3}
 use Rattle.rewrite.specs.Rewriting.{sortedBy, chunkName, rewritten, fillingOf, rewriteAs, rewriteOf}
-use Rattle.rewrite.specs.FixedOrder.{chunkBytes, SameChunks, FixedOrder}
+use Rattle.rewrite.specs.FixedOrder.{chunkBytes, SameChunkBytes, FixedOrder}
 use Rattle.rewrite.proofs.KeySort.{sort-perm, sort-same, sort-map, sort-ascends}
 use Rattle.rewrite.proofs.ChunkBytes.{partName, part-name, names-distinct, parts-distinct, reordered-length, reordered-bytes, reordered-chunks}
 
@@ -28,13 +28,13 @@ unfolding rewritten chunkBytes
 rewritten-parts b bytes ok = ap backToBack (sort-map chunkName partName (partOf b) (chunksOf b) (part-name b bytes ok))
 
 module _ (b c : List ℕ) (bytes : Bytes b) (bytes′ : Bytes c) (ok : Accepted b) (ok′ : Accepted c) where
-  same-rewritten : SameChunks b c → rewritten b ≡ rewritten c
+  same-rewritten : SameChunkBytes b c → rewritten b ≡ rewritten c
   same-rewritten p =
       rewritten-parts b bytes ok
       ∙ ap backToBack (sort-same partName p (parts-distinct b bytes ok))
       ∙ sym (rewritten-parts c bytes′ ok′)
 
-  same-chunks : rewritten b ≡ rewritten c → SameChunks b c
+  same-chunks : rewritten b ≡ rewritten c → SameChunkBytes b c
   same-chunks e =
       List·Permᴰ·trans {l₃ = chunkBytes c} (reordered-chunks b (rewritten b) bytes ok (in-some-order b))
       (rw e (Permᴰ·symm (reordered-chunks c (rewritten c) bytes′ ok′ (in-some-order c))))

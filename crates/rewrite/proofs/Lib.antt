@@ -1,4 +1,5 @@
 -- Laws over the definitions.
+pub mod Examples
 pub mod KeySort
 pub mod ChunkBytes
 pub mod FixedChunks

@@ -28,7 +28,7 @@ use Rattle.verdict.specs.Accesses.{lexLess}
 use Rattle.verdict.proofs.Lexical.{Compared, less, same, more, compare, less-elim, less-asymmetric}
 use Rattle.rewrite.specs.Rewriting.{sortedBy, chunkName, rewritten, fillingOf, rewriteAs, rewriteOf}
 use Rattle.rewrite.specs.FixedOrder.{chunkBytes}
-use Rattle.rewrite.specs.Words.{nameWord, rowPart, pieceAt, pieces, RowFits, PiecesFit, ByIndex}
+use Rattle.rewrite.specs.Words.{chunkWord, rowPart, pieceAt, pieces, RowFits, PiecesFit, ByIndex}
 use Rattle.rewrite.proofs.KeySort.{Agreeing, agreeing-nil, agreeing-cons, sort-words}
 use Rattle.rewrite.proofs.ChunkBytes.{partName, part-name, names-distinct}
 use Rattle.rewrite.proofs.FixedChunks.{rewritten-parts, fixed-order}
@@ -167,37 +167,37 @@ module _ (s chunks : List ℕ) (n : ℕ) (bytes : Bytes s) (x : ByIndex s n chun
       let w = chunk-fits (o .chunk) (o .present) in
       rw (o .is) (record { ordered = w .0; within = w .1 })
 
-  piece-at : (i : ℕ) → i < n → pieceAt s chunks (nameWord chunks i) ≡ rowPart s (rowAt i)
-  unfolding pieceAt nameWord
+  piece-at : (i : ℕ) → i < n → pieceAt s chunks (chunkWord chunks i) ≡ rowPart s (rowAt i)
+  unfolding pieceAt chunkWord
   piece-at i h = rw (word-index (rowAt i .team * 256 + rowAt i .member) i (omega (arith, x .few)))
 
-  piece-name : (i : ℕ) → i < n → partName (pieceAt s chunks (nameWord chunks i)) ≡ rowName (rowAt i)
+  piece-name : (i : ℕ) → i < n → partName (pieceAt s chunks (chunkWord chunks i)) ≡ rowName (rowAt i)
   piece-name i h = ap partName (piece-at i h) ∙ row-name i h
 
-  agreeing : (i k : ℕ) → i + k ≤ n → Distinct (map rowName (tableFrom rowAt i k)) → Agreeing partName (pieceAt s chunks) (tableFrom (nameWord chunks) i k)
+  agreeing : (i k : ℕ) → i + k ≤ n → Distinct (map rowName (tableFrom rowAt i k)) → Agreeing partName (pieceAt s chunks) (tableFrom (chunkWord chunks) i k)
   unfolding tableFrom
   agreeing i zero h d = agreeing-nil
   agreeing i (suc k) h d =
       agreeing-cons
       (λ y m.
-      let r = from-elim (nameWord chunks) (suc i) k m in
+      let r = from-elim (chunkWord chunks) (suc i) k m in
       behind (r .0) y (r .1) (r .2) (r .3))
       (agreeing (suc i) k (omega arith) (distinct-tail d))
     where
-      behind : (j y : ℕ) → suc i ≤ j → j < suc i + k → y ≡ nameWord chunks j
-          → leb (nameWord chunks i) y ≡ lexLess (partName (pieceAt s chunks (nameWord chunks i))) (partName (pieceAt s chunks y))
+      behind : (j y : ℕ) → suc i ≤ j → j < suc i + k → y ≡ chunkWord chunks j
+          → leb (chunkWord chunks i) y ≡ lexLess (partName (pieceAt s chunks (chunkWord chunks i))) (partName (pieceAt s chunks y))
       behind j y l u e =
           rw (e, piece-name i (omega arith), piece-name j (omega arith))
-          (unfold nameWord in
+          (unfold chunkWord in
           (words-agree (rowAt i .team) (rowAt i .member) (rowAt j .team) (rowAt j .member) i j (row-member chunks i) (row-member chunks j) (omega (arith, x .few)) (omega (arith, x .few))
           (λ q. distinct-head d (Memᴰ·cast q (Memᴰ·map rowName (from-intro rowAt (suc i) k j l u))))))
 
-  pieces-parts : (i k : ℕ) → i + k ≤ n → map (pieceAt s chunks) (tableFrom (nameWord chunks) i k) ≡ map (rowPart s) (tableFrom rowAt i k)
+  pieces-parts : (i k : ℕ) → i + k ≤ n → map (pieceAt s chunks) (tableFrom (chunkWord chunks) i k) ≡ map (rowPart s) (tableFrom rowAt i k)
   unfolding tableFrom
   pieces-parts i zero h = refl
   pieces-parts i (suc k) h = rw (piece-at i (omega arith), pieces-parts (suc i) k (omega arith))
 
-  parts : map (pieceAt s chunks) (table (nameWord chunks) n) ≡ chunkBytes s
+  parts : map (pieceAt s chunks) (table (chunkWord chunks) n) ≡ chunkBytes s
   unfolding chunkBytes chunkRows
   parts =
       unfold table in (pieces-parts 0 n (omega arith))
@@ -208,7 +208,7 @@ module _ (s chunks : List ℕ) (n : ℕ) (bytes : Bytes s) (x : ByIndex s n chun
   unfolding chunkRows
   names = rw (x .rows, rows-names 0 0 (chunksOf s)) (names-distinct s bytes (x .accepted))
 
-  pieces-rewritten : pieces s chunks (sorted (table (nameWord chunks) n)) ≡ rewritten s
+  pieces-rewritten : pieces s chunks (sorted (table (chunkWord chunks) n)) ≡ rewritten s
   unfolding pieces
   pieces-rewritten =
       ap backToBack
@@ -219,24 +219,24 @@ module _ (s chunks : List ℕ) (n : ℕ) (bytes : Bytes s) (x : ByIndex s n chun
   abbrev Fits : ℕ → Type 0
   Fits word = RowFits s (rowAt (word % 65536))
 
-  all-fit : (i k : ℕ) → i + k ≤ n → All Fits (tableFrom (nameWord chunks) i k)
-  unfolding tableFrom nameWord
+  all-fit : (i k : ℕ) → i + k ≤ n → All Fits (tableFrom (chunkWord chunks) i k)
+  unfolding tableFrom chunkWord
   all-fit i zero h = tt
   all-fit i (suc k) h = (
     rw (word-index (rowAt i .team * 256 + rowAt i .member) i (omega (arith, x .few))) (row-fits i (omega arith)),
     all-fit (suc i) k (omega arith),
   )
 
-  pieces-fit : (room : ℕ) → length s ≤ room → PiecesFit s chunks (sorted (table (nameWord chunks) n)) room
+  pieces-fit : (room : ℕ) → length s ≤ room → PiecesFit s chunks (sorted (table (chunkWord chunks) n)) room
   pieces-fit room h =
-      let words = table (nameWord chunks) n in
+      let words = table (chunkWord chunks) n in
       record {
         each = all-at Fits (sorted words) (sorted-all Fits words (unfold table in (all-fit 0 n (omega arith))));
         all = rw (pieces-rewritten, fixed-order s bytes (x .accepted) .as-long) h;
       }
 
   -- by words that are in order
-  module _ {order : List ℕ} (e : order ≡ sorted (table (nameWord chunks) n)) where
+  module _ {order : List ℕ} (e : order ≡ sorted (table (chunkWord chunks) n)) where
     pub ordered-fit : (room : ℕ) → length s ≤ room → PiecesFit s chunks order room
     ordered-fit room h = subst (λ (ws : List ℕ). PiecesFit s chunks ws room) (sym e) (pieces-fit room h)
 

@@ -18,8 +18,8 @@ unfoldable pub chunkBytes : List ℕ → List (List ℕ)
 chunkBytes b = map (partOf b) (chunksOf b)
 
 -- "they hold the same chunks"
-abbrev pub SameChunks : List ℕ → List ℕ → Type 0
-SameChunks b c = List·Permᴰ (chunkBytes b) (chunkBytes c)
+abbrev pub SameChunkBytes : List ℕ → List ℕ → Type 0
+SameChunkBytes b c = List·Permᴰ (chunkBytes b) (chunkBytes c)
 
 -- each key is below all that follow it
 pub data Ascending : List (List ℕ) → Type 0 where
@@ -41,7 +41,7 @@ pub record Rewrites (b : List ℕ) : Type 0 where
       → rewriteOf b buffer ≡ record { answer = gives (length b); buffer = rewritten b ++ drop (length b) buffer }
   pub short : (buffer : List ℕ) → length buffer < length b → rewriteOf b buffer ≡ record { answer = refuses 17 0; buffer = buffer }
   -- "Two accepted bundles come out as equal bytes exactly when they hold the same chunks"
-  pub equal-exactly : (c : List ℕ) → Bytes c → Accepted c → (rewritten b ≡ rewritten c) ↔ SameChunks b c
+  pub equal-exactly : (c : List ℕ) → Bytes c → Accepted c → (rewritten b ≡ rewritten c) ↔ SameChunkBytes b c
   -- "Rewriting twice changes nothing further"
   pub again : rewritten (rewritten b) ≡ rewritten b
   pub again-filled : (buffer : List ℕ) → rewriteOf (rewritten b) buffer ≡ rewriteOf b buffer

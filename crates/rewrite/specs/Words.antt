@@ -14,8 +14,8 @@ use Rattle.bundle.specs.declared.index.ChunkRow.{ChunkRow}
 abbrev pub wordOf : ChunkRow → ℕ → ℕ
 wordOf row i = (row .team * 256 + row .member) * 65536 + i
 
-unfoldable pub nameWord : List ℕ → ℕ → ℕ
-nameWord chunks i = wordOf (chunkRowAt chunks i) i
+unfoldable pub chunkWord : List ℕ → ℕ → ℕ
+chunkWord chunks i = wordOf (chunkRowAt chunks i) i
 
 -- the bytes of a row's chunk, and of the chunk whose index a word holds
 abbrev pub rowPart : List ℕ → ChunkRow → List ℕ

@@ -14,9 +14,11 @@ ghost use Prim.Native.Nat.{_+_, _≤_, _<_};
 ghost use lib.ListN.{length};
 ghost use Rattle.sorting.specs.Order.{sorted};
 ghost use Rattle.bundle.specs.Commands.{written};
+ghost use Rattle.bundle.specs.Check.{Accepted};
 ghost use Rattle.bundle.specs.Index.{table, chunkRowAt};
 ghost use Rattle.rewrite.specs.Rewriting.{rewriteOf, rewritingOf, fillingOf, rewritten};
-ghost use Rattle.rewrite.specs.Words.{wordOf, nameWord, rowPart, RowFits, pieces, PiecesFit, ByIndex};
+ghost use Rattle.rewrite.specs.FixedOrder.{Rewrites};
+ghost use Rattle.rewrite.specs.Words.{wordOf, chunkWord, rowPart, RowFits, pieces, PiecesFit, ByIndex};
 
 // What rewriting gives.
 pub enum Rewriting {
@@ -38,7 +40,7 @@ fn word_of(row: ChunkRow, i: u32) -> u64
 // Writes the word of each chunk.
 fn number_chunks(chunks: &[u64], order: &mut [u64])
     requires { ⌜ length (now order) ≤ 512 ⌝ }
-    ensures { λ _. ⌜ now (order .exit) ≡ table (nameWord (now (chunks .entry))) (length (now (order .entry))) ⌝ }
+    ensures { λ _. ⌜ now (order .exit) ≡ table (chunkWord (now (chunks .entry))) (length (now (order .entry))) ⌝ }
 {
     let mut i = 0;
     while i < order.len() {
@@ -50,7 +52,7 @@ fn number_chunks(chunks: &[u64], order: &mut [u64])
 // The words of the chunks in ascending order.
 fn order_chunks(chunks: &[u64], order: &mut [u64])
     requires { ⌜ length (now order) ≤ 512 ⌝ }
-    ensures { λ _. ⌜ now (order .exit) ≡ sorted (table (nameWord (now (chunks .entry))) (length (now (order .entry)))) ⌝ }
+    ensures { λ _. ⌜ now (order .exit) ≡ sorted (table (chunkWord (now (chunks .entry))) (length (now (order .entry)))) ⌝ }
 {
     let mut spare = [0u64; MOST_SEGMENTS as usize / 2];
     number_chunks(chunks, order);
@@ -116,6 +118,7 @@ fn rewrite_accepted(bytes: &[u8], chunks: &[u64], count: u32, buffer: &mut [u8])
 // Puts an accepted bundle into the buffer with its chunks by team, then member. Refused, the buffer is untouched.
 pub fn rewrite(bytes: &[u8], buffer: &mut [u8]) -> Rewriting
     ensures { λ r. ⌜ record { answer = rewritingOf r; buffer = now (buffer .exit) } ≡ rewriteOf (now (bytes .entry)) (now (buffer .entry)) ⌝ }
+    ensures fixedorder { λ _. ⌜ (Accepted (now (bytes .entry)) → Rewrites (now (bytes .entry))) ⌝ }
 {
     let mut chunks = [0u64; CHUNK_WORDS];
     let mut forks = [0u64; FORK_WORDS];

@@ -5,13 +5,13 @@ use lib.ListN.{length, take}
 use Rattle.bundle.specs.Index.{table}
 use Rattle.bundle.proofs.Tables.{table-none}
 use Rattle.bundle.proofs.TeamOrder.{written-more, written-all}
-use Rattle.rewrite.specs.Words.{nameWord}
+use Rattle.rewrite.specs.Words.{chunkWord}
 use borrow.Author.Needs.{needs}
 use Rattle.rewrite.proofs.rewrite.number_chunks.Statement.{statement}
 use Rattle.rewrite.proofs.rewrite.number_chunks.Tie as tie
 
 abbrev Inv-loop : tie.InvT-loop
-Inv-loop chunks order₀ i₀ order i = (i ≤ length order₀) × (length order ≡ length order₀) × (take i order ≡ table (nameWord chunks) i)
+Inv-loop chunks order₀ i₀ order i = (i ≤ length order₀) × (length order ≡ length order₀) × (take i order ≡ table (chunkWord chunks) i)
 
 abbrev μ-loop : tie.MeasureT-loop
 μ-loop chunks order₀ i₀ order i = length order₀ - i
@@ -47,7 +47,7 @@ loop-again : tie.Need-loop-again Inv-loop μ-loop
 loop-again c = (
   search needs,
   search needs,
-  written-more _ _ _ (c .before .before .before .loop .inv .2) _ (c .before .before .loop-test .taken) (unfold nameWord in (rw (c .word-of .ensures, c .before .chunk-at .ensures))),
+  written-more _ _ _ (c .before .before .before .loop .inv .2) _ (c .before .before .loop-test .taken) (unfold chunkWord in (rw (c .word-of .ensures, c .before .chunk-at .ensures))),
 )
 
 same-length : tie.Need-same-length Inv-loop μ-loop

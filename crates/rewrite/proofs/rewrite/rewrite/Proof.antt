@@ -1,6 +1,8 @@
 -- `rewrite::rewrite::rewrite` meets its contract. Assumes nothing.
 use mathlib.Core.Path.{sym, _∙_}
+use native.Mathlib.Omega.{arith}
 use Rattle.bundle.proofs.CheckCases.{indexed-accepted, indexed-refused}
+use Rattle.rewrite.proofs.FixedChunks.{fixed-order}
 use Rattle.rewrite.proofs.WordOrder.{by-index, rewrite-accepted, rewrite-refused}
 use borrow.Author.Needs.{needs}
 use Rattle.rewrite.proofs.rewrite.rewrite.Statement.{statement}
@@ -25,10 +27,16 @@ same-length : tie.Need-same-length
 same-length c = search needs
 
 returns : tie.Need-returns
-returns c = c .before .before .rewrite-accepted .ensures ∙ rewrite-accepted _ _ (indexed-accepted _ _ _ (c .before .before .before .before .before .before .before .before .index-bundle .ensures) (c .before .before .before .before .before .before .indexing .given .1) .accepted)
+returns c = (
+  c .before .before .rewrite-accepted .ensures ∙ rewrite-accepted _ _ (indexed-accepted _ _ _ (c .before .before .before .before .before .before .before .before .index-bundle .ensures) (c .before .before .before .before .before .before .indexing .given .1) .accepted),
+  fixed-order _ (λ i h. omega (arith, c .before .before .before .before .before .before .before .before .before .before .before .before .shared-slice-known .given i)),
+)
 
 returns-2 : tie.Need-returns-2
-returns-2 c = rewrite-refused _ _ (indexed-refused _ _ _ (c .before .before .before .index-bundle .ensures) (c .before .indexing2 .given .1))
+returns-2 c = (
+  rewrite-refused _ _ (indexed-refused _ _ _ (c .before .before .before .index-bundle .ensures) (c .before .indexing2 .given .1)),
+  fixed-order _ (λ i h. omega (arith, c .before .before .before .before .before .before .before .shared-slice-known .given i)),
+)
 
 pub rewrite-spec : {M : Type 1} → statement M
 rewrite-spec =
