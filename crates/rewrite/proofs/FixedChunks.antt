@@ -1,7 +1,7 @@
 -- Rewriting: the same chunks in one order for all their orders.
 use Prim.Native.Nat.{ℕ, _≤_, _<_}
-use mathlib.Core.Path.{_≡_, refl, sym, _∙_, ap, subst}
-use mathlib.Core.List.{List, _++_, map, List·Permᴰ, List·Permᴰ·trans, Permᴰ·symm}
+use mathlib.Core.Path.{_≡_, refl, sym, _∙_, ap}
+use mathlib.Core.List.{List, _++_, List·Permᴰ·trans, Permᴰ·symm}
 use native.Mathlib.Nat.{zero-add}
 use lib.ListN.{length, drop}
 use borrow.Author.Tests.{lt-ltb, le-ltb}
@@ -9,7 +9,7 @@ use Rattle.bundle.specs.Answer.{gives, refuses}
 use Rattle.bundle.specs.Lists.{backToBack}
 use Rattle.bundle.specs.Commands.{Bytes, written}
 use Rattle.bundle.specs.Chunks.{chunksOf, partOf}
-use Rattle.bundle.specs.Check.{checkOf, Accepted, Reordered}
+use Rattle.bundle.specs.Check.{Accepted, Reordered}
 use Rattle.bundle.proofs.Reorder.{reordered}
 use Rattle.verdict.proofs.Demand3.{demand3}
 use Rattle.rewrite.specs.Rewriting.{sortedBy, chunkName, rewritten, fillingOf, rewriteAs, rewriteOf}

@@ -15,7 +15,7 @@ ghost use lib.ListN.{length};
 ghost use Rattle.sorting.specs.Order.{sorted};
 ghost use Rattle.bundle.specs.Commands.{written};
 ghost use Rattle.bundle.specs.Check.{Accepted};
-ghost use Rattle.bundle.specs.Index.{table, chunkRowAt};
+ghost use Rattle.bundle.specs.Index.{table};
 ghost use Rattle.rewrite.specs.Rewriting.{rewriteOf, rewritingOf, fillingOf, rewritten};
 ghost use Rattle.rewrite.specs.FixedOrder.{Rewrites};
 ghost use Rattle.rewrite.specs.Words.{wordOf, chunkWord, rowPart, RowFits, pieces, PiecesFit, ByIndex};
