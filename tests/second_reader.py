@@ -4,6 +4,7 @@ Written from documents 00 and 01 alone. It is slow and plain on purpose.
 Every operation either returns its answer or raises Refused(number, place).
 The parts stand in reader_commands, reader_bundles, reader_order,
 reader_verdicts and reader_builds; this module gives all of their names.
+Rewriting, of document 02's request A.1, stands in reader_rewriting.
 """
 
 from reader_commands import *
@@ -11,3 +12,4 @@ from reader_bundles import *
 from reader_order import *
 from reader_verdicts import *
 from reader_builds import *
+from reader_rewriting import *

@@ -1,0 +1,8 @@
+-- Laws over the definitions.
+pub mod Examples
+pub mod KeySort
+pub mod ChunkBytes
+pub mod FixedChunks
+pub mod Pieces
+pub mod WordOrder
+pub mod Fitting

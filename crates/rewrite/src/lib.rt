@@ -1,0 +1,2 @@
+// A bundle rewritten with its chunks in a fixed order.
+pub mod rewrite;
