@@ -89,10 +89,10 @@ def feed(process, data):
     process.stdin = None
 
 
-def ended(process, given=None):
+def ended(process, given=None, limit=LIMIT):
     """Waits for status, output and standard error. The program may end before it has read all of its input."""
     try:
-        out, said = process.communicate(given, timeout=LIMIT)
+        out, said = process.communicate(given, timeout=limit)
     except subprocess.TimeoutExpired:
         process.kill()
         return NO_END, *process.communicate()
