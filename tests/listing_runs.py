@@ -64,7 +64,7 @@ def held(title, data, answer):
 
 def difference(status, given, said, wanted):
     if status == NO_END:
-        return f"  the program did not end in {LIMIT} seconds"
+        return "  the program did not end in its time"
     if status:
         return f"  the program ended with status {status} and said {said[:500]!r}"
     if said:

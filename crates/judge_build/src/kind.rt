@@ -1,10 +1,13 @@
 // Whether a name is of a regular file.
+use bundle::copy::copy_in;
 use libc::PATH_MAX;
 use libc::types::stat;
 use libc::types::timespec;
 ghost use mathlib.Core.Path.{_≡_};
 ghost use Rattle.libc.specs.Io.{Ended};
-ghost use Rattle.judge_build.specs.Kind.{isRegular};
+ghost use Rattle.judge_build.specs.Kind.{isRegular, pathOf};
+
+const LAST: usize = PATH_MAX - 1;
 
 // What is known of no file.
 fn no_file() -> stat {
@@ -51,20 +54,16 @@ fn is_regular_at(path: &[u8; PATH_MAX]) -> bool
     means_regular(status, file.st_mode)
 }
 
-// As much of a name as leaves room for a 0, and then zeros. A longer name is no path, and os::open_read refuses it.
+// A name as a path: its bytes, and then zeros. A longer one than a path may be is taken for an empty one: neither is the name of a file.
 fn path_of(name: &[u8]) -> [u8; PATH_MAX]
-    ensures { λ r. ⌜ Ended r ⌝ }
+    ensures { λ r. ⌜ (r ≡ pathOf (now (name .entry))) × Ended r ⌝ }
 {
-    let mut path = io::buffer();
-    let mut i = 0;
-    while i < name.len() {
-        if i >= 4095 {
-            break;
-        }
-        path[i] = name[i];
-        i += 1;
+    let mut path = [0u8; PATH_MAX];
+    if name.len() >= PATH_MAX {
+        return path;
     }
-    path[4095] = 0;
+    copy_in(name, &mut path, 0);
+    path[LAST] = 0;
     path
 }
 
