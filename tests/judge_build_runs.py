@@ -16,10 +16,11 @@ from pathlib import Path
 import generators
 import listing_cases
 import second_reader as sr
-from listing_runs import FOLDER, Different, difference, ended, hold_end, pieces_of, start, with_pieces
+from listing_runs import FOLDER, LIMIT, Different, difference, ended, hold_end, pieces_of, start, with_pieces
 
 E = listing_cases.E
 MOST_FILES = 30
+AT_ONCE = 20  # seconds: the limit of a run in which a name could make the program wait
 LONGEST = sr.LONGEST_NAME
 
 line_of = lru_cache(maxsize=4096)(sr.bundle_line)
@@ -73,12 +74,12 @@ def held(title, names, answer):
     return wanted
 
 
-def by_arguments(program, names):
-    return ended(start(program, *names, stdin=subprocess.DEVNULL))
+def by_arguments(program, names, limit=LIMIT):
+    return ended(start(program, *names, stdin=subprocess.DEVNULL), limit=limit)
 
 
-def by_input(program, data):
-    return ended(start(program), data)
+def by_input(program, data, limit=LIMIT):
+    return ended(start(program), data, limit)
 
 
 # -------------------------------------------------------------- the builds
@@ -121,7 +122,7 @@ def random_name(rng, number):
 def no_file(rng, number):
     """A name that is no file to read."""
     name = b"none%d" % number
-    kind = rng.randrange(8)
+    kind = rng.randrange(10)
     if kind == 0:
         os.mkdir(name)
     elif kind == 1:
@@ -136,6 +137,10 @@ def no_file(rng, number):
         name = b"."
     elif kind == 5:
         name = b"e.bundle/" + name
+    elif kind == 6:
+        os.mkfifo(name)
+    elif kind == 7:
+        name = rng.choice((b"/dev/null", b"/dev/zero", b"/dev/full", b"/dev/random"))
     return name
 
 
@@ -229,13 +234,7 @@ def compare_many(program, tally):
 
 def compare_special(program, tally):
     """Files that are not regular, files that may not be read, a standard input that cannot be read."""
-    names = [b"free.bundle", b"pipe", b"socket", b"/", b"e.bundle"]
-    os.mkfifo("pipe")
-    pipe = os.open("pipe", os.O_RDWR)  # the open of a named pipe waits for its other end
-    with socket.socket(socket.AF_UNIX) as other:
-        other.bind("socket")
-        tally.add(held("files that are not regular", names, by_arguments(program, names)))
-    os.close(pipe)
+    compare_irregular(program, tally)
     if os.geteuid() == 0:
         compare_forbidden(program, tally)
     for title, command in (("closed", 'exec "$0" <&-'), ("a directory", 'exec "$0" < /')):
@@ -243,6 +242,30 @@ def compare_special(program, tally):
         hold_end(f"standard input {title}", status, given, said)
         if given:
             raise Different(f"standard input {title}: {given[:200]!r}")
+
+
+IRREGULAR = (b"idle pipe", b"fed pipe", b"to idle pipe", b"to fed pipe", b"socket", b"/dev/null", b"/dev/zero", b"to device", b"/", b".", b"to folder", b"to nothing", b"to itself")
+LINKS = (
+    ("to idle pipe", "idle pipe"), ("to fed pipe", "fed pipe"), ("to device", "/dev/zero"), ("to folder", "."), ("to nothing", "none"), ("to itself", "to itself"),
+    ("to file", "free.bundle"), ("to link", "to file"),
+)
+
+
+def compare_irregular(program, tally):
+    """Named pipes with no other end and with one, a socket, devices, directories, links to each: unreadable, and at once. A link to a file is the file."""
+    os.mkfifo("idle pipe")
+    os.mkfifo("fed pipe")
+    for link, aim in LINKS:
+        os.symlink(aim, link)
+    writer = os.open("fed pipe", os.O_RDWR)  # to open it for writing alone is to wait for a reader
+    os.write(writer, E)
+    with socket.socket(socket.AF_UNIX) as other:
+        other.bind("socket")
+        for names in (*([name] for name in IRREGULAR), [b"free.bundle", *IRREGULAR, b"to file", b"to link", b"e.bundle"], [b"to file", b"to link"]):
+            title = f"files that are not regular, {names[0]!r} and {len(names) - 1} more"
+            tally.add(held(f"{title}, by arguments", names, by_arguments(program, names, AT_ONCE)))
+            tally.add(held(f"{title}, by standard input", names, by_input(program, b"\0".join(names), AT_ONCE)))
+    os.close(writer)
 
 
 def compare_forbidden(program, tally):

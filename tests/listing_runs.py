@@ -64,7 +64,7 @@ def held(title, data, answer):
 
 def difference(status, given, said, wanted):
     if status == NO_END:
-        return f"  the program did not end in {LIMIT} seconds"
+        return "  the program did not end in its time"
     if status:
         return f"  the program ended with status {status} and said {said[:500]!r}"
     if said:
@@ -89,10 +89,10 @@ def feed(process, data):
     process.stdin = None
 
 
-def ended(process, given=None):
+def ended(process, given=None, limit=LIMIT):
     """Waits for status, output and standard error. The program may end before it has read all of its input."""
     try:
-        out, said = process.communicate(given, timeout=LIMIT)
+        out, said = process.communicate(given, timeout=limit)
     except subprocess.TimeoutExpired:
         process.kill()
         return NO_END, *process.communicate()

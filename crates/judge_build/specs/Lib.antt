@@ -1,2 +1,3 @@
 -- What the program judge_build reads.
+pub mod Kind
 pub mod Reading

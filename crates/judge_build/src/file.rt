@@ -1,4 +1,5 @@
 // One file of a build: it is read, judged, and its line printed.
+use crate::kind::is_regular;
 use bundle::command::Putting;
 use libc::STDOUT_FILENO;
 use tray::tell::Told;
@@ -83,8 +84,12 @@ fn judge_open(fd: i32, word: Word) -> Going {
     }
 }
 
-// The file of a name. One that cannot be opened, or read to its end, is unreadable; so is a directory.
+// The file of a name. One that cannot be opened, or read to its end, is unreadable; so is what is not a regular file. That is asked before
+// the file is opened, since to open a named pipe is to wait for its writer.
 pub fn judge_file(name: &[u8], word: Word) -> Going {
+    if !is_regular(name) {
+        return pass_unreadable(word);
+    }
     let fd = os::open_read(name);
     if fd < 0 {
         return pass_unreadable(word);
