@@ -89,7 +89,7 @@ class Programs:
         lacking = [n for n in names if not (os.path.isfile(self.path(n)) and os.access(self.path(n), os.X_OK))]
         if lacking:
             raise CannotDo(
-                f"no program {' and no '.join(self.path(n) for n in lacking)}; build with: rt check {' '.join(names)}"
+                f"no program {' and no '.join(self.path(n) for n in lacking)}; build with: rt check judge_build racelist canon"
             )
 
     def start(self, name, given, folder=None, errors=subprocess.DEVNULL):
