@@ -1,9 +1,12 @@
 """Bundles and what they are rewritten to, by hand from request A.1 of document 02."""
 
+import random
 from collections import namedtuple
 
+import generators
 from aimed_cases import E_BYTES
 from bundle_text import bundle
+from vector_frames import rewrite_frame
 
 Case = namedtuple("Case", "title data result")
 
@@ -65,3 +68,18 @@ PAIRS = [
      bundle("member 0 0; region 1 2; end; member 1 0; end; member 1 1; read 1 0 0 1 1; end"), False),
     ("one team more", bundle("member 0 0; end"), bundle("member 0 0; region 1 1; end; member 1 0; end"), False),
 ]
+
+
+def rewrite_frames(seed, count=150):
+    """REWRITE of the cases by hand and of random bundles, good and damaged, into buffers that are too short, just right and longer."""
+    rng = random.Random(seed)
+    given = [case.data for case in CASES] + [b"", E_BYTES[:40]]
+    for _ in range(count):
+        make = generators.random_bundle if rng.random() < 0.7 else generators.damaged_bundle
+        given.append(make(rng, rng.choice(generators.STYLES)))
+    for data in given:
+        if len(data) > 4000:
+            continue
+        for length in {0, max(len(data) - 1, 0), len(data), len(data) + 1, rng.randrange(4097), min(len(data) + 40, 4096)}:
+            yield rewrite_frame(length, rng.randrange(256), data)
+

@@ -12,6 +12,7 @@ OPERATION_READ, OPERATION_PUT = 1, 2
 OPERATION_CHECK, OPERATION_FIND, OPERATION_LABEL = 3, 4, 5
 OPERATION_COMPARE, OPERATION_SHARED = 6, 7
 OPERATION_JUDGE, OPERATION_NEXT = 8, 9
+OPERATION_REWRITE = 12  # 10 and 11 are tests/library_frames.py's
 
 RECORD_LENGTH = 12
 
@@ -260,6 +261,20 @@ def next_race_over(words, body):
     return race_line(race) if race else "none"
 
 
+def rewrite_frame(length, filler, bundle):
+    return frame(OPERATION_REWRITE, number(length, 2) + number(filler, 1) + bundle)
+
+
+def answer_rewrite(body):
+    length, filler = body.number(2), body.number(1)
+    buffer = bytearray([filler]) * length
+    try:
+        size = sr.rewrite(body.rest(), buffer)
+        return f"rewritten {size} {buffer.hex()}"
+    except Refused as refusal:
+        return f"{refusal_text(refusal)} {buffer.hex()}"
+
+
 ANSWERS = {
     OPERATION_READ: answer_read,
     OPERATION_PUT: answer_put,
@@ -270,7 +285,18 @@ ANSWERS = {
     OPERATION_SHARED: answer_shared,
     OPERATION_JUDGE: answer_judge,
     OPERATION_NEXT: answer_next,
+    OPERATION_REWRITE: answer_rewrite,
 }
+
+
+def without_rewriting(frames, lines):
+    """A file of frames and its answers without those of REWRITE, which is not in the library."""
+    kept = [
+        (frame(operation, body), line)
+        for (operation, body), line in zip(split_frames(frames), lines.splitlines(keepends=True), strict=True)
+        if operation != OPERATION_REWRITE
+    ]
+    return b"".join(made for made, _ in kept), b"".join(line for _, line in kept)
 
 
 def answer_line(operation, data):

@@ -8,6 +8,9 @@ fn stored(name: &str) -> Vec<u8> {
     std::fs::read(&path).unwrap_or_else(|error| panic!("{}: {error}", path.display()))
 }
 
+/// The operation of frames that are not for the library.
+const REWRITE: u64 = 12;
+
 /// Takes fields off the front of a frame's body.
 struct Body<'a>(&'a [u8]);
 
@@ -186,6 +189,9 @@ fn stored_frames() {
     for wanted in wanted.lines() {
         let (operation, length) = (frames.number(1), frames.number(4) as usize);
         let body = frames.take(length);
+        if operation == REWRITE {
+            continue;
+        }
         let given = answer(operation, Body(body)).unwrap_or_else(refusal_text);
         assert_eq!(given, wanted, "operation {operation}, frame {count}");
         count += 1;

@@ -6,6 +6,7 @@ mod commands;
 mod judgements;
 mod numbers;
 mod orders;
+mod rewriting;
 mod text;
 
 use libc::STDIN_FILENO;
@@ -22,6 +23,7 @@ fn answer(operation: u8, body: &mut [u8]) -> bool {
         7 => orders::share(body),
         8 => judgements::judge(body),
         9 => judgements::next(body),
+        12 => rewriting::fill(body),
         _ => false,
     }
 }
