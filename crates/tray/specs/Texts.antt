@@ -1,4 +1,4 @@
--- The lines of the program judge_build: one for each bundle, and the build's. "Each line's first word is the bundle's word. The rest of a
+-- The lines of the program judge_build (docs/TRAY.md): one for each bundle, and the build's. "Each line's first word is the bundle's word. The rest of a
 -- `race` line is racelist's lines of the bundle with its least race alone, joined by single spaces: counts, least race, number of races."
 use Prim.Native.Nat.{ℕ, _-_}
 use mathlib.Core.List.{List, _++_}
