@@ -3,6 +3,7 @@ pub mod CommonLocks
 pub mod Comparing
 pub mod Computing
 pub mod SharedByte
+pub mod Elements
 pub mod Euclid
 pub mod PairBytes
 pub mod SegmentRows

@@ -12,13 +12,15 @@ use Rattle.bundle.specs.Commands.{rangeOk, lastByte}
 use Rattle.bundle.specs.declared.command.Range.{Range}
 use Rattle.bundle.proofs.Tests.{both, and-left, and-right, not-both}
 use Rattle.bundle.proofs.Ranges.{range-parts}
-use Rattle.order.specs.Ranges.{Touches, sharedByte, sharedOf}
-use Rattle.order.specs.Pairs.{touchesSome, Near, PairFits, InOrder, PairOf, pairByte, lowestOf}
+use Rattle.order.specs.Ranges.{Touches, sharedByte, overlapOf, sharedOf}
+use Rattle.order.specs.Pairs.{touchesSome, Near, PairFits, InOrder, PairOf, pairByte, lowestOf, overlapBy}
 use Rattle.order.specs.declared.range.ElementPair.{ElementPair}
 use Rattle.order.specs.declared.range.ElementPair.the-variants as Pr
 use Rattle.order.specs.declared.range.Lowest.{Lowest}
 use Rattle.order.specs.declared.range.Lowest.the-variants as Lo
+use Rattle.order.specs.declared.range.Overlap.{Overlap}
 use Rattle.order.proofs.SharedByte.{SharedIs, shared-unique, shared-some}
+use Rattle.order.proofs.Elements.{overlap-by, overlap-some, overlap-none}
 
 module _ (lower upper : Range) (o : InOrder lower upper) where
   -- the upper range's first byte lies in the lower range's first element
@@ -155,13 +157,22 @@ touch-fits r byte e t =
     omega (arith, range-parts r e .last, t .at, t .within-below)
 
 module _ (a b : Range) (ok : (rangeOk a ≡ true) × (rangeOk b ≡ true)) where
-  pub shared-given : sharedOf a b ≡ gives (sharedByte a b)
+  pub shared-given : sharedOf a b ≡ gives (overlapOf a b)
   unfolding sharedOf
   shared-given = simp (ok .0, ok .1)
 
   module _ {lowest : Lowest} (e : lowestOf lowest ≡ sharedByte a b) where
-    pub shared-fits : {byte : ℕ} → lowest ≡ Lo.Byte byte → byte < 4294967296
-    shared-fits {byte} h = touch-fits a byte (ok .0) (shared-some a b byte (sym e ∙ ap lowestOf h) .one)
+    byte-shared : {byte : ℕ} → lowest ≡ Lo.Byte byte → sharedByte a b ≡ some byte
+    byte-shared h = sym e ∙ ap lowestOf h
 
-    pub shared-answer : (l : Lowest) → lowest ≡ l → gives (lowestOf l) ≡ sharedOf a b
-    shared-answer l h = ap (λ x. gives (lowestOf x)) (sym h) ∙ ap gives e ∙ sym shared-given
+    pub shared-fits : {byte : ℕ} → lowest ≡ Lo.Byte byte → byte < 4294967296
+    shared-fits {byte} h = touch-fits a byte (ok .0) (shared-some a b byte (byte-shared h) .one)
+
+    pub byte-answer : {byte : ℕ} {o : Overlap} → lowest ≡ Lo.Byte byte → o ≡ overlapBy a b byte → gives (some o) ≡ sharedOf a b
+    byte-answer {byte} {o} h f =
+        ap (λ (x : Overlap). gives (some x)) (f ∙ overlap-by a b byte (shared-some a b byte (byte-shared h)))
+        ∙ ap gives (sym (overlap-some a b (byte-shared h)))
+        ∙ sym shared-given
+
+    pub nothing-answer : lowest ≡ Lo.Nothing → gives none ≡ sharedOf a b
+    nothing-answer h = ap gives (sym (overlap-none a b (sym e ∙ ap lowestOf h))) ∙ sym shared-given

@@ -39,7 +39,7 @@ touched-intro r byte t =
     (Memᴰ·map (λ j. r .base + t .element * r .stride + j) (upTo-intro (r .size) (t .within-below))))
 
 -- what it is to be the least number of a list
-abbrev LeastIs : List ℕ → Option ℕ → Type 0
+abbrev pub LeastIs : List ℕ → Option ℕ → Type 0
 LeastIs ns none = (n : ℕ) → List·Memᴰ n ns → ⊥
 LeastIs ns (some w) = List·Memᴰ w ns × ((n : ℕ) → List·Memᴰ n ns → w ≤ n)
 
@@ -55,7 +55,7 @@ least-with n ns (some w) h = (
   λ i m. ⊎-elim (λ e. omega arith) (λ l. omega (arith, h .1 i l)) (List·Memᴰ·cases-cons m),
 )
 
-least-is : (ns : List ℕ) → LeastIs ns (least ns)
+pub least-is : (ns : List ℕ) → LeastIs ns (least ns)
 unfolding least
 least-is [] = λ n m. List·Memᴰ·not-nil m
 least-is (n ∷ ns) = least-with n ns (least ns) (least-is ns)

@@ -1,9 +1,10 @@
 -- Inner: pairs of elements, one of each of two ranges, that share a byte, and what the functions promise.
-use Prim.Native.Nat.{ℕ, _+_, _-_, _*_, _<_, _≤_, max}
-use mathlib.Core.Bool.{Bool, cond, _&&_}
+use Prim.Native.Nat.{ℕ, _+_, _-_, _*_, _/_, _<_, _≤_, max}
+use mathlib.Core.Bool.{Bool, cond, _&&_, _||_}
 use mathlib.Core.Option.{Option, none, some}
-use lib.Dec.{leb, ltb}
+use lib.Dec.{eqb, leb, ltb}
 use Rattle.bundle.specs.declared.command.Range.{Range}
+use Rattle.order.specs.declared.range.Overlap.{Overlap}
 use Rattle.order.specs.declared.range.ElementPair.{ElementPair}
 use Rattle.order.specs.declared.range.ElementPair.the-variants as Pr
 use Rattle.order.specs.declared.range.Lowest.{Lowest}
@@ -89,3 +90,18 @@ pairByte Pr.Nothing lower upper = Lo.Nothing
 abbrev pub lowestOf : Lowest → Option ℕ
 lowestOf (Lo.Byte n) = some n
 lowestOf Lo.Nothing = none
+
+-- the lowest element that covers a byte which the range touches, by one division: the first whose end lies past the byte. A range without
+-- a stride or a size has no other element than 0
+unfoldable pub elementBy : ℕ → ℕ → ℕ → ℕ → ℕ
+elementBy base stride size byte =
+    cond (ltb byte (base + size) || (eqb stride 0 || eqb size 0)) 0 ((byte - (base + size)) / stride + 1)
+
+-- the same for both of two ranges
+abbrev pub overlapBy : Range → Range → ℕ → Overlap
+overlapBy a b byte =
+    record {
+      byte = byte;
+      «first_element» = elementBy (a .base) (a .stride) (a .size) byte;
+      «second_element» = elementBy (b .base) (b .stride) (b .size) byte;
+    }

@@ -1,5 +1,6 @@
--- The bytes that a range touches, and the lowest byte that two ranges share. The list that computes it stands in `SharedBytes`.
-use Prim.Native.Nat.{ℕ, _+_, _*_, _<_}
+-- The bytes that a range touches, the lowest byte that two ranges share, and the elements that cover it. The lists that compute them stand in
+-- `SharedBytes`.
+use Prim.Native.Nat.{ℕ, _+_, _*_, _≤_, _<_}
 use mathlib.Core.Path.{_≡_}
 use mathlib.Core.Bool.{cond}
 use mathlib.Core.Option.{Option, none, some}
@@ -7,7 +8,8 @@ use Rattle.bundle.specs.Answer.{Answer, gives, refuses, numberOf}
 use Rattle.bundle.specs.Commands.{rangeOk}
 use Rattle.bundle.specs.declared.command.Range.{Range}
 -- here and in the layers above
-unfoldable pub use Rattle.order.specs.SharedBytes.{sharedByte}
+unfoldable pub use Rattle.order.specs.SharedBytes.{sharedByte, lowestElement, overlapOf}
+use Rattle.order.specs.declared.range.Overlap.{Overlap}
 use Rattle.order.specs.declared.range.Shared.{Shared}
 use Rattle.order.specs.declared.range.Shared.the-variants as Sh
 
@@ -25,12 +27,24 @@ pub record LeastShared (a b : Range) (w : ℕ) : Type 0 where
   pub other : Touches b w
   pub lowest : (byte : ℕ) → byte < w → Touches a byte → Touches b byte → ⊥
 
--- "Lowest shared byte of two ranges": 5 at 1 or 2 for the first bad range, else the byte or none
-unfoldable pub sharedOf : Range → Range → Answer (Option ℕ)
-sharedOf a b = cond (rangeOk a) (cond (rangeOk b) (gives (sharedByte a b)) (refuses 5 2)) (refuses 5 1)
+-- an element k of a range covers a byte: one of its bytes base + k times stride + j
+pub record Covers (r : Range) (byte element : ℕ) : Type 0 where
+  pub element-below : element < r .count
+  pub from : r .base + element * r .stride ≤ byte
+  pub to : byte < r .base + element * r .stride + r .size
+
+-- A.2: "the lowest element number covering that byte"
+pub record LowestElement (r : Range) (byte element : ℕ) : Type 0 where
+  pub covers : Covers r byte element
+  pub lowest : (k : ℕ) → k < element → Covers r byte k → ⊥
+
+-- "Lowest shared byte of two ranges": 5 at 1 or 2 for the first bad range, else the byte or none; A.2: "also gives, for each range, the lowest
+-- element number covering that byte"
+unfoldable pub sharedOf : Range → Range → Answer (Option Overlap)
+sharedOf a b = cond (rangeOk a) (cond (rangeOk b) (gives (overlapOf a b)) (refuses 5 2)) (refuses 5 1)
 
 -- what the code's answer says
-abbrev pub sharingOf : Shared → Answer (Option ℕ)
-sharingOf (Sh.Byte n) = gives (some n)
+abbrev pub sharingOf : Shared → Answer (Option Overlap)
+sharingOf (Sh.Byte o) = gives (some o)
 sharingOf Sh.Nothing = gives none
 sharingOf (Sh.Refused place cause) = refuses (numberOf cause) place

@@ -1,9 +1,10 @@
-// The lowest byte that two ranges share.
+// The lowest byte that two ranges share, and the elements that cover it.
 use bundle::command::Range;
 use bundle::command::range_ok;
 use bundle::refusal::Cause;
 ghost use mathlib.Core.Path.{_≡_};
-ghost use mathlib.Core.Bool.{true};
+ghost use mathlib.Core.Bool.{true, _||_};
+ghost use lib.Dec.{eqb, ltb};
 ghost use Prim.Native.Nat.{_+_, _-_, _*_, _≤_, _<_, max};
 ghost use Rattle.bundle.specs.Commands.{rangeOk};
 ghost use Rattle.order.specs.Ranges.{sharedByte, sharedOf, sharingOf};
@@ -18,11 +19,20 @@ ghost use Rattle.order.specs.Pairs.{
   outerOf,
   pairByte,
   lowestOf,
+  elementBy,
+  overlapBy,
 };
+
+// The lowest byte that two ranges share, and the lowest element of each that covers it.
+pub struct Overlap {
+    pub byte: u32,
+    pub first_element: u32,
+    pub second_element: u32,
+}
 
 // What the lowest shared byte of two ranges is.
 pub enum Shared {
-    Byte(u32),
+    Byte(Overlap),
     Nothing,
     Refused { place: usize, cause: Cause },
 }
@@ -183,6 +193,34 @@ pub fn shared_byte(first: Range, second: Range) -> Lowest
     shared_in_order(second, first)
 }
 
+// Whether an element of a range is 0 without a division: the byte lies before the end of element 0, or there is no other element.
+fn in_first(end: u64, stride: u16, size: u8, byte: u32) -> bool
+    ensures { λ r. ⌜ r ≡ (ltb byte end || (eqb stride 0 || eqb size 0)) ⌝ }
+{
+    ((byte as u64) < end) | ((stride == 0) | (size == 0))
+}
+
+// The lowest element that covers a byte which a range of this base, stride and size touches.
+pub fn element_at(base: u32, stride: u16, size: u8, byte: u32) -> u32
+    ensures { λ r. ⌜ r ≡ elementBy base stride size byte ⌝ }
+{
+    let end = base as u64 + size as u64;
+    if in_first(end, stride, size, byte) {
+        return 0;
+    }
+    (byte as u64 - end) as u32 / (stride as u32) + 1
+}
+
+fn overlap_at(first: Range, second: Range, byte: u32) -> Overlap
+    ensures { λ r. ⌜ r ≡ overlapBy first second byte ⌝ }
+{
+    Overlap {
+        byte,
+        first_element: element_at(first.base, first.stride, first.size, byte),
+        second_element: element_at(second.base, second.stride, second.size, byte),
+    }
+}
+
 // The lowest byte that two ranges that are in range share.
 fn shared_of_valid(first: Range, second: Range) -> Shared
     requires { ⌜ (rangeOk first ≡ true) × (rangeOk second ≡ true) ⌝ }
@@ -190,12 +228,13 @@ fn shared_of_valid(first: Range, second: Range) -> Shared
 {
     let lowest = shared_byte(first, second);
     match lowest {
-        Lowest::Byte(byte) => Shared::Byte(byte as u32),
+        Lowest::Byte(byte) => Shared::Byte(overlap_at(first, second, byte as u32)),
         Lowest::Nothing => Shared::Nothing,
     }
 }
 
-// The lowest byte that both ranges touch, or that there is none; 5 at 1 or 2 for the first bad range.
+// The lowest byte that both ranges touch, with the lowest element of each that covers it, or that there is none; 5 at 1 or 2 for the first bad
+// range.
 pub fn lowest_shared_byte(first: Range, second: Range) -> Shared
     ensures { λ r. ⌜ sharingOf r ≡ sharedOf first second ⌝ }
 {
