@@ -8,6 +8,7 @@ pub mod Lexical
 pub mod Sorting
 pub mod AccessNames
 pub mod RaceList
+pub mod RaceElements
 pub mod SameRaces
 pub mod Demand3
 pub mod NextRace

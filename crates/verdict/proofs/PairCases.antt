@@ -137,12 +137,22 @@ module _ (t : Tally) (one other : AccessRow) (w : ℕ) where
       (h ∙ ap (nameBelow (least .first)) f)
       (i ∙ ap (nameBelow (least .first)) g)
 
--- a tally in five numbers
+-- a tally in seven numbers
 pub sum-whole :
     (t : Tally) {a b : ℕ}
     → SideOf (t .race .first) (t .race .«first_site») a
     → SideOf (t .race .second) (t .race .«second_site») b
-    → tallyIn (record { count = t .count; found = t .found; witness = t .race .witness; first = a; second = b }) ≡ t
+    → tallyIn
+    (record {
+      count = t .count;
+      found = t .found;
+      witness = t .race .witness;
+      first = a;
+      «first_element» = t .race .«first_element»;
+      second = b;
+      «second_element» = t .race .«second_element»;
+    })
+    ≡ t
 sum-whole t p q i =
     record {
       count = t .count;
@@ -152,12 +162,14 @@ sum-whole t p q i =
             witness = t .race .witness;
             first = p .name-in i;
             «first_site» = p .site-in i;
+            «first_element» = t .race .«first_element»;
             second = q .name-in i;
             «second_site» = q .site-in i;
+            «second_element» = t .race .«second_element»;
           };
     }
 
--- the same of a tally that stands in five numbers
+-- the same of a tally that stands in seven numbers
 module _ (s : Sum) (one other : AccessRow) (w : ℕ) (key : Key) {t : Tally} (e : t ≡ tallyIn s) where
   pub later-summed :
       {b : Bool}

@@ -1,6 +1,6 @@
 -- The list of a bundle's races: each race once, in order, and nothing else.
 use Prim.Native.Nat.{ℕ, _<_}
-use mathlib.Core.Path.{_≡_, refl, sym, _∙_, ap}
+use mathlib.Core.Path.{_≡_, refl, sym, _∙_, ap, ap₂}
 use mathlib.Core.Logic.{⊎-elim}
 use mathlib.Core.Bool.{Bool, true, false, cond, not, _&&_, _||_}
 use mathlib.Core.List.{List, [], _∷_, map, List·Memᴰ, List·Memᴰ·head, List·Memᴰ·not-nil, List·Memᴰ·eq-of-singleton}
@@ -16,10 +16,11 @@ use Rattle.verdict.specs.Graph.{segmentsOf}
 use Rattle.verdict.specs.GraphTests.{NodePair, closureOf, reaches}
 use Rattle.verdict.specs.Accesses.{NamedAccess, accessesOf, nameKey, nameBelow, raceKey, writes, atomic, raceAt}
 use Rattle.verdict.specs.Races.{IsRace}
-use Rattle.verdict.specs.RaceLists.{clashes, raceOf, racesAmong, racesOf}
+use Rattle.verdict.specs.RaceLists.{clashes, raceWith, raceOf, racesAmong, racesOf}
 use Rattle.verdict.specs.Demand.{Ascending}
 use Rattle.verdict.specs.declared.race.Race.{Race}
 use Rattle.order.proofs.SharedByte.{shared-some, shared-is}
+use Rattle.order.proofs.Elements.{element-lowest, element-unique}
 use Rattle.verdict.proofs.Reachability.{reaches-path, path-reaches}
 use Rattle.verdict.proofs.AccessNames.{accessKey, accesses-distinct}
 use Rattle.verdict.proofs.Lexical.{raceKey-tells}
@@ -30,7 +31,7 @@ pub record Found (closure : List NodePair) (x y : NamedAccess) (r : Race) : Type
   pub clash : clashes closure x y ≡ true
   pub witness : ℕ
   pub shared : sharedByte (x .access .range) (y .access .range) ≡ some witness
-  pub is : r ≡ raceAt x y witness
+  pub is : r ≡ raceWith x y witness
 
 module _ (closure : List NodePair) (x y : NamedAccess) where
   pub raceOf-elim : {r : Race} → List·Memᴰ r (raceOf closure x y) → Found closure x y r
@@ -42,7 +43,7 @@ module _ (closure : List NodePair) (x y : NamedAccess) where
           → clashes closure x y ≡ t
           → (o : Option ℕ)
           → sharedByte (x .access .range) (y .access .range) ≡ o
-          → List·Memᴰ r (cond t (fromOption [] (λ witness. raceAt x y witness ∷ []) o) [])
+          → List·Memᴰ r (cond t (fromOption [] (λ witness. raceWith x y witness ∷ []) o) [])
           → Found closure x y r
       go false p o q m′ = absurd (List·Memᴰ·not-nil m′)
       go true p none q m′ = absurd (List·Memᴰ·not-nil m′)
@@ -58,13 +59,13 @@ module _ (closure : List NodePair) (x y : NamedAccess) where
     where
       go :
           (t : Bool) (o : Option ℕ)
-          → Distinct (map raceKey (cond t (fromOption [] (λ witness. raceAt x y witness ∷ []) o) []))
+          → Distinct (map raceKey (cond t (fromOption [] (λ witness. raceWith x y witness ∷ []) o) []))
       go false o = distinct-nil
       go true none = distinct-nil
       go true (some w) = distinct-cons List·Memᴰ·not-nil distinct-nil
 
   pub names-of : {r : Race} → List·Memᴰ r (raceOf closure x y) → (r .first ≡ x .name) × (r .second ≡ y .name)
-  unfolding raceAt
+  unfolding raceWith raceAt
   names-of m = let e = raceOf-elim m .is in (ap (λ (r : Race). r .first) e, ap (λ (r : Race). r .second) e)
 
 -- no two races have one key, if no two accesses have one name
@@ -159,7 +160,7 @@ module _ (cs : List Chunk) where
       → List·Memᴰ y (accessesOf cs)
       → Found (closureOf (segmentsOf cs)) x y r
       → IsRace cs r
-  unfolding raceAt
+  unfolding raceWith raceAt
   found-race {x} {y} m l f =
       let ss = segmentsOf cs in
       let c = clash-elim (closureOf ss) x y (f .clash) in
@@ -177,10 +178,13 @@ module _ (cs : List Chunk) where
         no-path = λ p. refuted (path-reaches ss (x .node) (y .node) p) (c .no-path);
         no-path-back = λ p. refuted (path-reaches ss (y .node) (x .node) p) (c .no-path-back);
         shared = s;
+        element = element-lowest (x .access .range) (f .witness) (s .one);
+        other-element = element-lowest (y .access .range) (f .witness) (s .other);
         carried = refl;
       })
 
   pub race-found : {r : Race} (i : IsRace cs r) → Found (closureOf (segmentsOf cs)) (i .one) (i .other) r
+  unfolding raceWith
   race-found {r} i =
       let x = i .one in
       let y = i .other in
@@ -202,7 +206,13 @@ module _ (cs : List Chunk) where
             });
         witness = r .witness;
         shared = shared-is (x .access .range) (y .access .range) (r .witness) (i .shared);
-        is = i .carried;
+        is =
+            i .carried
+            ∙ ap₂ (raceAt x y (r .witness))
+            (element-unique (x .access .range) (r .witness) (i .element)
+            (element-lowest (x .access .range) (r .witness) (i .shared .one)))
+            (element-unique (y .access .range) (r .witness) (i .other-element)
+            (element-lowest (y .access .range) (r .witness) (i .shared .other)));
       }
 
   -- the list holds the races and nothing else

@@ -16,14 +16,15 @@ use Rattle.bundle.specs.declared.command.AccessKind.{AccessKind}
 use Rattle.bundle.specs.declared.command.AccessKind.the-variants as Kind
 use Rattle.bundle.specs.declared.command.Range.{Range}
 use Rattle.bundle.proofs.Tests.{both, not-both, is-false, same-test}
-use Rattle.order.specs.Ranges.{Touches, sharedByte}
+use Rattle.order.specs.Ranges.{Touches, sharedByte, lowestElement}
 use Rattle.order.proofs.SharedByte.{shared-some, shared-swap}
+use Rattle.order.proofs.Elements.{element-by}
 use Rattle.verdict.specs.GraphTests.{closureOf, reaches}
 use Rattle.verdict.specs.Accesses.{NamedAccess, nameKey, nameBelow, writes, atomic, raceAt}
-use Rattle.verdict.specs.RaceLists.{clashes, raceOf}
+use Rattle.verdict.specs.RaceLists.{clashes, raceWith, raceOf}
 use Rattle.verdict.specs.Matrix.{bitAt, PathBits}
 use Rattle.verdict.specs.Working.{kindCode, RowOf}
-use Rattle.verdict.specs.Tallying.{rowRange, rowName, boundsMeet, kindsClash, rowsClash, raceFrom, raceBetween, clashRace, pairRace}
+use Rattle.verdict.specs.Tallying.{rowRange, rowName, boundsMeet, kindsClash, rowsClash, rowElement, raceFrom, raceBetween, clashRace, pairRace}
 use Rattle.verdict.specs.declared.race.Race.{Race}
 use Rattle.verdict.specs.declared.rows.AccessRow.{AccessRow}
 use Rattle.verdict.proofs.Lexical.{Compared, less, same, more, compare, less-asymmetric}
@@ -100,12 +101,12 @@ listed o = fromOption [] (λ (r : Race). r ∷ []) o
 -- the tests in either order
 tested :
     (bounds clash : Bool) (shared : Option ℕ) (f g : ℕ → Race)
-    → ((w : ℕ) → f w ≡ g w)
+    → ((w : ℕ) → shared ≡ some w → f w ≡ g w)
     → (bounds ≡ false → shared ≡ none)
     → cond clash (fromOption [] (λ w. f w ∷ []) shared) []
     ≡ listed (cond bounds (cond clash (fromOption none (λ w. some (g w)) shared) none) none)
 tested true true none f g h apart = refl
-tested true true (some w) f g h apart = ap (λ (r : Race). r ∷ []) (h w)
+tested true true (some w) f g h apart = ap (λ (r : Race). r ∷ []) (h w refl)
 tested true false shared f g h apart = refl
 tested false clash shared f g h apart = rw (apart refl) (go clash)
   where
@@ -125,22 +126,33 @@ module _ {ss : List Segment} where
   pub row-range : {x : NamedAccess} {r : AccessRow} → RowOf ss x r → rowRange r ≡ x .access .range
   row-range rx = λ i. record { base = rx .base i; stride = rx .stride i; count = rx .count i; size = rx .size i }
 
+  element-row :
+      {x : NamedAccess} {r : AccessRow} → RowOf ss x r → (w : ℕ) → Touches (rowRange r) w
+      → lowestElement (x .access .range) w ≡ rowElement r w
+  element-row {r = r} rx w t =
+      ap (λ (a : Range). lowestElement a w) (sym (row-range rx)) ∙ sym (element-by (rowRange r) w t)
+
 module _ {ss : List Segment} {x y : NamedAccess} {r q : AccessRow} (rx : RowOf ss x r) (ry : RowOf ss y q) where
   kinds-row :
       kindsClash (r .kind) (q .kind)
       ≡ ((writes (x .access .kind) || writes (y .access .kind)) && not (atomic (x .access .kind) && atomic (y .access .kind)))
   kinds-row = ap₂ kindsClash (rx .kind) (ry .kind) ∙ kinds-are (x .access .kind) (y .access .kind)
 
-  carried : (w : ℕ) → raceAt x y w ≡ raceFrom r q w
-  unfolding raceAt
-  carried w =
+  carried : (w : ℕ) → sharedByte (rowRange r) (rowRange q) ≡ some w → raceWith x y w ≡ raceFrom r q w
+  unfolding raceWith raceAt
+  carried w e =
+      let s = shared-some (rowRange r) (rowRange q) w e in
+      let one = element-row rx w (s .one) in
+      let other = element-row ry w (s .other) in
       λ i.
       record {
         witness = w;
         first = record { team = sym (rx .team) i; member = sym (rx .member) i; number = sym (rx .number) i };
         «first_site» = sym (rx .site) i;
+        «first_element» = one i;
         second = record { team = sym (ry .team) i; member = sym (ry .member) i; number = sym (ry .number) i };
         «second_site» = sym (ry .site) i;
+        «second_element» = other i;
       }
 
 module _ {ss : List Segment} {m : List ℕ} (paths : PathBits ss m) where
@@ -189,7 +201,7 @@ module _ {ss : List Segment} {m : List ℕ} (paths : PathBits ss m) where
 
     lower-first :
         (below : nameBelow (x .name) (y .name) ≡ true) (f : ℕ → Race)
-        → ((w : ℕ) → raceAt x y w ≡ f w)
+        → ((w : ℕ) → sharedByte (rowRange r) (rowRange q) ≡ some w → raceWith x y w ≡ f w)
         → (bounds : Bool)
         → (bounds ≡ false → sharedByte (rowRange r) (rowRange q) ≡ none)
         → raceOf (closureOf ss) x y
@@ -199,10 +211,10 @@ module _ {ss : List Segment} {m : List ℕ} (paths : PathBits ss m) where
         rw (clash-row below)
         (subst
         (λ (o : Option ℕ).
-        cond (rowsClash m r q) (fromOption [] (λ w. raceAt x y w ∷ []) o) []
+        cond (rowsClash m r q) (fromOption [] (λ w. raceWith x y w ∷ []) o) []
         ≡ listed (cond bounds (cond (rowsClash m r q) (fromOption none (λ w. some (f w)) (sharedByte (rowRange r) (rowRange q))) none) none))
         (ap₂ sharedByte (row-range rx) (row-range ry))
-        (tested bounds (rowsClash m r q) (sharedByte (rowRange r) (rowRange q)) (raceAt x y) f h apart))
+        (tested bounds (rowsClash m r q) (sharedByte (rowRange r) (rowRange q)) (raceWith x y) f h apart))
 
   module _ {x y : NamedAccess} {r q : AccessRow} (rx : RowOf ss x r) (ry : RowOf ss y q) where
     -- the two orders of two accesses with different names give the race of their rows, or none
@@ -224,11 +236,11 @@ module _ {ss : List Segment} {m : List ℕ} (paths : PathBits ss m) where
         go (less h) =
             let back = is-false (nameBelow (y .name) (x .name)) (λ e. less-asymmetric (nameKey (x .name)) (nameKey (y .name)) h e) in
             rw (no-race ry rx back, append-nil)
-            (lower-first rx ry h (raceBetween r q) (λ w. carried rx ry w ∙ sym (between true h w)) bounds (bounds-row rx ry))
+            (lower-first rx ry h (raceBetween r q) (λ w e. carried rx ry w e ∙ sym (between true h w)) bounds (bounds-row rx ry))
         go (same h) = absurd (apart h)
         go (more h) =
             let back = is-false (nameBelow (x .name) (y .name)) (λ e. less-asymmetric (nameKey (x .name)) (nameKey (y .name)) e h) in
             let swap = shared-swap (rowRange r) (rowRange q) in
             rw (no-race rx ry back, clash-swap m r q, swap)
-            (lower-first ry rx h (raceBetween r q) (λ w. carried ry rx w ∙ sym (between false back w)) bounds
+            (lower-first ry rx h (raceBetween r q) (λ w e. carried ry rx w e ∙ sym (between false back w)) bounds
             (λ e. sym swap ∙ bounds-row rx ry e))

@@ -84,6 +84,8 @@ same-race cs ds same i =
       no-path = λ p. i .no-path (same-path ds cs (Permᴰ·symm same) p);
       no-path-back = λ p. i .no-path-back (same-path ds cs (Permᴰ·symm same) p);
       shared = i .shared;
+      element = i .element;
+      other-element = i .other-element;
       carried = i .carried;
     }
 

@@ -77,13 +77,16 @@ atomic Kind.Write = false
 atomic Kind.AtomicRead = true
 atomic Kind.AtomicWrite = true
 
--- the race of two accesses at a byte "carries both sites"
-unfoldable pub raceAt : NamedAccess → NamedAccess → ℕ → Race
-raceAt x y witness =
+-- the race of two accesses at a byte that these elements cover "carries both sites"; A.2: the judge and next race "carry both numbers in a
+-- race"
+unfoldable pub raceAt : NamedAccess → NamedAccess → ℕ → ℕ → ℕ → Race
+raceAt x y witness element otherElement =
     record {
       witness = witness;
       first = x .name;
       «first_site» = x .access .site;
+      «first_element» = element;
       second = y .name;
       «second_site» = y .access .site;
+      «second_element» = otherElement;
     }

@@ -1,12 +1,13 @@
 -- The bundle's races as a list that computes. What a race is stands in `Races`; laws of `proofs/RaceList` say that the list holds exactly
 -- the races.
+use Prim.Native.Nat.{ℕ}
 use mathlib.Core.Bool.{Bool, cond, not, _&&_, _||_}
 use mathlib.Core.List.{List, [], _∷_}
 use Rattle.bundle.specs.Lists.{concatMap, fromOption}
 use Rattle.bundle.specs.Locks.{commonLock}
 use Rattle.bundle.specs.Chunks.{Chunk}
 use Rattle.bundle.specs.Walk.{segmentsOf}
-use Rattle.order.specs.Ranges.{sharedByte}
+use Rattle.order.specs.Ranges.{sharedByte, lowestElement}
 use Rattle.verdict.specs.GraphTests.{NodePair, closureOf, reaches}
 use Rattle.verdict.specs.Accesses.{NamedAccess, accessesOf, nameBelow, raceBelow, writes, atomic, raceAt}
 use Rattle.verdict.specs.declared.race.Race.{Race}
@@ -21,10 +22,15 @@ clashes closure x y =
     && not (reaches closure (x .node) (y .node))
     && not (reaches closure (y .node) (x .node))
 
+-- the race of two accesses at the lowest byte that both touch
+unfoldable pub raceWith : NamedAccess → NamedAccess → ℕ → Race
+raceWith x y witness =
+    raceAt x y witness (lowestElement (x .access .range) witness) (lowestElement (y .access .range) witness)
+
 unfoldable pub raceOf : List NodePair → NamedAccess → NamedAccess → List Race
 raceOf closure x y =
     cond (clashes closure x y)
-    (fromOption [] (λ witness. raceAt x y witness ∷ []) (sharedByte (x .access .range) (y .access .range)))
+    (fromOption [] (λ witness. raceWith x y witness ∷ []) (sharedByte (x .access .range) (y .access .range)))
     []
 
 -- a list of races put into their order

@@ -6,7 +6,7 @@ use mathlib.Core.Bool.{true}
 use mathlib.Core.List.{List, List·Memᴰ}
 use Rattle.bundle.specs.Locks.{holds}
 use Rattle.bundle.specs.Chunks.{Chunk}
-use Rattle.order.specs.Ranges.{LeastShared}
+use Rattle.order.specs.Ranges.{LeastShared, LowestElement}
 use Rattle.verdict.specs.Graph.{GraphPath, segmentsOf}
 use Rattle.verdict.specs.Accesses.{writes, atomic, raceAt}
 use Rattle.verdict.specs.declared.race.Race.{Race}
@@ -16,7 +16,8 @@ unfoldable pub use Rattle.verdict.specs.Accesses.{accessesOf, lexLess, n
 unfoldable pub use Rattle.verdict.specs.RaceLists.{raceOf, racesAmong, racesOf}
 
 -- demand 3: "a race is two different accesses that share a byte, at least one writing, not both atomic, holding no common lock, with no
--- path either way in document 01's fork-join graph", lower name first; "its witness is the lowest shared byte, and it carries both sites"
+-- path either way in document 01's fork-join graph", lower name first; "its witness is the lowest shared byte, and it carries both sites"; and
+-- for each of the two ranges "the lowest element number covering that byte" (A.2)
 pub record IsRace (chunks : List Chunk) (r : Race) : Type 0 where
   pub one : NamedAccess
   pub other : NamedAccess
@@ -29,4 +30,6 @@ pub record IsRace (chunks : List Chunk) (r : Race) : Type 0 where
   pub no-path : GraphPath (segmentsOf chunks) (one .node) (other .node) → ⊥
   pub no-path-back : GraphPath (segmentsOf chunks) (other .node) (one .node) → ⊥
   pub shared : LeastShared (one .access .range) (other .access .range) (r .witness)
-  pub carried : r ≡ raceAt one other (r .witness)
+  pub element : LowestElement (one .access .range) (r .witness) (r .«first_element»)
+  pub other-element : LowestElement (other .access .range) (r .witness) (r .«second_element»)
+  pub carried : r ≡ raceAt one other (r .witness) (r .«first_element») (r .«second_element»)

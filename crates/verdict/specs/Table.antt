@@ -10,6 +10,7 @@ use Rattle.bundle.specs.declared.command.Range.{Range}
 use Rattle.bundle.specs.declared.command.Command.the-variants as Com
 use Rattle.order.specs.Labels.{labelOf, compareOf}
 use Rattle.order.specs.Ranges.{sharedOf}
+use Rattle.order.specs.declared.range.Overlap.{Overlap}
 use Rattle.order.specs.declared.label.Triple.{Triple}
 use Rattle.order.specs.declared.label.Label.{Label}
 use Rattle.order.specs.declared.label.Order.{Order}
@@ -31,7 +32,7 @@ pub data Reply : Type 0 where
   judged : Answer Judgement → Reply
   labelled : Answer (List Triple) → Reply
   compared : Answer Order → Reply
-  shared : Answer (Option ℕ) → Reply
+  shared : Answer (Option Overlap) → Reply
   taken : Answer Taken → Reply
 
 unfoldable pub triple : ℕ → ℕ → ℕ → Triple
@@ -75,6 +76,10 @@ counts chunks segments accesses races verdict =
 unfoldable pub range : ℕ → ℕ → ℕ → ℕ → Range
 range base stride count size = record { base = base; stride = stride; count = count; size = size }
 
+-- a shared byte, and the elements of the two ranges that cover it
+unfoldable pub overlap : ℕ → ℕ → ℕ → Overlap
+overlap byte first second = record { byte = byte; «first_element» = first; «second_element» = second }
+
 -- the bytes of a read at site 0 of the last byte of all and those behind it, and that command
 unfoldable pub lastRead : ℕ → List ℕ
 lastRead size = 0x30 ∷ 0x00 ∷ 0x00 ∷ 0xff ∷ 0xff ∷ 0xff ∷ 0xff ∷ 0x00 ∷ 0x00 ∷ 0x01 ∷ 0x00 ∷ size ∷ []
@@ -104,8 +109,10 @@ table =
       witness = 0x100a;
       first = record { team = 1; member = 0; number = 0 };
       «first_site» = 10;
+      «first_element» = 1;
       second = record { team = 1; member = 1; number = 0 };
       «second_site» = 20;
+      «second_element» = 0;
     })))
     ∷ row (judging (root ++ member0 ++ member1-later)) (counts 3 6 2 0 Ver.RaceFree)
     ∷ row (judging []) (judged (refuses 10 0))
@@ -120,8 +127,8 @@ table =
     ∷ after (triple 0 2 0 ∷ triple 0 2 1 ∷ []) (triple 1 2 0 ∷ []) Ord.Concurrent
     -- P11 to P13
     ∷ row (sharing (range 0 8 4 4) (range 4 8 4 4)) (shared (gives none))
-    ∷ row (sharing (range 0 8 4 4) (range 4 0 1 8)) (shared (gives (some 8)))
-    ∷ row (sharing (range 0 3 3 1) (range 1 2 3 1)) (shared (gives (some 3)))
+    ∷ row (sharing (range 0 8 4 4) (range 4 0 1 8)) (shared (gives (some (overlap 8 1 0))))
+    ∷ row (sharing (range 0 3 3 1) (range 1 2 3 1)) (shared (gives (some (overlap 3 1 1))))
     -- P14
     ∷ row (reading (lastRead 1) 0) (taken (gives lastTaken))
     ∷ row (reading (lastRead 2) 0) (taken (refuses 5 0))

@@ -11,6 +11,7 @@ use Rattle.bundle.specs.Locks.{commonLock}
 use Rattle.bundle.specs.Commands.{rangeOk}
 use Rattle.bundle.specs.declared.command.Range.{Range}
 use Rattle.order.specs.Ranges.{sharedByte}
+use Rattle.order.specs.Pairs.{elementBy}
 use Rattle.verdict.specs.Accesses.{lexLess, keyOf, raceKey, nameBelow, raceBelow}
 use Rattle.verdict.specs.Matrix.{bitAt}
 use Rattle.verdict.specs.Working.{accessRowAt}
@@ -87,6 +88,10 @@ rowsClash matrix one other =
 unfoldable pub rowsPass : AccessRow → AccessRow → Bool
 rowsPass one other = rowsMeet one other && (locksApart (one .locks) (other .locks) && kindsClash (one .kind) (other .kind))
 
+-- the lowest element of a row that covers a byte
+abbrev pub rowElement : AccessRow → ℕ → ℕ
+rowElement r byte = elementBy (r .base) (r .stride) (r .size) byte
+
 -- what a race carries
 abbrev pub raceFrom : AccessRow → AccessRow → ℕ → Race
 raceFrom one other witness =
@@ -94,8 +99,10 @@ raceFrom one other witness =
       witness = witness;
       first = rowName one;
       «first_site» = one .site;
+      «first_element» = rowElement one witness;
       second = rowName other;
       «second_site» = other .site;
+      «second_element» = rowElement other witness;
     }
 
 -- lower name first
@@ -158,7 +165,16 @@ noTally =
     record {
       count = 0;
       found = false;
-      race = record { witness = 0; first = nobody; «first_site» = 0; second = nobody; «second_site» = 0 };
+      race =
+          record {
+            witness = 0;
+            first = nobody;
+            «first_site» = 0;
+            «first_element» = 0;
+            second = nobody;
+            «second_site» = 0;
+            «second_element» = 0;
+          };
     }
 
 -- each of the first n accesses with those before it
@@ -174,7 +190,7 @@ pub record SideOf (name : Name) (site side : ℕ) : Type 0 where
   pub name-in : nameIn side ≡ name
   pub site-in : side % 65536 ≡ site
 
--- the tally that stands in five numbers
+-- the tally that stands in seven numbers
 abbrev pub tallyIn : Sum → Tally
 tallyIn s =
     record {
@@ -185,8 +201,10 @@ tallyIn s =
             witness = s .witness;
             first = nameIn (s .first);
             «first_site» = s .first % 65536;
+            «first_element» = s .«first_element»;
             second = nameIn (s .second);
             «second_site» = s .second % 65536;
+            «second_element» = s .«second_element»;
           };
     }
 

@@ -7,6 +7,7 @@ use crate::rows::access_at;
 use crate::rows::word_at;
 use bundle::command::Range;
 use order::range::Lowest;
+use order::range::element_at;
 use order::range::shared_byte;
 ghost use mathlib.Core.Path.{_≡_};
 ghost use mathlib.Core.Bool.{false, _&&_};
@@ -72,13 +73,15 @@ pub struct Packed {
     pub second: u64,
 }
 
-// A tally in five numbers, which stay in registers: each access of its race is name and site in one number.
+// A tally in seven numbers: of each access of its race, name and site are one number.
 struct Sum {
     count: u32,
     found: bool,
     witness: u32,
     first: u64,
+    first_element: u32,
     second: u64,
+    second_element: u32,
 }
 
 // A name as one number: the order of the numbers is that of the names.
@@ -176,8 +179,10 @@ fn race_from(one: AccessRow, other: AccessRow, witness: u32) -> Race
         witness,
         first: name_of(one),
         first_site: one.site,
+        first_element: element_at(one.base, one.stride, one.size, witness),
         second: name_of(other),
         second_site: other.site,
+        second_element: element_at(other.base, other.stride, other.size, witness),
     }
 }
 
@@ -252,7 +257,9 @@ fn sum_of(tally: Tally) -> Sum
         found,
         witness: race.witness,
         first: side_of(race.first, race.first_site),
+        first_element: race.first_element,
         second: side_of(race.second, race.second_site),
+        second_element: race.second_element,
     }
 }
 
@@ -267,8 +274,10 @@ fn tally_of(sum: Sum) -> Tally
             witness: sum.witness,
             first: name_in(sum.first),
             first_site: (sum.first % 65536) as u16,
+            first_element: sum.first_element,
             second: name_in(sum.second),
             second_site: (sum.second % 65536) as u16,
+            second_element: sum.second_element,
         },
     }
 }
@@ -299,7 +308,9 @@ fn add_at(one: AccessRow, other: AccessRow, witness: u32, key: Key, sum: Sum) ->
             found,
             witness: sum.witness,
             first: sum.first,
+            first_element: sum.first_element,
             second: sum.second,
+            second_element: sum.second_element,
         };
     }
     sum_of(add_race(key, tally, race_between(one, other, witness)))
@@ -510,8 +521,10 @@ fn no_tally() -> Tally
             witness: 0,
             first: nobody,
             first_site: 0,
+            first_element: 0,
             second: nobody,
             second_site: 0,
+            second_element: 0,
         },
     }
 }

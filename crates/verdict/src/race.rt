@@ -8,13 +8,15 @@ pub struct Name {
     pub number: u16,
 }
 
-// Two accesses that race, lower name first, with their sites and the lowest byte that both touch.
+// Two accesses that race, lower name first, with the lowest byte that both touch, their sites, and the lowest element of each that covers the byte.
 pub struct Race {
     pub witness: u32,
     pub first: Name,
     pub first_site: u16,
+    pub first_element: u32,
     pub second: Name,
     pub second_site: u16,
+    pub second_element: u32,
 }
 
 pub enum Verdict {
