@@ -1,5 +1,5 @@
 -- The numbers of a bundle's races, and that they read back as the races.
-use Prim.Native.Nat.{ℕ, _/_, _%_, _≤_, _<_}
+use Prim.Native.Nat.{ℕ, _+_, _*_, _/_, _%_, _≤_, _<_}
 use mathlib.Core.Path.{_≡_, refl, sym, _∙_, ap, ap₂}
 use mathlib.Core.Bool.{Bool, true, false, cond, _&&_}
 use mathlib.Core.List.{List, [], _∷_, _++_, map, List·Memᴰ, List·Memᴰ·head, List·Memᴰ·tail, Memᴰ·map, Memᴰ·of-map, Memᴰ·cast, Permᴰ·symm}
@@ -16,27 +16,28 @@ use Rattle.bundle.proofs.Keys.{perm-distinct}
 use Rattle.bundle.proofs.Places.{memberKey}
 use Rattle.bundle.proofs.Tables.{table-length}
 use Rattle.order.specs.Ranges.{sharedByte}
+use Rattle.order.specs.Pairs.{elementBy}
 use Rattle.order.proofs.SharedByte.{shared-some}
 use Rattle.order.proofs.PairBytes.{touch-fits}
 use Rattle.verdict.specs.Graph.{segmentsOf, closureOf}
 use Rattle.verdict.specs.Races.{accessesOf, racesAmong, racesOf}
 use Rattle.verdict.specs.Matrix.{PathBits}
 use Rattle.verdict.specs.Working.{accessRowAt, AccessTable}
-use Rattle.verdict.specs.Tallying.{rowName, rowRange, rowsMeet, rowsClash, raceFrom, RowFits, SideOf}
+use Rattle.verdict.specs.Tallying.{rowName, rowRange, rowsMeet, rowsClash, rowElement, raceFrom, RowFits, SideOf}
 use Rattle.verdict.specs.declared.rows.AccessRow.{AccessRow}
 use Rattle.verdict.specs.declared.race.Race.{Race}
 use Rattle.verdict.proofs.Sorting.{order-intro, order-elim, ascending-unique}
 use Rattle.verdict.proofs.AccessNames.{accesses-distinct}
 use Rattle.verdict.proofs.RaceList.{races-ascending}
 use Rattle.verdict.proofs.PackedNames.{side-packed}
-use Rattle.listing.specs.Listing.{namesOf, rankIn, numbersOf, numberFor, raceNumber, raceIn}
-use Rattle.listing.specs.Ranking.{orderOf, Copied, sideAt}
+use Rattle.listing.specs.Listing.{doubleWords, namesOf, rankIn, numbersOf, numberFor, raceNumber, elementIn, raceIn}
+use Rattle.listing.specs.Ranking.{orderOf, Copied, sideOfRow, doubleAt, wordOf}
 use Rattle.listing.specs.Pushing.{raceByte, allNumbers}
 use Rattle.listing.proofs.RankLaws.{getD-left}
 use Rattle.listing.proofs.OrderLaws.{table-at}
 use Rattle.listing.proofs.NumberLists.{Numbers, ranksOf, number-witness, number-first, number-second, numbers-elim, numbers-intro, numbers-distinct}
 use Rattle.listing.proofs.RaceNumbers.{raceOfNumber, race-of-parts, number-race, race-number, numbers-ascend}
-use Rattle.listing.proofs.NameTables.{site-small, row-fits, names-table, rank-found}
+use Rattle.listing.proofs.NameTables.{even-word, odd-word, site-small, base-small, stride-small, size-small, row-fits, doubles-table, words-table, rank-found}
 
 -- a map that changes no element
 map-kept : {A : Type 0} (f : ℕ → A) (g : A → ℕ) (ks : List ℕ) → ((k : ℕ) → List·Memᴰ k ks → g (f k) ≡ k) → map g (map f ks) ≡ ks
@@ -56,6 +57,17 @@ byte-small m one other {w} ok e = go (rowsMeet one other && rowsClash m one othe
     go true q = touch-fits (rowRange one) w ok (shared-some (rowRange one) (rowRange other) w q .one)
     go false q = absurd (let z : _≡_ {A = ℕ} 0 1 = cc in omega arith)
 
+-- the parts of an access's second word
+element-parts :
+    (base stride size byte : ℕ) → base < 4294967296 → stride < 65536 → size < 256
+    → elementIn (base * 16777216 + stride * 256 + size) byte ≡ elementBy base stride size byte
+element-parts base stride size byte b t z =
+    let reach : ℕ = base * 16777216 + stride * 256 + size in
+    let one : reach / 16777216 % 4294967296 ≡ base = omega arith in
+    let two : reach / 256 % 65536 ≡ stride = omega arith in
+    let three : reach % 256 ≡ size = omega arith in
+    rw (one, two, three)
+
 module _
     (cs : List Chunk) (members : Distinct (map memberKey cs))
     {m rows : List ℕ} (paths : PathBits (segmentsOf cs) m) (tab : AccessTable (segmentsOf cs) (accessesOf cs) rows)
@@ -65,9 +77,13 @@ module _
   few : n ≤ 1024
   few = omega (arith, tab .few)
 
-  pub names-are : table (sideAt ordered) n ≡ namesOf cs
-  unfolding namesOf
-  names-are = names-table tab (accesses-distinct cs members) small n all copied
+  doubles-are : table (doubleAt ordered) n ≡ doubleWords cs
+  unfolding doubleWords
+  doubles-are = doubles-table tab (accesses-distinct cs members) small n all copied
+
+  pub names-are : table (wordOf ordered) (2 * n) ≡ namesOf cs
+  unfolding namesOf doubleWords
+  names-are = words-table tab (accesses-distinct cs members) small n all copied
 
   abbrev numbers : List ℕ
   numbers = sorted (allNumbers m ordered n n)
@@ -108,7 +124,7 @@ module _
   races-counted = sym (sorted-length (allNumbers m ordered n n)) ∙ sym (length-map numbers race) ∙ ap length races-listed
 
   -- the number of the race that a number stands for
-  number-kept : (k : ℕ) → List·Memᴰ k numbers → raceNumber (namesOf cs) (race k) ≡ k
+  number-kept : (k : ℕ) → List·Memᴰ k numbers → raceNumber (doubleWords cs) (race k) ≡ k
   unfolding raceNumber
   number-kept k l =
       let r = number-of k l in
@@ -120,30 +136,42 @@ module _
       let is : race k ≡ raceFrom (accessRowAt ordered i) (accessRowAt ordered j) w =
       ap race (r .is) ∙ race-of-parts paths tab (accesses-distinct cs members) small n all copied w i j (omega (arith, few)) (omega (arith, few))
       in
-      let found : (q : ℕ) → q < n → rankIn (namesOf cs) (rowName (accessRowAt ordered q)) ≡ q =
-      λ q c. ap (λ (names : List ℕ). rankIn names (rowName (accessRowAt ordered q))) (sym names-are) ∙ rank-found tab (accesses-distinct cs members) small n all copied q c
+      let found : (q : ℕ) → q < n → rankIn (doubleWords cs) (rowName (accessRowAt ordered q)) ≡ q =
+      λ q c. ap (λ (doubles : List ℕ). rankIn doubles (rowName (accessRowAt ordered q))) (sym doubles-are) ∙ rank-found tab (accesses-distinct cs members) small n all copied q c
       in
-      ap (λ (x : Race). numberFor (x .witness) (rankIn (namesOf cs) (x .first)) (rankIn (namesOf cs) (x .second))) is
+      ap (λ (x : Race). numberFor (x .witness) (rankIn (doubleWords cs) (x .first)) (rankIn (doubleWords cs) (x .second))) is
       ∙ ap₂ (λ (a c : ℕ). numberFor w a c) (found i (omega arith)) (found j b)
       ∙ sym (r .is)
 
   pub numbers-are : numbers ≡ numbersOf cs
   unfolding numbersOf
-  numbers-are = sym (map-kept race (raceNumber (namesOf cs)) numbers number-kept) ∙ ap (map (raceNumber (namesOf cs))) races-listed
+  numbers-are = sym (map-kept race (raceNumber (doubleWords cs)) numbers number-kept) ∙ ap (map (raceNumber (doubleWords cs))) races-listed
 
   -- the numbers read back as the races, from the names in front of whatever follows them
   module _ (fits : (i : ℕ) → i < n → RowFits (accessRowAt ordered i)) (rest : List ℕ) where
     abbrev held : List ℕ
-    held = table (sideAt ordered) n ++ rest
+    held = table (wordOf ordered) (2 * n) ++ rest
 
-    side-read : (i : ℕ) → i < n → SideOf (rowName (accessRowAt ordered i)) (accessRowAt ordered i .site) (getD held i 0)
+    word-read : (i : ℕ) → i < 2 * n → getD held i 0 ≡ wordOf ordered i
+    word-read i h =
+        getD-left (table (wordOf ordered) (2 * n)) rest i (omega (arith, table-length (wordOf ordered) (2 * n)))
+        ∙ table-at (wordOf ordered) (2 * n) i h
+
+    side-read : (i : ℕ) → i < n → SideOf (rowName (accessRowAt ordered i)) (accessRowAt ordered i .site) (getD held (2 * i) 0)
     side-read i h =
-        let at : getD held i 0 ≡ sideAt ordered i =
-        getD-left (table (sideAt ordered) n) rest i (omega (arith, table-length (sideAt ordered) n)) ∙ table-at (sideAt ordered) n i h
-        in
+        let at : getD held (2 * i) 0 ≡ sideOfRow (accessRowAt ordered i) = word-read (2 * i) (omega arith) ∙ even-word ordered i in
         rw at
         (side-packed (record { is = refl; fits = row-fits tab (accesses-distinct cs members) small n all copied i h })
         (site-small tab (accesses-distinct cs members) small n all copied ordered i))
+
+    reach-read : (i w : ℕ) → i < n → elementIn (getD held (2 * i + 1) 0) w ≡ rowElement (accessRowAt ordered i) w
+    reach-read i w h =
+        let row = accessRowAt ordered i in
+        ap (λ (x : ℕ). elementIn x w) (word-read (2 * i + 1) (omega arith) ∙ odd-word ordered i)
+        ∙ element-parts (row .base) (row .stride) (row .size) w
+        (base-small tab (accesses-distinct cs members) small n all copied i h)
+        (stride-small tab (accesses-distinct cs members) small n all copied ordered i)
+        (size-small tab (accesses-distinct cs members) small n all copied ordered i)
 
     number-read : (k : ℕ) → List·Memᴰ k numbers → raceIn held k ≡ race k
     unfolding raceIn
@@ -160,15 +188,23 @@ module _
         let top : k / 1048576 ≡ w = ap (λ (x : ℕ). x / 1048576) (r .is) ∙ number-witness w i j (omega (arith, few)) (omega (arith, few)) in
         let low : w < 4294967296 = byte-small m (accessRowAt ordered i) (accessRowAt ordered j) (fits i c .range) (r .byte) in
         let witness : k / 1048576 % 4294967296 ≡ w = ap (λ (x : ℕ). x % 4294967296) top ∙ small-rest w low in
-        let first : SideOf (rowName (accessRowAt ordered i)) (accessRowAt ordered i .site) (getD held (k / 1024 % 1024) 0) = rw one (side-read i c) in
-        let second : SideOf (rowName (accessRowAt ordered j)) (accessRowAt ordered j .site) (getD held (k % 1024) 0) = rw other (side-read j b) in
+        let first : SideOf (rowName (accessRowAt ordered i)) (accessRowAt ordered i .site) (getD held (2 * (k / 1024 % 1024)) 0) = rw one (side-read i c) in
+        let second : SideOf (rowName (accessRowAt ordered j)) (accessRowAt ordered j .site) (getD held (2 * (k % 1024)) 0) = rw other (side-read j b) in
+        let element : elementIn (getD held (2 * (k / 1024 % 1024) + 1) 0) (k / 1048576 % 4294967296) ≡ rowElement (accessRowAt ordered i) w =
+        rw (one, witness) (reach-read i w c)
+        in
+        let other-element : elementIn (getD held (2 * (k % 1024) + 1) 0) (k / 1048576 % 4294967296) ≡ rowElement (accessRowAt ordered j) w =
+        rw (other, witness) (reach-read j w b)
+        in
         (λ q.
         record {
           witness = witness q;
           first = first .name-in q;
           «first_site» = first .site-in q;
+          «first_element» = element q;
           second = second .name-in q;
           «second_site» = second .site-in q;
+          «second_element» = other-element q;
         })
         ∙ sym (ap race (r .is) ∙ race-of-parts paths tab (accesses-distinct cs members) small n all copied w i j (omega (arith, few)) (omega (arith, few)))
       where

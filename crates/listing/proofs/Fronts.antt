@@ -1,5 +1,5 @@
 -- Words written over the front of lent memory, one after another.
-use Prim.Native.Nat.{ℕ, suc, _+_, _≤_, _<_}
+use Prim.Native.Nat.{ℕ, suc, _+_, _*_, _≤_, _<_}
 use mathlib.Core.Path.{_≡_, sym, _∙_, ap, ap₂}
 use mathlib.Core.List.{List, [], _∷_, _++_}
 use native.Mathlib.Omega.{arith}
@@ -36,6 +36,19 @@ module _ (f : ℕ → ℕ) where
       (ap₂ (λ (l : List ℕ) (x : ℕ). set l i x) e q
       ∙ front-more (table f i) words i (f i) (table-length f i) h
       ∙ ap (λ (l : List ℕ). l ++ drop (suc i) words) (sym (table-more f i)))
+
+  -- two words more
+  pub table-two-more :
+      (words now : List ℕ) (i v w : ℕ)
+      → 2 * i + 1 < length words
+      → now ≡ table f (2 * i) ++ drop (2 * i) words
+      → v ≡ f (2 * i)
+      → w ≡ f (2 * i + 1)
+      → set (set now (2 * i) v) (2 * i + 1) w ≡ table f (2 * (i + 1)) ++ drop (2 * (i + 1)) words
+  table-two-more words now i v w h e p q =
+      let twice : 2 * i + 1 + 1 ≡ 2 * (i + 1) = omega arith in
+      table-more-yet words (set now (2 * i) v) (2 * i + 1) w h (table-more-yet words now (2 * i) v (omega arith) e p) q
+      ∙ ap (λ (k : ℕ). table f k ++ drop k words) twice
 
   pub table-all : (words : List ℕ) (i n : ℕ) → i ≤ n → n ≤ i → {now : List ℕ} → now ≡ table f i ++ drop i words → now ≡ table f n ++ drop n words
   table-all words i n a b e = let q : i ≡ n = omega arith in e ∙ ap (λ (k : ℕ). table f k ++ drop k words) q

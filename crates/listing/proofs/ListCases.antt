@@ -1,5 +1,5 @@
 -- Listing a bundle, case by case: the tables in the work area, what stands in the lent memory, and the answers.
-use Prim.Native.Nat.{ℕ, zero, suc, _+_, _/_, _≤_, _<_}
+use Prim.Native.Nat.{ℕ, zero, suc, _+_, _*_, _/_, _≤_, _<_}
 use mathlib.Core.Path.{_≡_, refl, sym, _∙_, ap, ap₂, subst}
 use mathlib.Core.Bool.{Bool, true, false, cond, _&&_}
 use mathlib.Core.List.{List, [], _∷_, _++_, map}
@@ -25,7 +25,7 @@ use Rattle.verdict.specs.Tallying.{RowFits, TablesFit}
 use Rattle.verdict.specs.Census.{matrixPart, rowsPart, AreaFilled}
 use Rattle.verdict.proofs.JudgeCases.{area-fits, matrix-long, chunk-count}
 use Rattle.listing.specs.Listing.{namesOf, numbersOf, totalsOf, Outcome, zeros, over, fitsIn, allRaces, refusedWith, whichever, listedOf, listingOf, reportOf, outcomeOf, raceIn, Readable}
-use Rattle.listing.specs.Ranking.{orderOf, Copied, RowsIn, sideAt}
+use Rattle.listing.specs.Ranking.{orderOf, Copied, RowsIn, wordOf}
 use Rattle.listing.specs.Pushing.{Pushes, allNumbers}
 use Rattle.listing.specs.Settling.{Settled, Kept, listedIn}
 use Rattle.listing.specs.declared.list.Totals.{Totals}
@@ -80,7 +80,7 @@ module _
     abbrev met : List ℕ
     met = allNumbers (matrixPart area) ordered n n
 
-    names-of : table (sideAt ordered) n ≡ namesOf cs
+    names-of : table (wordOf ordered) (2 * n) ≡ namesOf cs
     names-of = names-are cs (distinct-members s ok) (a .paths) (a .rows) (rows-small area small) n (a .access-count) copied
 
     numbers-of : sorted met ≡ numbersOf cs
@@ -94,8 +94,8 @@ module _
       unfolding fitsIn
       fits-as =
           q .test
-          ∙ ap (λ (k : ℕ). leb n (length names) && (leb races k && leb (races / 2) (length spare))) (pushes-length p)
-          ∙ ap₂ (λ (x y : ℕ). leb x (length names) && (leb y (length numbers) && leb (y / 2) (length spare))) (a .access-count) race-count
+          ∙ ap (λ (k : ℕ). leb (2 * n) (length names) && (leb races k && leb (races / 2) (length spare))) (pushes-length p)
+          ∙ ap₂ (λ (x y : ℕ). leb (2 * x) (length names) && (leb y (length numbers) && leb (y / 2) (length spare))) (a .access-count) race-count
 
       -- the numbers in front, sorted
       sorted-over : races ≤ length numbers → sorted (take races pushed) ++ drop races pushed ≡ over (numbersOf cs) numbers
@@ -108,15 +108,15 @@ module _
           (ap (drop races) front ∙ drop-at met (drop races numbers) races long)
           ∙ ap₂ (λ (x : List ℕ) (k : ℕ). x ++ drop k numbers) numbers-of total
 
-      names-over : table (sideAt ordered) n ++ drop n names ≡ over (namesOf cs) names
+      names-over : table (wordOf ordered) (2 * n) ++ drop (2 * n) names ≡ over (namesOf cs) names
       names-over =
-          ap₂ (λ (x : List ℕ) (k : ℕ). x ++ drop k names) names-of (sym (table-length (sideAt ordered) n) ∙ ap length names-of)
+          ap₂ (λ (x : List ℕ) (k : ℕ). x ++ drop k names) names-of (sym (table-length (wordOf ordered) (2 * n)) ∙ ap length names-of)
 
       has-room : t ≡ true → leb races (length numbers) ≡ true
       has-room e =
           ap (leb races) (sym (pushes-length p))
           ∙ and-left (leb races (length pushed)) (leb (races / 2) (length spare))
-          (and-right (leb n (length names)) (leb races (length pushed) && leb (races / 2) (length spare)) (sym (q .test) ∙ e))
+          (and-right (leb (2 * n) (length names)) (leb races (length pushed) && leb (races / 2) (length spare)) (sym (q .test) ∙ e))
 
       numbers-in : (b : Bool) → t ≡ b → cond b (sorted (take races pushed) ++ drop races pushed) (zeros pushed) ≡ cond b (over (numbersOf cs) numbers) (zeros numbers)
       numbers-in true e = sorted-over (leb-true races (length numbers) (has-room e))
@@ -126,7 +126,7 @@ module _
       read-in false e h = false-is-true h
       read-in true e h =
           let long : length met ≡ races = omega (arith, p .counted) in
-          let held : names′ ≡ table (sideAt ordered) n ++ drop n names = q .names-are ∙ ap (λ (b : Bool). cond b (table (sideAt ordered) n ++ drop n names) (zeros names)) e in
+          let held : names′ ≡ table (wordOf ordered) (2 * n) ++ drop (2 * n) names = q .names-are ∙ ap (λ (b : Bool). cond b (table (wordOf ordered) (2 * n) ++ drop (2 * n) names) (zeros names)) e in
           let room : races ≤ length numbers = leb-true races (length numbers) (has-room e) in
           let front : pushed ≡ met ++ drop races numbers = pushed-front p (omega arith) ∙ ap (λ (k : ℕ). met ++ drop k numbers) long in
           let put : numbers′ ≡ sorted met ++ drop races pushed =
@@ -136,7 +136,7 @@ module _
           in
           let taken : take races numbers′ ≡ sorted met = ap (take races) put ∙ take-at (sorted met) (drop races pushed) races (sorted-length met ∙ long) in
           ap₂ (λ (a b : List ℕ). map (raceIn a) b) held taken
-          ∙ reads-back cs (distinct-members s ok) (a .paths) (a .rows) (rows-small area small) n (a .access-count) copied (ordered-fits .0 .fit) (drop n names)
+          ∙ reads-back cs (distinct-members s ok) (a .paths) (a .rows) (rows-small area small) n (a .access-count) copied (ordered-fits .0 .fit) (drop (2 * n) names)
 
       pub kept : {count : ℕ} → count ≡ races → Kept s (record { segments = g; accesses = n; races = count; whole = t }) names numbers spare names′ numbers′ spare′
       kept e =

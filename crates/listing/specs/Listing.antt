@@ -2,14 +2,16 @@
 use Prim.Native.Nat.{ℕ, _+_, _*_, _/_, _%_}
 use mathlib.Core.Path.{_≡_}
 use mathlib.Core.Bool.{Bool, true, false, cond, _&&_}
-use mathlib.Core.List.{List, _++_, map}
+use mathlib.Core.List.{List, [], _∷_, _++_, map}
 use lib.Dec.{eqb, ltb, leb}
 use lib.ListN.{length, getD, take, drop, replicate}
 use Rattle.sorting.specs.Order.{sorted}
 use Rattle.sorting.specs.Searching.{indexOf}
 use Rattle.bundle.specs.Answer.{Answer, gives, refuses, numberOf}
+use Rattle.bundle.specs.Lists.{concatMap}
 use Rattle.bundle.specs.Chunks.{Chunk, chunksOf}
 use Rattle.bundle.specs.Check.{checkOf}
+use Rattle.order.specs.Pairs.{elementBy}
 use Rattle.verdict.specs.Graph.{segmentsOf}
 use Rattle.verdict.specs.Races.{NamedAccess, accessesOf, racesOf}
 use Rattle.verdict.specs.Tallying.{packed, nameIn}
@@ -19,41 +21,59 @@ use Rattle.listing.specs.declared.list.Totals.{Totals}
 use Rattle.listing.specs.declared.list.Listed.{Listed}
 use Rattle.listing.specs.declared.list.Listed.the-variants as Lis
 
--- an access's name and site as one number; the order of these numbers is that of the names
+-- an access in two words of 64 bits: its name and site; and the base, stride and size of its range
 abbrev pub sideOf : NamedAccess → ℕ
 sideOf x = packed (x .name) * 65536 + x .access .site
 
--- the names of all accesses, in their order
+abbrev pub reachOf : NamedAccess → ℕ
+reachOf x = x .access .range .base * 16777216 + x .access .range .stride * 256 + x .access .range .size
+
+-- both as one number of 128 bits; the order of these numbers is that of the names
+abbrev pub doubleWord : NamedAccess → ℕ
+doubleWord x = sideOf x * 18446744073709551616 + reachOf x
+
+-- all accesses, in the order of their names
+unfoldable pub doubleWords : List Chunk → List ℕ
+doubleWords cs = sorted (map doubleWord (accessesOf cs))
+
+-- the two words of each
 unfoldable pub namesOf : List Chunk → List ℕ
-namesOf cs = sorted (map sideOf (accessesOf cs))
+namesOf cs = concatMap (λ double. double / 18446744073709551616 ∷ double % 18446744073709551616 ∷ []) (doubleWords cs)
 
 -- the rank of a name: its place among them
 unfoldable pub rankIn : List ℕ → Name → ℕ
-rankIn names n = indexOf (eqb (packed n)) (map (λ side. side / 65536) names)
+rankIn doubles n = indexOf (eqb (packed n)) (map (λ double. double / 18446744073709551616 / 65536) doubles)
 
 -- a race as one number: its witness, and the ranks of its names
 abbrev pub numberFor : ℕ → ℕ → ℕ → ℕ
 numberFor witness first second = witness * 1048576 + first * 1024 + second
 
 unfoldable pub raceNumber : List ℕ → Race → ℕ
-raceNumber names r = numberFor (r .witness) (rankIn names (r .first)) (rankIn names (r .second))
+raceNumber doubles r = numberFor (r .witness) (rankIn doubles (r .first)) (rankIn doubles (r .second))
+
+-- the lowest element that covers a byte, by the second word of an access
+abbrev pub elementIn : ℕ → ℕ → ℕ
+elementIn reach byte = elementBy (reach / 16777216 % 4294967296) (reach / 256 % 65536) (reach % 256) byte
 
 -- the race that a number stands for
 unfoldable pub raceIn : List ℕ → ℕ → Race
 raceIn names number =
-    let first = getD names (number / 1024 % 1024) 0 in
-    let second = getD names (number % 1024) 0 in
+    let one = number / 1024 % 1024 in
+    let other = number % 1024 in
+    let witness = number / 1048576 % 4294967296 in
     record {
-      witness = number / 1048576 % 4294967296;
-      first = nameIn first;
-      «first_site» = first % 65536;
-      second = nameIn second;
-      «second_site» = second % 65536;
+      witness = witness;
+      first = nameIn (getD names (2 * one) 0);
+      «first_site» = getD names (2 * one) 0 % 65536;
+      «first_element» = elementIn (getD names (2 * one + 1) 0) witness;
+      second = nameIn (getD names (2 * other) 0);
+      «second_site» = getD names (2 * other) 0 % 65536;
+      «second_element» = elementIn (getD names (2 * other + 1) 0) witness;
     }
 
 -- the numbers of all races, in the order of the races
 unfoldable pub numbersOf : List Chunk → List ℕ
-numbersOf cs = map (raceNumber (namesOf cs)) (racesOf cs)
+numbersOf cs = map (raceNumber (doubleWords cs)) (racesOf cs)
 
 unfoldable pub totalsOf : List Chunk → Totals
 totalsOf cs =
@@ -84,7 +104,7 @@ over xs words = xs ++ drop (length xs) words
 unfoldable pub fitsIn : List Chunk → List ℕ → List ℕ → List ℕ → Bool
 fitsIn cs names numbers spare =
     let races = length (racesOf cs) in
-    leb (length (accessesOf cs)) (length names) && (leb races (length numbers) && leb (races / 2) (length spare))
+    leb (2 * length (accessesOf cs)) (length names) && (leb races (length numbers) && leb (races / 2) (length spare))
 
 -- an accepted bundle: all its races, or nothing where they do not fit
 unfoldable pub allRaces : List Chunk → List ℕ → List ℕ → List ℕ → List ℕ → Outcome

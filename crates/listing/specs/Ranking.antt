@@ -1,7 +1,9 @@
 -- Inner: the accesses in the order of their names.
-use Prim.Native.Nat.{ℕ, _+_, _*_, _%_, _≤_, _<_}
+use Prim.Native.Nat.{ℕ, _+_, _*_, _/_, _%_, _≤_, _<_}
 use mathlib.Core.Path.{_≡_}
+use mathlib.Core.Bool.{cond}
 use mathlib.Core.List.{List}
+use lib.Dec.{eqb}
 use lib.ListN.{length, getD}
 use Rattle.sorting.specs.Order.{sorted}
 use Rattle.bundle.specs.Index.{table}
@@ -27,9 +29,20 @@ pub record Copied (rows words : List ℕ) (n : ℕ) (before after : List ℕ) : 
   pub long : length after ≡ length before
   pub each : (i : ℕ) → i < n → accessRowAt after i ≡ accessRowAt rows (getD words i 0 % 1024)
 
--- the name and site of a row as one number
+-- the two words of a row: name and site; base, stride and size
 abbrev pub sideOfRow : AccessRow → ℕ
 sideOfRow r = packed (rowName r) * 65536 + r .site
 
-abbrev pub sideAt : List ℕ → ℕ → ℕ
-sideAt rows i = sideOfRow (accessRowAt rows i)
+abbrev pub reachOfRow : AccessRow → ℕ
+reachOfRow r = r .base * 16777216 + r .stride * 256 + r .size
+
+-- both as one number
+abbrev pub doubleOfRow : AccessRow → ℕ
+doubleOfRow r = sideOfRow r * 18446744073709551616 + reachOfRow r
+
+abbrev pub doubleAt : List ℕ → ℕ → ℕ
+doubleAt rows i = doubleOfRow (accessRowAt rows i)
+
+-- the words of the rows one after another
+abbrev pub wordOf : List ℕ → ℕ → ℕ
+wordOf rows i = cond (eqb (i % 2) 0) (sideOfRow (accessRowAt rows (i / 2))) (reachOfRow (accessRowAt rows (i / 2)))

@@ -15,7 +15,7 @@ use verdict::judge::fill_area;
 ghost use mathlib.Core.Path.{_≡_};
 ghost use mathlib.Core.Bool.{true, false, _&&_};
 ghost use lib.Dec.{leb};
-ghost use Prim.Native.Nat.{_/_, _≤_};
+ghost use Prim.Native.Nat.{_*_, _/_, _≤_};
 ghost use lib.ListN.{length, replicate};
 ghost use Rattle.bundle.specs.Check.{Accepted};
 ghost use Rattle.verdict.specs.Tallying.{TablesFit};
@@ -60,10 +60,10 @@ fn clear_words(words: &mut [u64])
     }
 }
 
-fn fits(accesses: usize, races: usize, names: usize, numbers: usize, spare: usize) -> bool
-    ensures { λ r. ⌜ r ≡ (leb accesses names && (leb races numbers && leb (races / 2) spare)) ⌝ }
+fn fits(words: usize, races: usize, names: usize, numbers: usize, spare: usize) -> bool
+    ensures { λ r. ⌜ r ≡ (leb words names && (leb races numbers && leb (races / 2) spare)) ⌝ }
 {
-    (accesses <= names) & ((races <= numbers) & (races / 2 <= spare))
+    (words <= names) & ((races <= numbers) & (races / 2 <= spare))
 }
 
 // Nothing stands in the lent memory.
@@ -84,7 +84,7 @@ fn put_all(
     numbers: &mut [u64],
     spare: &mut [u64],
 )
-    requires { ⌜ RowsIn (now rows) accesses × (accesses ≤ length (now names)) × (races ≤ length (now numbers)) × (races / 2 ≤ length (now spare)) ⌝ }
+    requires { ⌜ RowsIn (now rows) accesses × (2 * accesses ≤ length (now names)) × (races ≤ length (now numbers)) × (races / 2 ≤ length (now spare)) ⌝ }
     ensures { λ _. ⌜ AllPut (now (rows .entry)) accesses races (now (names .entry)) (now (numbers .entry)) (now (spare .entry)) (now (names .exit)) (now (numbers .exit)) (now (spare .exit)) ⌝ }
 {
     put_names(rows, accesses, names);
@@ -105,7 +105,7 @@ fn settle(
     ensures { λ r. ⌜ Settled (now (rows .entry)) accesses races r (now (names .entry)) (now (numbers .entry)) (now (spare .entry)) (now (names .exit)) (now (numbers .exit)) (now (spare .exit)) ⌝ }
 {
     if !fits(
-        accesses as usize,
+        2 * accesses as usize,
         races,
         names.len(),
         numbers.len(),
@@ -196,8 +196,8 @@ fn list_in(
     }
 }
 
-// Lists all races of a bundle. `numbers` has a number for each race, in their order; `names` the names and sites that the numbers mean;
-// `spare` has room for half as many numbers. Where one of them is too short, all three are 0. 13 for a work area under 16,384 words, and
+// Lists all races of a bundle. `numbers` has a number for each race, in their order; `names` two words for each access, by which `race_in` reads
+// the numbers; `spare` has room for half as many numbers. Where one of them is too short, all three are 0. 13 for a work area under 16,384 words, and
 // all lent memory stays as it is; else as check, and the whole area is 0.
 pub fn list_races(
     bytes: &[u8],

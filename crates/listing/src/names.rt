@@ -6,10 +6,10 @@ use verdict::rows::add_access;
 ghost use mathlib.Core.Path.{_≡_};
 ghost use mathlib.Core.List.{_++_};
 ghost use Prim.Native.Nat.{_+_, _*_, _≤_, _<_};
-ghost use lib.ListN.{length, drop};
+ghost use lib.ListN.{length, drop, set};
 ghost use Rattle.bundle.specs.Index.{table};
 ghost use Rattle.verdict.specs.Tallying.{packed, rowName};
-ghost use Rattle.listing.specs.Ranking.{RowsIn, nameWord, orderOf, Copied, sideOfRow, sideAt};
+ghost use Rattle.listing.specs.Ranking.{RowsIn, nameWord, orderOf, Copied, sideOfRow, reachOfRow, wordOf};
 
 // An access's name and its place in the table as one number: in the order of these numbers the names are in order.
 fn name_word(row: AccessRow, place: u32) -> u64
@@ -78,14 +78,33 @@ fn side_of(row: AccessRow) -> u64
     (team * 16777216 + member * 65536 + number) * 65536 + row.site as u64
 }
 
-// Writes the names and sites of the first n accesses over the front of `names`.
+// The base, stride and size of an access's range as one number.
+fn reach_of(row: AccessRow) -> u64
+    ensures { λ r. ⌜ r ≡ reachOfRow row ⌝ }
+{
+    let base = row.base as u64;
+    let stride = row.stride as u64;
+    base * 16777216 + stride * 256 + row.size as u64
+}
+
+// Writes the two words of the i-th access.
+fn put_access(names: &mut [u64], i: u32, row: AccessRow)
+    requires { ⌜ 2 * i + 1 < length (now names) ⌝ }
+    ensures { λ _. ⌜ now (names .exit) ≡ set (set (now (names .entry)) (2 * i) (sideOfRow row)) (2 * i + 1) (reachOfRow row) ⌝ }
+{
+    let at = 2 * i as usize;
+    names[at] = side_of(row);
+    names[at + 1] = reach_of(row);
+}
+
+// Writes the words of the first n accesses over the front of `names`.
 pub fn put_names(rows: &[u32], n: u32, names: &mut [u64])
-    requires { ⌜ RowsIn (now rows) n × (n ≤ length (now names)) ⌝ }
-    ensures { λ _. ⌜ now (names .exit) ≡ table (sideAt (now (rows .entry))) n ++ drop n (now (names .entry)) ⌝ }
+    requires { ⌜ RowsIn (now rows) n × (2 * n ≤ length (now names)) ⌝ }
+    ensures { λ _. ⌜ now (names .exit) ≡ table (wordOf (now (rows .entry))) (2 * n) ++ drop (2 * n) (now (names .entry)) ⌝ }
 {
     let mut i = 0;
     while i < n {
-        names[i as usize] = side_of(access_at(rows, i));
+        put_access(names, i, access_at(rows, i));
         i += 1;
     }
 }

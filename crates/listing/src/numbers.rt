@@ -1,9 +1,10 @@
 // A race as one number, in whose order the races are: the witness, and the ranks of the two names among all.
+use order::range::element_at;
 use verdict::pairs::name_in;
 use verdict::race::Race;
 ghost use mathlib.Core.Path.{_≡_};
 ghost use lib.ListN.{getD};
-ghost use Rattle.listing.specs.Listing.{numberFor, raceIn};
+ghost use Rattle.listing.specs.Listing.{numberFor, elementIn, raceIn};
 
 // The number of a race: 32 bits, and 10 and 10 for ranks below 1,024.
 pub fn number_of(witness: u32, first: u32, second: u32) -> u64
@@ -12,27 +13,44 @@ pub fn number_of(witness: u32, first: u32, second: u32) -> u64
     witness as u64 * 1048576 + first as u64 * 1024 + second as u64
 }
 
-// The name and site of a rank; 0 where there is none.
-fn side_at(names: &[u64], rank: usize) -> u64
-    ensures { λ r. ⌜ r ≡ getD (now (names .entry)) rank 0 ⌝ }
+// A word of the table of names; 0 where there is none.
+fn word_at(names: &[u64], place: usize) -> u64
+    ensures { λ r. ⌜ r ≡ getD (now (names .entry)) place 0 ⌝ }
 {
-    if rank < names.len() {
-        return names[rank];
+    if place < names.len() {
+        return names[place];
     }
     0
+}
+
+// The lowest element of an access that covers a byte, by the word of its range.
+fn element_in(reach: u64, byte: u32) -> u32
+    ensures { λ r. ⌜ r ≡ elementIn reach byte ⌝ }
+{
+    element_at(
+        (reach / 16777216 % 4294967296) as u32,
+        (reach / 256 % 65536) as u16,
+        (reach % 256) as u8,
+        byte,
+    )
 }
 
 // The race that a number stands for.
 pub fn race_in(names: &[u64], number: u64) -> Race
     ensures { λ r. ⌜ r ≡ raceIn (now (names .entry)) number ⌝ }
 {
-    let first = side_at(names, (number / 1024 % 1024) as usize);
-    let second = side_at(names, (number % 1024) as usize);
+    let one = (number / 1024 % 1024) as usize;
+    let other = (number % 1024) as usize;
+    let witness = (number / 1048576 % 4294967296) as u32;
+    let first = word_at(names, 2 * one);
+    let second = word_at(names, 2 * other);
     Race {
-        witness: (number / 1048576 % 4294967296) as u32,
+        witness,
         first: name_in(first),
         first_site: (first % 65536) as u16,
+        first_element: element_in(word_at(names, 2 * one + 1), witness),
         second: name_in(second),
         second_site: (second % 65536) as u16,
+        second_element: element_in(word_at(names, 2 * other + 1), witness),
     }
 }

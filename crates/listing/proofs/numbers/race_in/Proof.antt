@@ -7,22 +7,37 @@ use Rattle.listing.proofs.numbers.race_in.Tie as tie
 returns : tie.Need-returns
 unfolding raceIn
 returns c =
+    let first = c .before .before .before .before in
     rw (
-      c .before .name-in .ensures,
-      c .name-in2 .ensures,
-      c .before .before .before .side-at .ensures,
-      c .before .before .side-at2 .ensures,
+      c .element-in2 .ensures,
+      c .before .word-at4 .ensures,
+      c .before .before .name-in2 .ensures,
+      c .before .before .before .element-in .ensures,
+      first .word-at3 .ensures,
+      first .before .name-in .ensures,
+      first .before .before .word-at2 .ensures,
+      first .before .before .before .word-at .ensures,
     )
 
 pub race-in-spec : {M : Type 1} → statement M
 race-in-spec =
     tie.close
     (tie.spec
-    (λ c κs. search needs)
-    (λ c κs. search needs)
+    (λ c. search needs)
     (λ c. search needs)
     (λ c κs. search needs)
     (λ c. search needs)
     (λ c κs. search needs)
+    (λ c κs. search needs)
     (λ c. search needs)
+    (λ c. search needs)
+    (λ c. search needs)
+    (λ c κs. search needs)
+    (λ c κs. search needs)
+    (λ c κs. search needs)
+    (λ c. search needs)
+    (λ c. search needs)
+    (λ c. search needs)
+    (λ c κs. search needs)
+    (λ c κs. search needs)
     returns)
