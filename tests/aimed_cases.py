@@ -1,9 +1,10 @@
-"""Bundles aimed at each refusal of check, its sub-cases and precedences.
+"""Bundles aimed at each refusal of check, its sub-cases and precedences,
+and pairs of ranges aimed at the elements that cover their lowest shared byte.
 
 Each case is a title, the refusal's number (None if accepted) and the bundle
 as text, with * at the place of the refusal; one that is accepted has its
 chunks, segments and accesses. All these numbers are taken from document 01
-by hand.
+by hand, and those of elements from document 02.
 """
 
 from collections import namedtuple
@@ -334,6 +335,66 @@ REFUSED = (
     TOO_LONG + UNKNOWN + CUT_OFF + MISPLACED + OUT_OF_RANGE + LOCKS
     + TOO_MANY + FORKED_BEFORE + STRAY + LACKING + TOO_DEEP + BARRIERS
 )
+
+# ---------------------------------------------------------------- elements
+
+# Two ranges as (base, stride, count, size), and the lowest shared byte with the lowest element of each that covers it.
+Shared = namedtuple("Shared", "title first second overlap")
+
+SHORT_RANGES = [
+    Shared("outer bounds overlap, no shared byte", (0, 8, 4, 4), (4, 8, 4, 4), None),
+    Shared("one element against several", (0, 8, 4, 4), (4, 0, 1, 8), (8, 1, 0)),
+    Shared("strides without a common divisor", (0, 3, 3, 1), (1, 2, 3, 1), (3, 1, 1)),
+    Shared("single elements", (5, 0, 1, 8), (12, 0, 1, 1), (12, 0, 0)),
+    # stride 1, size 8: byte 67 is in all elements, 70 in 3 to 7, 74 in the last alone
+    Shared("in all elements", (60, 1, 8, 8), (67, 0, 1, 1), (67, 0, 0)),
+    Shared("in elements 1 to 7", (60, 1, 8, 8), (68, 0, 1, 1), (68, 1, 0)),
+    Shared("in elements 3 to 7", (60, 1, 8, 8), (70, 0, 1, 1), (70, 3, 0)),
+    Shared("in the last element", (60, 1, 8, 8), (74, 0, 1, 1), (74, 7, 0)),
+    Shared("behind the last element", (60, 1, 8, 8), (75, 0, 1, 1), None),
+    # stride 2: element 2 is 104 to 111; 111 is in elements 2 to 5
+    Shared("stride 2, the last byte of an element", (100, 2, 8, 8), (111, 0, 1, 2), (111, 2, 0)),
+    Shared("stride 2, the byte behind it", (100, 2, 8, 8), (112, 0, 1, 2), (112, 3, 0)),
+    # stride 3: element 5 is 115 to 122, element 6 is 118 to 125
+    Shared("stride 3, a byte of two elements", (100, 3, 8, 8), (120, 0, 1, 4), (120, 5, 0)),
+    Shared("stride 3, the last byte of an element", (100, 3, 8, 8), (122, 0, 1, 1), (122, 5, 0)),
+    Shared("stride 3, the byte behind it", (100, 3, 8, 8), (123, 0, 1, 1), (123, 6, 0)),
+    # stride 7: neighbours have one byte in common; 14 ends element 1 and begins element 2
+    Shared("stride 7, the common byte", (0, 7, 5, 8), (14, 0, 1, 1), (14, 1, 0)),
+    Shared("stride 7, the byte behind it", (0, 7, 5, 8), (15, 0, 1, 1), (15, 2, 0)),
+    Shared("size 2, stride 1", (10, 1, 5, 2), (13, 0, 1, 1), (13, 2, 0)),
+    Shared("size 4, stride 3", (0, 3, 4, 4), (6, 0, 1, 2), (6, 1, 0)),
+    Shared("size 4, stride 1", (20, 1, 9, 4), (27, 0, 1, 4), (27, 4, 0)),
+    # 64 to 67, 80 to 83, .. against 70 to 84: byte 80 is in elements 3 to 7 of the second
+    Shared("neither is element 0", (64, 16, 4, 4), (70, 1, 8, 8), (80, 1, 3)),
+    Shared("the last element of both", (0, 10, 5, 1), (31, 1, 3, 8), (40, 4, 2)),
+    Shared("from inside an element on", (0, 20, 4, 8), (44, 1, 4, 8), (44, 2, 0)),
+    Shared("elements apart in both", (3, 7, 9, 2), (20, 11, 4, 2), (31, 4, 1)),
+    Shared("elements apart, from inside one", (0, 9, 6, 4), (14, 11, 5, 4), (27, 3, 1)),
+    Shared("overlapping elements in both", (0, 1, 4, 8), (9, 2, 4, 8), (9, 2, 0)),
+    Shared("overlapping elements side by side", (0, 1, 4, 8), (11, 1, 4, 8), None),
+    Shared("the last byte of memory", (4294967281, 1, 8, 8), (4294967295, 0, 1, 1), (4294967295, 7, 0)),
+]
+
+LONG_RANGES = [
+    Shared("elements 3 to 5 of many", (5, 100, 6, 2), (390, 3, 20, 8), (405, 4, 3)),
+    Shared("element 47", (200, 0, 1, 8), (100, 2, 60, 8), (200, 0, 47)),
+    Shared("element 255", (0, 4, 1000, 8), (1027, 0, 1, 1), (1027, 255, 0)),
+    Shared("element 256", (0, 4, 1000, 8), (1030, 0, 1, 1), (1030, 256, 0)),
+    Shared("count 65,535, the last element", (0, 1, 65535, 8), (65541, 0, 1, 1), (65541, 65534, 0)),
+    Shared("count 65,535, the last but one", (0, 1, 65535, 8), (65540, 0, 1, 8), (65540, 65533, 0)),
+    Shared("count 65,535, in the last 8 elements", (0, 1, 65535, 8), (65534, 0, 1, 1), (65534, 65527, 0)),
+    Shared("count 65,535, stride 7", (0, 7, 65535, 8), (458738, 0, 1, 1), (458738, 65533, 0)),
+    Shared("count 65,535, stride 3, both", (196596, 1, 65535, 8), (0, 3, 65535, 8), (196596, 0, 65530)),
+    Shared("count 65,535, stride 65,535", (0, 65535, 65535, 8), (4294770697, 0, 1, 8), (4294770697, 65534, 0)),
+    Shared("element 1 of both", (0, 65535, 65535, 1), (1, 65534, 65535, 1), (65535, 1, 1)),
+    Shared("the last element of both", (0, 65535, 65535, 1), (65534, 65534, 65535, 1), (4294770690, 65534, 65534)),
+    # elements 65,533 and 65,534 have byte 4,294,967,288 in common
+    Shared("up to the last byte of memory", (4294508550, 7, 65535, 8), (4294967288, 0, 1, 8), (4294967288, 65533, 0)),
+    Shared("the last byte of memory", (4294508550, 7, 65535, 8), (4294967289, 0, 1, 4), (4294967289, 65534, 0)),
+]
+
+OVERLAPS = SHORT_RANGES + LONG_RANGES
 
 
 def check_cases():

@@ -3,7 +3,7 @@
 import example_cases
 import second_reader as sr
 from example_terms import (
-    answer_term, bytes_term, found_term, judgement_term, name_term, races_term, triples_term,
+    answer_term, bytes_term, found_term, judgement_term, name_term, overlap_term, races_term, range_term, triples_term,
 )
 
 HEAD = """\
@@ -17,13 +17,15 @@ use Rattle.bundle.specs.Answer.{Answer, gives, refuses, whenGiven}
 use Rattle.bundle.specs.Commands.{Lent, Taken, readAt}
 use Rattle.bundle.specs.Check.{checkOf}
 use Rattle.order.specs.Labels.{labelOf, compareOf}
+use Rattle.order.specs.Ranges.{sharedOf}
 use Rattle.order.specs.declared.label.Triple.{Triple}
 use Rattle.order.specs.declared.label.Label.{Label}
 use Rattle.order.specs.declared.label.Order.{Order}
 use Rattle.order.specs.declared.label.Order.the-variants as Ord
+use Rattle.order.specs.declared.range.Overlap.{Overlap}
 use Rattle.verdict.specs.Accesses.{keyOf}
 use Rattle.verdict.specs.Judge.{judgeOf, raceAbove, nextOf}
-use Rattle.verdict.specs.Table.{triple}
+use Rattle.verdict.specs.Table.{triple, range}
 use Rattle.verdict.specs.declared.race.Name.{Name}
 use Rattle.verdict.specs.declared.race.Race.{Race}
 use Rattle.verdict.specs.declared.race.Verdict.the-variants as Ver
@@ -44,6 +46,9 @@ name t m n = record { team = t; member = m; number = n }
 
 unfoldable pub label : ℕ → List Triple → Label
 label count triples = record { count = count; triples = triples }
+
+unfoldable pub overlap : ℕ → ℕ → ℕ → Overlap
+overlap b e e′ = record { byte = b; «first_element» = e; «second_element» = e′ }
 
 """
 
@@ -83,6 +88,12 @@ def comparison_rows():
     for first, second in example_cases.COMPARED:
         wanted = answer_term(lambda order: f"Ord.{order.capitalize()}", sr.compare_labels, first, second)
         yield f"(compareOf {label_term(first)} {label_term(second)})", wanted
+
+
+def share_rows():
+    for first, second in example_cases.SHARED:
+        wanted = answer_term(overlap_term, sr.lowest_shared_byte, sr.Range(*first), sr.Range(*second))
+        yield f"(sharedOf {range_term(first)} {range_term(second)})", wanted
 
 
 def race_lists():
@@ -129,7 +140,9 @@ def text():
         table("refusals of check, and bundles that it accepts", "checks", "Answer (Unit {0})", check_rows()),
         table("labels of segments", "labels", "Answer (List Triple)", label_rows()),
         table("comparisons of labels, both ways", "comparisons", "Answer Order", comparison_rows()),
-        "-- the races of four bundles; small-bundles has the bundles\n" + "".join(race_lists())
+        table("the lowest shared byte of two ranges, and the lowest element of each that covers it", "shares",
+              "Answer (Option Overlap)", share_rows(), "overlap "),
+        "-- the races of five bundles; small-bundles has the bundles\n" + "".join(race_lists())
         + table("the least race above a key", "aboves", "Option Race", above_rows(), " ".join(example_cases.RACED) + " "),
         table("next race, and the work area afterwards", "nexts", "Lent (Option Race)", next_rows()),
         table("judge, and the work area afterwards", "judgements", "Lent Judgement", judge_rows()),

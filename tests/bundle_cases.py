@@ -25,7 +25,7 @@ def short_aimed_bundles():
 
 
 def listed_bundles():
-    return [bundle(case.text) for case in race_cases.LISTINGS]
+    return [bundle(case.text) for case in race_cases.ALL]
 
 
 def small_good(rng, count):
@@ -160,6 +160,9 @@ def shared_frames(seed):
     ):
         yield shared_frame(Range(*first), Range(*second))
         yield shared_frame(Range(*second), Range(*first))
+    for case in aimed_cases.OVERLAPS:
+        yield shared_frame(Range(*case.first), Range(*case.second))
+        yield shared_frame(Range(*case.second), Range(*case.first))
     yield from shared_small()
     yield from shared_coprime(rng)
     for _ in range(1000):
@@ -168,6 +171,7 @@ def shared_frames(seed):
         yield shared_frame(generators.middle_range(rng), generators.middle_range(rng))
         yield shared_frame(generators.far_range(rng), generators.far_range(rng))
         yield shared_frame(generators.any_range(rng), generators.any_range(rng))
+    yield from shared_dense(rng)
     yield from shared_bad()
 
 
@@ -197,6 +201,23 @@ def shared_coprime(rng):
             last = sr.LAST_ADDRESS - rng.choice((0, 0, 1, rng.randrange(9000)))
             ranges.append(Range(last - (count - 1) * stride - (size - 1), stride, count, size))
         yield shared_frame(*ranges)
+
+
+def shared_dense(rng):
+    """Ranges whose elements overlap each other, against others of that kind and against elements apart."""
+    shapes = [(stride, 9, 8) for stride in range(1, 9)] + [(stride, 9, 4) for stride in (1, 2, 3)]
+    for shape in shapes:  # each byte of the range and those beside it
+        r = Range(20, *shape)
+        for byte in range(r.base - 1, r.base + 8 * r.stride + r.size + 1):
+            yield shared_frame(r, Range(byte, 0, 1, 1))
+    for _ in range(400):
+        dense = generators.dense_range(rng, rng.randrange(300))
+        yield shared_frame(dense, generators.sparse_range(rng, rng.randrange(300)))
+        yield shared_frame(generators.sparse_range(rng, rng.randrange(300)), dense)
+        yield shared_frame(dense, generators.dense_range(rng, rng.randrange(300)))
+    for _ in range(300):
+        long = generators.long_dense_range(rng)
+        yield shared_frame(*rng.sample((long, generators.range_from(rng, long)), 2))
 
 
 def shared_bad():

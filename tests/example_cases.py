@@ -1,4 +1,4 @@
-"""Cases for computed examples, each aimed at a point of document 01.
+"""Cases for computed examples, each aimed at a point of document 01 or 02.
 
 Only the questions stand here; write_examples takes the answers from the
 second reader.
@@ -109,6 +109,20 @@ COMPARED = [
     (label(ROOT, (0, 2, 0), (0, 65, 0)), label(ROOT, (0, 3, 0))),
 ]
 
+# ------------------------------------------------------------ shared bytes
+
+GOOD_RANGE = (0, 0, 1, 1)
+BAD_RANGES = ((0, 0, 0, 1), (0, 0, 1, 3), (4294967295, 0, 1, 2))
+
+# (first range, second range); the other way too where neither element is 0.
+SHARED = [
+    *[(case.first, case.second) for case in aimed_cases.SHORT_RANGES],
+    *[(case.second, case.first) for case in aimed_cases.SHORT_RANGES if case.overlap and 0 not in case.overlap[1:]],
+    # 5 at 1 or 2, the first range tested first
+    *[pair for bad in BAD_RANGES for pair in both_ways(bad, GOOD_RANGE)],
+    (BAD_RANGES[0], BAD_RANGES[1]),
+]
+
 # --------------------------------------------------------------- next race
 
 
@@ -122,6 +136,7 @@ RACED = {
     "three": listed("three pairs of one byte"),
     "teams": listed("names compared as numbers, low byte first in the log"),
     "witnesses": listed("witness before names"),
+    "elements": listed("four pairs of one byte, higher elements first"),
 }
 
 # (name of the bundle, witness, first name, second name)
@@ -153,6 +168,11 @@ ABOVE = [
     ("witnesses", 15, (1, 0, 1), (1, 1, 0)),
     ("witnesses", 15, HIGHEST, HIGHEST),
     ("witnesses", 16, LOWEST, LOWEST),
+    # elements do not count
+    ("elements", 64, (1, 0, 0), (1, 1, 0)),
+    ("elements", 64, (1, 0, 0), (1, 1, 1)),
+    ("elements", 64, (1, 0, 1), (1, 1, 0)),
+    ("elements", 64, (1, 0, 0), HIGHEST),
     # first above second, and names that are not there
     ("three", 0, (1, 1, 0), (1, 0, 0)),
     ("three", 0, (1, 2, 0), (1, 0, 0)),

@@ -8,8 +8,9 @@ def bytes_term(data):
 
 
 def race_term(race):
-    numbers = [race.witness, *race.first, race.first_site, *race.second, race.second_site]
-    return "race " + " ".join(str(n) for n in numbers)
+    first = (*race.first, race.first_site, race.first_element)
+    second = (*race.second, race.second_site, race.second_element)
+    return "race " + " ".join(str(n) for n in (race.witness, *first, *second))
 
 
 def name_term(name):
@@ -22,6 +23,15 @@ def triples_term(triples):
 
 def races_term(races):
     return "".join(f"{race_term(r)} ∷ " for r in races) + "[]"
+
+
+def range_term(r):
+    return "(range " + " ".join(str(n) for n in r) + ")"
+
+
+def overlap_term(overlap):
+    """What two ranges share, or that they share nothing."""
+    return "(some (overlap " + " ".join(str(n) for n in overlap) + "))" if overlap else "none"
 
 
 def found_term(race):

@@ -14,8 +14,9 @@ from second_reader import Command
 # depth: of the teams; sizes: team sizes to choose from; regions, barriers:
 # most in a chunk; actions: most accesses and lock commands between two
 # segment openings; locks: how many are in use; addresses: how many bases;
-# far: whether some ranges are long or at the end of memory.
-Style = namedtuple("Style", "depth sizes regions barriers actions locks addresses far segments accesses")
+# far: whether some ranges are long or at the end of memory; dense: whether
+# ranges have many elements, most of which overlap each other.
+Style = namedtuple("Style", "depth sizes regions barriers actions locks addresses far segments accesses dense", defaults=[False])
 
 SMALL = Style(2, (1, 2, 2), 1, 1, 2, 2, 6, False, 14, 8)
 MIDDLE = Style(4, (1, 2, 2, 3), 2, 2, 3, 3, 12, False, 60, 80)
@@ -26,6 +27,8 @@ FAR = Style(3, (2, 3), 2, 2, 3, 2, 6, True, 60, 60)
 LARGE = Style(4, (2, 4, 8, 16), 3, 3, 4, 4, 64, False, 400, 800)
 QUIET = Style(4, (1, 2, 2, 3), 2, 2, 2, 2, 1500, False, 60, 60)
 STYLES = (SMALL, MIDDLE, NESTED, WIDE, LOCKED, FAR, QUIET)
+DENSE = Style(2, (2, 3), 1, 1, 3, 1, 100, False, 24, 16, dense=True)
+MANY_DENSE = DENSE._replace(actions=20, accesses=100)
 
 BASE = 4096
 
@@ -114,6 +117,9 @@ class Maker:
 def random_access(rng, style):
     code = rng.choice((sr.READ, sr.READ, sr.WRITE, sr.WRITE, sr.ATOMIC_READ, sr.ATOMIC_WRITE))
     site = rng.choice((rng.randrange(100), rng.randrange(65536)))
+    if style.dense:
+        make = rng.choice((dense_range, dense_range, sparse_range))
+        return Command(code, (site, *make(rng, BASE + rng.randrange(style.addresses))))
     far = style.far and rng.randrange(2)
     return Command(code, (site, *(far_range(rng) if far else near_range(rng, style))))
 
@@ -380,6 +386,30 @@ def middle_range(rng):
         rng.randrange(3000), rng.choice((rng.randint(1, 20), rng.randint(1, 400))),
         rng.randint(2, 700), rng.choice((1, 2, 4, 8)),
     )
+
+
+def dense_range(rng, base):
+    """Elements that overlap each other: the stride is below the size."""
+    size = rng.choice((2, 4, 8, 8))
+    return sr.Range(base, rng.randint(1, size - 1), rng.randint(2, 40), size)
+
+
+def sparse_range(rng, base):
+    """Elements with gaps between them."""
+    size = rng.choice((1, 2, 4, 8))
+    return sr.Range(base, size + rng.randint(1, 40), rng.randint(2, 9), size)
+
+
+def long_dense_range(rng):
+    size = rng.choice((2, 4, 8, 8))
+    return sr.Range(rng.randrange(4000), rng.randint(1, size - 1), rng.choice((65535, rng.randint(200, 65535))), size)
+
+
+def range_from(rng, r):
+    """A range whose first element begins at some byte of the given one, often near its end, or just behind it."""
+    end = (r.count - 1) * r.stride + r.size
+    base = r.base + max(0, rng.choice((rng.randrange(end), end - 1 - rng.randrange(20), end)))
+    return rng.choice((sr.Range(base, 0, 1, rng.choice((1, 2, 4, 8))), sparse_range(rng, base), dense_range(rng, base)))
 
 
 def any_range(rng):

@@ -367,18 +367,19 @@ static void answer_compare(body b) {
 }
 
 static void answer_shared(body b) {
-    uint32_t n[8], found = 77, byte = 77, refusal;
+    uint32_t n[8], found = 77, byte = 77, element = 77, other_element = 77, refusal;
     size_t place = 1, i;
     static const size_t widths[4] = {4, 2, 2, 1};
     for (i = 0; i < 8; i++)
         n[i] = (uint32_t)number(&b, widths[i % 4]);
     refusal = dezhakom_lowest_shared_byte(n[0], (uint16_t)n[1], (uint16_t)n[2], (uint8_t)n[3], n[4], (uint16_t)n[5],
-                                          (uint16_t)n[6], (uint8_t)n[7], &found, &byte, &place);
+                                          (uint16_t)n[6], (uint8_t)n[7], &found, &byte, &element, &other_element, &place);
     want(!refusal || found == 0, "refused, found is not 0");
     want(found == 1 || (found == 0 && byte == 0), "a byte that is not found");
+    want(found == 1 || (element == 0 && other_element == 0), "elements of a byte that is not found");
     if (!refused(refusal, place)) {
         if (found)
-            printf("byte %" PRIu32, byte);
+            printf("byte %" PRIu32 " elements %" PRIu32 " %" PRIu32, byte, element, other_element);
         else
             printf("none");
     }
@@ -386,10 +387,10 @@ static void answer_shared(body b) {
 
 static void print_race(const dezhakom_race *race) {
     const dezhakom_access *first = &race->first, *second = &race->second;
-    want(first->element == 0 && second->element == 0, "an element is not 0");
     printf("race %" PRIu32 " %" PRIu32 ".%" PRIu32 ".%" PRIu32 " %" PRIu32 " %" PRIu32 ".%" PRIu32 ".%" PRIu32 " %" PRIu32,
            race->witness, first->team, first->member, first->number, first->site, second->team, second->member,
            second->number, second->site);
+    printf(" elements %" PRIu32 " %" PRIu32, first->element, second->element);
 }
 
 static void print_counts(uint32_t chunks, uint32_t segments, uint32_t accesses, uint32_t races) {
@@ -445,13 +446,13 @@ static void answer_next(body b) {
     drop(&area);
 }
 
-/* All races, read from the listing; then read again with the names cut to `known`. */
+/* All races, read from the listing; then read again with the names of the first `known` accesses alone. */
 static void print_listing(const uint64_t *names, size_t names_length, const uint64_t *numbers, size_t races, size_t known) {
     size_t turn, i;
     for (turn = 0; turn < 2; turn++)
         for (i = 0; i < races; i++) {
             lent out = unset();
-            dezhakom_race_in(names, turn ? known : names_length, numbers[i], &out.is.race);
+            dezhakom_race_in(names, turn ? DEZHAKOM_NAME_WORDS * known : names_length, numbers[i], &out.is.race);
             want_record(0, &out, sizeof out.is.race);
             printf("; ");
             print_race(&out.is.race);
@@ -463,7 +464,7 @@ static void answer_list(body b) {
     uint32_t filler = number32(&b), lengths[3], known;
     filled names, numbers, spare;
     lent out = unset();
-    size_t place = 1, i;
+    size_t place = 1, i, used;
     const dezhakom_totals *t = &out.is.totals;
     uint32_t refusal;
     for (i = 0; i < 3; i++)
@@ -480,8 +481,9 @@ static void answer_list(body b) {
         print_counts(t->chunks, t->segments, t->accesses, t->races);
         printf(" whole %" PRIu32, t->whole);
     }
-    if (t->whole && t->accesses <= lengths[0] && t->races <= lengths[1])
-        printf(" area %s names %s numbers %s spare %s", state_from(&area, 0), state_from(&names, 8 * (size_t)t->accesses),
+    used = DEZHAKOM_NAME_WORDS * (size_t)t->accesses;
+    if (t->whole && used <= lengths[0] && t->races <= lengths[1])
+        printf(" area %s names %s numbers %s spare %s", state_from(&area, 0), state_from(&names, 8 * used),
                state_from(&numbers, 8 * (size_t)t->races), state_from(&spare, 0));
     else
         printf(" area %s names %s numbers %s spare %s", state_from(&area, 0), state_from(&names, 0), state_from(&numbers, 0),

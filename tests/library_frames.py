@@ -90,9 +90,11 @@ def put_record_frames(seed):
 
 # ----------------------------------------------------------------- listings
 
+NAME_WORDS = 2  # words of an access in names
+
 
 def list_frame(area, filler, lengths, known, data):
-    """filler fills the three pieces of memory, of these lengths; the races are read again with so many names."""
+    """filler fills the three pieces of memory, of these lengths; the races are read again with the names of so many accesses."""
     return frame(OPERATION_LIST, area_bytes(area) + b"".join(number(n, 4) for n in (filler, *lengths, known)) + data)
 
 
@@ -100,17 +102,17 @@ def answer_list(body):
     area = [body.number(4), body.number(4)]
     filler, *lengths, known = (body.number(4) for _ in range(5))
     try:
-        found, races = sr.check_with_area(area[0], body.rest())
+        found, pairs = sr.check_with_area(area[0], body.rest())
     except sr.Refused as refusal:
         return f"{refusal_text(refusal)} {area_state(*area)} {memory_state(filler, lengths)}"
     accesses = sorted(found.accesses(), key=lambda access: access.name)
-    counts = f"chunks {len(found.chunks)} segments {found.segment_count()} accesses {len(accesses)} races {len(races)}"
-    whole = len(accesses) <= lengths[0] and len(races) <= lengths[1] and len(races) // 2 <= lengths[2]
-    if not whole:
+    counts = f"chunks {len(found.chunks)} segments {found.segment_count()} accesses {len(accesses)} races {len(pairs)}"
+    least = least_lengths(len(accesses), len(pairs))
+    if any(length < wanted for length, wanted in zip(lengths, least)):
         return f"{counts} whole 0 {area_state(*area)} {memory_state(0, lengths)}"
-    left = (lengths[0] - len(accesses), lengths[1] - len(races))
-    memory = f"names {state(filler, left[0])} numbers {state(filler, left[1])} spare zero"
+    memory = f"names {state(filler, lengths[0] - least[0])} numbers {state(filler, lengths[1] - least[1])} spare zero"
     kept = {access.name for access in accesses[:known]}
+    races = [sr.race_of(pair) for pair in pairs]
     lines = [race_line(race) for race in races] + [race_line(with_names(race, kept)) for race in races]
     return "; ".join([f"{counts} whole 1 {area_state(*area)} {memory}", *lines])
 
@@ -118,9 +120,9 @@ def answer_list(body):
 def with_names(race, kept):
     """The race where other names are not there."""
     if race.first not in kept:
-        race = race._replace(first=(0, 0, 0), first_site=0)
+        race = race._replace(first=(0, 0, 0), first_site=0, first_element=0)
     if race.second not in kept:
-        race = race._replace(second=(0, 0, 0), second_site=0)
+        race = race._replace(second=(0, 0, 0), second_site=0, second_element=0)
     return race
 
 
@@ -138,22 +140,30 @@ def memory_state(word, lengths):
     return " ".join(f"{name} {state(word, length)}" for name, length in zip(("names", "numbers", "spare"), lengths))
 
 
+def least_lengths(accesses, races):
+    """Of names, numbers and spare."""
+    return (NAME_WORDS * accesses, races, races // 2)
+
+
 def needed(data):
-    """The least lengths of names, numbers and spare."""
+    """The least lengths for a bundle."""
     try:
-        found, races = sr.bundle_and_races(data)
+        found, pairs = sr.bundle_and_pairs(data)
     except sr.Refused:
         return (3, 3, 3)
-    return (len(found.accesses()), len(races), len(races) // 2)
+    return least_lengths(len(found.accesses()), len(pairs))
 
 
 def some_lengths(rng, data):
+    """Just enough, more, and one too short; names also with a single word more, with an access less, and with half of its words."""
     least = needed(data)
     yield least
     yield tuple(length + rng.choice((0, 1, 7)) for length in least)
     for place in range(3):
         yield tuple(max(0, length - (at == place)) for at, length in enumerate(least))
     yield tuple(rng.choice((0, length)) for length in least)
+    for names in (least[0] + 1, max(0, least[0] - NAME_WORDS), least[0] // NAME_WORDS):
+        yield (names, *least[1:])
 
 
 def list_frames(seed):
@@ -163,11 +173,13 @@ def list_frames(seed):
         for data in (e, late, *verdict_cases.refused_bundles()):
             yield list_frame(area, 0xFFFFFFFF, needed(data), 1, data)
     bundles = [e, late, verdict_cases.ALIKE] + listed_bundles() + small_good(rng, 40) + short_aimed_bundles()
-    bundles += [generators.random_bundle(rng, style) for style in generators.STYLES] + small_damaged(rng, 30)
+    styles = (*generators.STYLES, generators.DENSE, generators.MANY_DENSE)
+    bundles += [generators.random_bundle(rng, style) for style in styles] + small_damaged(rng, 30)
     for data in bundles:
         for lengths in some_lengths(rng, data):
             filler = rng.choice((0, 1, 0x5A5A5A5A, 0xFFFFFFFF))
-            yield list_frame(verdict_cases.some_area(rng), filler, lengths, rng.randint(0, lengths[0]), data)
+            known = rng.randint(0, lengths[0] // NAME_WORDS)
+            yield list_frame(verdict_cases.some_area(rng), filler, lengths, known, data)
 
 
 def large_list_frames(seed):

@@ -62,8 +62,7 @@ def answer_compare(body):
 
 
 def answer_shared(body):
-    byte = dezhakom.lowest_shared_byte(vf.take_range(body), vf.take_range(body))
-    return "none" if byte is None else f"byte {byte}"
+    return vf.overlap_text(dezhakom.lowest_shared_byte(vf.take_range(body), vf.take_range(body)))
 
 
 def over_area(body, ask):
@@ -130,8 +129,8 @@ def test_listings(frames):
     bundles = [data for data in bundles if len(data) < 20000]
     for data in bundles:
         try:
-            found, races = sr.bundle_and_races(data)
-            wanted = (len(found.chunks), found.segment_count(), len(found.accesses()), races)
+            found = sr.check(data)
+            wanted = (len(found.chunks), found.segment_count(), len(found.accesses()), sr.all_races(found))
         except sr.Refused as refusal:
             wanted = vf.refusal_text(refusal)
         try:

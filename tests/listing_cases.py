@@ -139,7 +139,7 @@ def fixed_bundles():
     """Every aimed bundle, every piece of E, and bundles at each limit and one past it."""
     for title, _, _, data in aimed_cases.check_cases():
         yield title, data
-    for case in race_cases.LISTINGS:
+    for case in race_cases.ALL:
         yield case.title, bundle(case.text)
     for cut in range(len(E)):
         yield f"the first {cut} bytes of E", E[:cut]

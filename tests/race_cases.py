@@ -1,10 +1,11 @@
-"""Small bundles with the listing that document 01 gives them, by hand."""
+"""Small bundles with the listing that document 01 gives them, and the elements that document 02 gives their races, by hand."""
 
 from collections import namedtuple
 
 from aimed_cases import E, E_LATE_READ
 
-Listing = namedtuple("Listing", "title text lines")
+# elements has two numbers for each race; where it is not given, all are 0
+Listing = namedtuple("Listing", "title text lines elements", defaults=[None])
 
 
 def pair(first, second, before="", after=""):
@@ -13,6 +14,12 @@ def pair(first, second, before="", after=""):
         member 0 0; {before}; region 1 2; {after}; end
         member 1 0; {first}; end
         member 1 1; {second}; end"""
+
+
+def elements_of(case):
+    """Of each race the elements of both accesses that cover its witness."""
+    races = len([line for line in case.lines if line.startswith("race ")])
+    return [(0, 0)] * races if case.elements is None else case.elements
 
 
 def listing(counts, *races):
@@ -69,7 +76,7 @@ LOCKED = [
 ]
 
 ORDERED = [
-    Listing("E", E, ["chunks 3 segments 6 accesses 2", "race 0000100a 1.0.0 10 1.1.0 20", "pairs 1"]),
+    Listing("E", E, ["chunks 3 segments 6 accesses 2", "race 0000100a 1.0.0 10 1.1.0 20", "pairs 1"], [(1, 0)]),
     Listing("E with a late read", E_LATE_READ, ["chunks 3 segments 6 accesses 2", "race-free"]),
     Listing("no access", "member 0 0; end", listing("1 1 0")),
     Listing("two accesses of one segment", "member 0 0; write 1 0 0 1 4; write 2 0 0 1 4; end", listing("1 1 2")),
@@ -121,7 +128,7 @@ SHARED = [
     Listing("the last byte of one", pair("write 1 57 0 1 8", "write 2 64 0 1 4"), ONE_RACE),
     Listing("the last byte of memory", pair("write 1 4294967295 0 1 1", "write 2 4294967288 0 1 8"),
             listing("3 4 2", "ffffffff 1.0.0 1 1.1.0 2")),
-    Listing("elements that overlap each other", pair("write 1 56 1 2 8", "write 2 64 3 2 4"), ONE_RACE),
+    Listing("elements that overlap each other", pair("write 1 56 1 2 8", "write 2 64 3 2 4"), ONE_RACE, [(1, 0)]),
 ]
 
 SORTED = [
@@ -153,4 +160,65 @@ SORTED = [
             listing("3 4 13", "00000009 1.0.10 2 1.1.0 3", "00000009 1.0.10 2 1.1.1 3")),
 ]
 
-LISTINGS = ORDERED + KINDS + LOCKED + SHARED + SORTED
+
+def backwards(first, second):
+    """As pair, with the chunks back to front in the bundle."""
+    return f"""
+        member 1 1; {second}; end
+        member 1 0; {first}; end
+        member 0 0; region 1 2; end"""
+
+
+def one_race(witness, site=1, other=2):
+    return listing("3 4 2", f"{witness:08x} 1.0.0 {site} 1.1.0 {other}")
+
+
+# The witness is covered by several elements of one access, or is not in element 0. It is never covered by several elements of
+# both: the byte before it is missing from one of the two, and there a single element covers the witness and begins at it.
+COVERED = [
+    Listing("elements 3 to 7 of the first", pair("write 1 60 1 8 8", "read 2 70 0 1 1"), one_race(70), [(3, 0)]),
+    Listing("elements 5 and 6 of the second", pair("write 1 120 0 1 4", "read 2 100 3 8 8"), one_race(120), [(0, 5)]),
+    Listing("elements of size 2", pair("write 1 10 1 5 2", "write 2 13 0 1 1"), one_race(13), [(2, 0)]),
+    Listing("elements of size 4", pair("atomic-write 1 0 3 4 4", "read 2 6 0 1 2"), one_race(6), [(1, 0)]),
+    Listing("the last element of both", pair("write 1 0 10 5 1", "read 2 31 1 3 8"), one_race(40), [(4, 2)]),
+    Listing("from inside an element on", pair("write 1 0 20 3 8", "read 2 44 1 8 8"), one_race(44), [(2, 0)]),
+    # 64 to 67, 80 to 83, .. against 70 to 84: the lower and the higher base, each as the first and as the second name,
+    # and each before and behind the other in the bundle
+    Listing("lower base first", pair("write 1 64 16 4 4", "read 2 70 1 8 8"), one_race(80), [(1, 3)]),
+    Listing("higher base first", pair("write 1 70 1 8 8", "read 2 64 16 4 4"), one_race(80), [(3, 1)]),
+    Listing("lower base first, back to front", backwards("write 1 64 16 4 4", "read 2 70 1 8 8"), one_race(80), [(1, 3)]),
+    Listing("higher base first, back to front", backwards("write 1 70 1 8 8", "read 2 64 16 4 4"), one_race(80), [(3, 1)]),
+    Listing("an inner team's access, standing first", """
+        member 2 0; write 7 100 2 8 8; end
+        member 1 0; region 2 1; end
+        member 1 1; write 5 109 0 1 1; end
+        member 0 0; region 1 2; end""", listing("4 6 2", "0000006d 1.1.0 5 2.0.0 7"), [(0, 1)]),
+    # Names decide, not elements: byte 64 is in elements 3 and 1 of the writes, and in 2 and 0 of the reads.
+    Listing("four pairs of one byte, higher elements first",
+            pair("write 1 40 8 4 1; write 2 56 8 2 1", "read 3 50 7 3 1; read 4 64 0 1 1"),
+            listing("3 4 4", *(f"00000040 1.0.{a} {1 + a} 1.1.{b} {3 + b}" for a in (0, 1) for b in (0, 1))),
+            [(3, 2), (3, 0), (1, 2), (1, 0)]),
+    # The witness decides before the elements.
+    Listing("three bytes, higher elements first", pair("write 1 8 1 8 8", "read 2 22 0 1 1; read 3 16 0 1 1; read 4 8 0 1 1"),
+            listing("3 4 4", "00000008 1.0.0 1 1.1.2 4", "00000010 1.0.0 1 1.1.1 3", "00000016 1.0.0 1 1.1.0 2"),
+            [(0, 0), (1, 0), (7, 0)]),
+]
+
+LISTINGS = ORDERED + KINDS + LOCKED + SHARED + SORTED + COVERED
+
+# The same with long ranges, which the computed examples leave out.
+LONG = [
+    Listing("elements 255 and 256", pair("write 1 1030 0 1 1; write 3 1027 0 1 1", "read 2 0 4 1000 8"),
+            listing("3 4 3", "00000403 1.0.1 3 1.1.0 2", "00000406 1.0.0 1 1.1.0 2"), [(0, 255), (0, 256)]),
+    Listing("element 65,534 of the first", pair("write 1 0 1 65535 8", "read 2 65541 0 1 1"), one_race(65541), [(65534, 0)]),
+    Listing("element 65,527 of the second", pair("write 1 65534 0 1 1", "read 2 0 1 65535 8"), one_race(65534), [(0, 65527)]),
+    Listing("element 65,533, stride 7", pair("write 1 0 7 65535 8", "read 2 458738 0 1 8"), one_race(458738), [(65533, 0)]),
+    Listing("element 65,530, stride 3, back to front",
+            backwards("write 1 196596 1 65535 8", "write 2 0 3 65535 8"), one_race(196596), [(0, 65530)]),
+    Listing("element 65,534 of both", pair("write 1 0 65535 65535 1", "write 2 65534 65534 65535 1"),
+            one_race(4294770690), [(65534, 65534)]),
+    Listing("element 65,534, back to front", backwards("write 1 4294967289 0 1 4", "read 2 4294508550 7 65535 8"),
+            one_race(4294967289), [(0, 65534)]),
+]
+
+ALL = LISTINGS + LONG

@@ -1,5 +1,5 @@
 """The races of a good bundle by another way than the second reader's: from the commands that a generator made, by labels
-and sets of bytes. Nothing of the second reader's bundles, graph and races is used; ranges must be short.
+and tables of bytes. Nothing of the second reader's bundles, graph and races is used; ranges must be short.
 """
 
 from collections import namedtuple
@@ -12,19 +12,21 @@ READ, WRITE, ATOMIC_READ, ATOMIC_WRITE = 0x30, 0x31, 0x32, 0x33
 
 
 def races(chunks):
-    """All races as (witness, first name, second name, first site, second site), in order."""
+    """All races as (witness, first name, second name, first site, second site, first element, second element), in order."""
     accesses = all_accesses(chunks)
     found = []
     for first in accesses:
         for second in accesses:
             if first.name < second.name and race(first, second):
-                found.append((min(first.touched & second.touched), first.name, second.name, first.site, second.site))
+                witness = min(first.touched.keys() & second.touched.keys())
+                elements = first.touched[witness], second.touched[witness]
+                found.append((witness, first.name, second.name, first.site, second.site, *elements))
     return sorted(found)
 
 
 def race(first, second):
     return bool(
-        first.touched & second.touched
+        first.touched.keys() & second.touched.keys()
         and (first.writes or second.writes)
         and not (first.atomic and second.atomic)
         and not first.locks & second.locks
@@ -60,9 +62,17 @@ def all_accesses(chunks):
             elif code == RELEASE:
                 locks -= {operands[0]}
             elif code in (READ, WRITE, ATOMIC_READ, ATOMIC_WRITE):
-                site, base, stride, count, size = operands
-                touched = frozenset(base + k * stride + j for k in range(count) for j in range(size))
+                site, *touched = operands
                 kind = code in (WRITE, ATOMIC_WRITE), code in (ATOMIC_READ, ATOMIC_WRITE)
-                found.append(Access((team, member, number), site, *kind, touched, locks, label))
+                found.append(Access((team, member, number), site, *kind, elements_by_byte(*touched), locks, label))
                 number += 1
+    return found
+
+
+def elements_by_byte(base, stride, count, size):
+    """The touched bytes, each with the lowest element that covers it, which is the first to come."""
+    found = {}
+    for k in range(count):
+        for j in range(size):
+            found.setdefault(base + k * stride + j, k)
     return found

@@ -1,5 +1,6 @@
-"""Labels, their comparison, and the lowest shared byte of two ranges."""
+"""Labels, their comparison, and the lowest shared byte of two ranges with the elements that cover it."""
 
+from collections import namedtuple
 from functools import lru_cache
 from math import gcd
 
@@ -117,8 +118,21 @@ def shared_byte(a, b):
     return shared_by_solving(a, b)
 
 
+# ---------------------------------------------------------------- elements
+
+Overlap = namedtuple("Overlap", "byte first_element second_element")
+
+
+@lru_cache(maxsize=4096)
+def lowest_element(r, byte):
+    """The lowest number of an element that covers the byte, which is one of the range's: all are tried, from 0 on."""
+    base, stride, count, size = r
+    return next(k for k in range(count) if base + k * stride <= byte < base + k * stride + size)
+
+
 def lowest_shared_byte(a, b):
     for place, r in ((1, a), (2, b)):
         if not range_is_good(r):
             raise Refused(5, place)
-    return shared_byte(a, b)
+    byte = shared_byte(a, b)
+    return None if byte is None else Overlap(byte, lowest_element(a, byte), lowest_element(b, byte))

@@ -6,7 +6,7 @@ from itertools import combinations
 
 from reader_bundles import check
 from reader_commands import ATOMIC_READ, ATOMIC_WRITE, WRITE, Refused
-from reader_order import shared_byte
+from reader_order import lowest_element, shared_byte
 
 # ------------------------------------------------------------------- graph
 
@@ -59,7 +59,8 @@ def reached_from(edges, start):
 
 LEAST_WORDS = 16384
 
-Race = namedtuple("Race", "witness first second first_site second_site")
+Pair = namedtuple("Pair", "witness first second")  # two accesses that race, the lower name first
+Race = namedtuple("Race", "witness first second first_site second_site first_element second_element")
 Judgement = namedtuple("Judgement", "chunks segments accesses races least")
 
 
@@ -77,15 +78,32 @@ def segment_of(access):
 
 def all_races(bundle):
     """All races in order."""
+    return [race_of(pair) for pair in racing_pairs(bundle)]
+
+
+def race_of(pair):
+    """What the race of a pair carries. The elements are looked for here alone, so that they cost nothing where a race is only
+    counted or listed."""
+    witness, first, second = pair
+    elements = lowest_element(first.range, witness), lowest_element(second.range, witness)
+    return Race(witness, first.name, second.name, first.site, second.site, *elements)
+
+
+def racing_pairs(bundle):
+    """The pairs of all races, in the order of races."""
     edges = graph_edges(bundle)
     accesses = sorted(bundle.accesses(), key=lambda a: a.name)
     reach = {s: reached_from(edges, s) for s in {segment_of(a) for a in accesses}}
-    races = []
+    pairs = []
     for first, second in combinations(accesses, 2):
         witness = race_witness(reach, first, second)
         if witness is not None:
-            races.append(Race(witness, first.name, second.name, first.site, second.site))
-    return sorted(races, key=race_key)
+            pairs.append(Pair(witness, first, second))
+    return sorted(pairs, key=pair_key)
+
+
+def pair_key(pair):
+    return (pair.witness, pair.first.name, pair.second.name)
 
 
 def race_key(race):
@@ -107,16 +125,16 @@ def race_witness(reach, first, second):
 
 
 def check_with_area(words, data):
-    """Answers the bundle and its races."""
+    """Answers the bundle and the pairs of its races."""
     if words < LEAST_WORDS:
         raise Refused(13, 0)
-    return bundle_and_races(data)
+    return bundle_and_pairs(data)
 
 
 @lru_cache(maxsize=4)
-def bundle_and_races(data):
+def bundle_and_pairs(data):
     bundle = check(data)
-    return bundle, all_races(bundle)
+    return bundle, racing_pairs(bundle)
 
 
 def area_after(area):
@@ -125,20 +143,20 @@ def area_after(area):
 
 
 def judge(words, data):
-    bundle, races = check_with_area(words, data)
+    bundle, pairs = check_with_area(words, data)
     return Judgement(
         len(bundle.chunks),
         bundle.segment_count(),
         len(bundle.accesses()),
-        len(races),
-        races[0] if races else None,
+        len(pairs),
+        race_of(pairs[0]) if pairs else None,
     )
 
 
 def next_race(words, data, witness, first, second):
     """The least race above the witness and the two names, or None."""
-    _, races = check_with_area(words, data)
-    return next((r for r in races if race_key(r) > (witness, first, second)), None)
+    _, pairs = check_with_area(words, data)
+    return next((race_of(pair) for pair in pairs if pair_key(pair) > (witness, first, second)), None)
 
 
 # ---------------------------------------------------------------- racelist
@@ -148,12 +166,9 @@ def name_text(name):
     return ".".join(str(part) for part in name)
 
 
-def race_text(race, witness):
-    """witness is the text of the witness."""
-    return (
-        f"race {witness} {name_text(race.first)} {race.first_site}"
-        f" {name_text(race.second)} {race.second_site}"
-    )
+def race_text(witness, first, first_site, second, second_site):
+    """A race as racelist tells it; the witness is given as its text."""
+    return f"race {witness} {name_text(first)} {first_site} {name_text(second)} {second_site}"
 
 
 def racelist_lines(data):
@@ -161,10 +176,10 @@ def racelist_lines(data):
         bundle = check(data)
     except Refused as refusal:
         return [f"refused {refusal.number} at {refusal.place}"]
-    races = all_races(bundle)
+    pairs = racing_pairs(bundle)
     lines = [f"chunks {len(bundle.chunks)} segments {bundle.segment_count()} accesses {len(bundle.accesses())}"]
-    lines += [race_text(r, f"{r.witness:08x}") for r in races]
-    lines.append(f"pairs {len(races)}" if races else "race-free")
+    lines += [race_text(f"{witness:08x}", a.name, a.site, b.name, b.site) for witness, a, b in pairs]
+    lines.append(f"pairs {len(pairs)}" if pairs else "race-free")
     return lines
 
 

@@ -206,12 +206,21 @@ def take_range(body):
 def answer_shared(body):
     first = take_range(body)
     second = take_range(body)
-    byte = sr.lowest_shared_byte(first, second)
-    return "none" if byte is None else f"byte {byte}"
+    return overlap_text(sr.lowest_shared_byte(first, second))
+
+
+def overlap_text(overlap):
+    return "none" if overlap is None else f"byte {overlap.byte} {elements_text(overlap)}"
+
+
+def elements_text(found):
+    """Of a race or of what two ranges share."""
+    return f"elements {found.first_element} {found.second_element}"
 
 
 def race_line(race):
-    return sr.race_text(race, str(race.witness))
+    told = sr.race_text(race.witness, race.first, race.first_site, race.second, race.second_site)
+    return f"{told} {elements_text(race)}"
 
 
 def over_area(answer, body):

@@ -69,8 +69,10 @@ def judge_frames(seed):
         yield from judge_some_orders(rng, generators.random_chunks(rng, style))
     for _ in range(20):
         yield from judge_some_orders(rng, generators.one_interval(rng))
+        yield from judge_some_orders(rng, generators.random_chunks(rng, generators.DENSE))
     for _ in range(4):
         yield from judge_all_orders(rng)
+        yield from judge_some_orders(rng, generators.random_chunks(rng, generators.MANY_DENSE))
 
 
 def judge_some_orders(rng, chunks):
@@ -115,6 +117,8 @@ def next_frames(seed):
         yield from walk(rng, generators.random_bundle(rng, style))
     for _ in range(5):
         yield from walk(rng, generators.bundle_bytes(generators.shuffled(rng, generators.one_interval(rng))))
+        yield from walk(rng, generators.random_bundle(rng, generators.DENSE))
+    yield from walk(rng, generators.random_bundle(rng, generators.MANY_DENSE))
     for data in (E, ALIKE):
         yield from about_races(rng, data, 60)
     for data in small_good(rng, 10):

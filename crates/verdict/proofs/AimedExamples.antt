@@ -8,13 +8,15 @@ use Rattle.bundle.specs.Answer.{Answer, gives, refuses, whenGiven}
 use Rattle.bundle.specs.Commands.{Lent, Taken, readAt}
 use Rattle.bundle.specs.Check.{checkOf}
 use Rattle.order.specs.Labels.{labelOf, compareOf}
+use Rattle.order.specs.Ranges.{sharedOf}
 use Rattle.order.specs.declared.label.Triple.{Triple}
 use Rattle.order.specs.declared.label.Label.{Label}
 use Rattle.order.specs.declared.label.Order.{Order}
 use Rattle.order.specs.declared.label.Order.the-variants as Ord
+use Rattle.order.specs.declared.range.Overlap.{Overlap}
 use Rattle.verdict.specs.Accesses.{keyOf}
 use Rattle.verdict.specs.Judge.{judgeOf, raceAbove, nextOf}
-use Rattle.verdict.specs.Table.{triple}
+use Rattle.verdict.specs.Table.{triple, range}
 use Rattle.verdict.specs.declared.race.Name.{Name}
 use Rattle.verdict.specs.declared.race.Race.{Race}
 use Rattle.verdict.specs.declared.race.Verdict.the-variants as Ver
@@ -35,6 +37,9 @@ name t m n = record { team = t; member = m; number = n }
 
 unfoldable pub label : ℕ → List Triple → Label
 label count triples = record { count = count; triples = triples }
+
+unfoldable pub overlap : ℕ → ℕ → ℕ → Overlap
+overlap b e e′ = record { byte = b; «first_element» = e; «second_element» = e′ }
 
 -- reading a command: a refusal, or the position after it
 unfoldable pub reads : List (AimedExample (Answer ℕ))
@@ -323,67 +328,124 @@ pub comparisons-agree : map (λ (r : AimedExample (Answer Order)). r .given) com
 unfolding verdict-computes bytes race row name label comparisons
 comparisons-agree = refl
 
--- the races of four bundles; small-bundles has the bundles
+-- the lowest shared byte of two ranges, and the lowest element of each that covers it
+unfoldable pub shares : List (AimedExample (Answer (Option Overlap)))
+shares =
+    row (sharedOf (range 0 8 4 4) (range 4 8 4 4)) (gives none) ∷
+    row (sharedOf (range 0 8 4 4) (range 4 0 1 8)) (gives (some (overlap 8 1 0))) ∷
+    row (sharedOf (range 0 3 3 1) (range 1 2 3 1)) (gives (some (overlap 3 1 1))) ∷
+    row (sharedOf (range 5 0 1 8) (range 12 0 1 1)) (gives (some (overlap 12 0 0))) ∷
+    row (sharedOf (range 60 1 8 8) (range 67 0 1 1)) (gives (some (overlap 67 0 0))) ∷
+    row (sharedOf (range 60 1 8 8) (range 68 0 1 1)) (gives (some (overlap 68 1 0))) ∷
+    row (sharedOf (range 60 1 8 8) (range 70 0 1 1)) (gives (some (overlap 70 3 0))) ∷
+    row (sharedOf (range 60 1 8 8) (range 74 0 1 1)) (gives (some (overlap 74 7 0))) ∷
+    row (sharedOf (range 60 1 8 8) (range 75 0 1 1)) (gives none) ∷
+    row (sharedOf (range 100 2 8 8) (range 111 0 1 2)) (gives (some (overlap 111 2 0))) ∷
+    row (sharedOf (range 100 2 8 8) (range 112 0 1 2)) (gives (some (overlap 112 3 0))) ∷
+    row (sharedOf (range 100 3 8 8) (range 120 0 1 4)) (gives (some (overlap 120 5 0))) ∷
+    row (sharedOf (range 100 3 8 8) (range 122 0 1 1)) (gives (some (overlap 122 5 0))) ∷
+    row (sharedOf (range 100 3 8 8) (range 123 0 1 1)) (gives (some (overlap 123 6 0))) ∷
+    row (sharedOf (range 0 7 5 8) (range 14 0 1 1)) (gives (some (overlap 14 1 0))) ∷
+    row (sharedOf (range 0 7 5 8) (range 15 0 1 1)) (gives (some (overlap 15 2 0))) ∷
+    row (sharedOf (range 10 1 5 2) (range 13 0 1 1)) (gives (some (overlap 13 2 0))) ∷
+    row (sharedOf (range 0 3 4 4) (range 6 0 1 2)) (gives (some (overlap 6 1 0))) ∷
+    row (sharedOf (range 20 1 9 4) (range 27 0 1 4)) (gives (some (overlap 27 4 0))) ∷
+    row (sharedOf (range 64 16 4 4) (range 70 1 8 8)) (gives (some (overlap 80 1 3))) ∷
+    row (sharedOf (range 0 10 5 1) (range 31 1 3 8)) (gives (some (overlap 40 4 2))) ∷
+    row (sharedOf (range 0 20 4 8) (range 44 1 4 8)) (gives (some (overlap 44 2 0))) ∷
+    row (sharedOf (range 3 7 9 2) (range 20 11 4 2)) (gives (some (overlap 31 4 1))) ∷
+    row (sharedOf (range 0 9 6 4) (range 14 11 5 4)) (gives (some (overlap 27 3 1))) ∷
+    row (sharedOf (range 0 1 4 8) (range 9 2 4 8)) (gives (some (overlap 9 2 0))) ∷
+    row (sharedOf (range 0 1 4 8) (range 11 1 4 8)) (gives none) ∷
+    row (sharedOf (range 4294967281 1 8 8) (range 4294967295 0 1 1)) (gives (some (overlap 4294967295 7 0))) ∷
+    row (sharedOf (range 1 2 3 1) (range 0 3 3 1)) (gives (some (overlap 3 1 1))) ∷
+    row (sharedOf (range 70 1 8 8) (range 64 16 4 4)) (gives (some (overlap 80 3 1))) ∷
+    row (sharedOf (range 31 1 3 8) (range 0 10 5 1)) (gives (some (overlap 40 2 4))) ∷
+    row (sharedOf (range 20 11 4 2) (range 3 7 9 2)) (gives (some (overlap 31 1 4))) ∷
+    row (sharedOf (range 14 11 5 4) (range 0 9 6 4)) (gives (some (overlap 27 1 3))) ∷
+    row (sharedOf (range 0 0 0 1) (range 0 0 1 1)) (refuses 5 1) ∷
+    row (sharedOf (range 0 0 1 1) (range 0 0 0 1)) (refuses 5 2) ∷
+    row (sharedOf (range 0 0 1 3) (range 0 0 1 1)) (refuses 5 1) ∷
+    row (sharedOf (range 0 0 1 1) (range 0 0 1 3)) (refuses 5 2) ∷
+    row (sharedOf (range 4294967295 0 1 2) (range 0 0 1 1)) (refuses 5 1) ∷
+    row (sharedOf (range 0 0 1 1) (range 4294967295 0 1 2)) (refuses 5 2) ∷
+    row (sharedOf (range 0 0 0 1) (range 0 0 1 3)) (refuses 5 1) ∷
+    []
+
+pub shares-agree : map (λ (r : AimedExample (Answer (Option Overlap))). r .given) shares ≡ map (λ (r : AimedExample (Answer (Option Overlap))). r .wanted) shares
+unfolding verdict-computes bytes race row name label overlap shares
+shares-agree = refl
+
+-- the races of five bundles; small-bundles has the bundles
 unfoldable pub four : List Race
-four = race 64 1 0 0 1 1 1 0 3 ∷ race 64 1 0 0 1 1 1 1 4 ∷ race 64 1 0 1 2 1 1 0 3 ∷ race 64 1 0 1 2 1 1 1 4 ∷ []
+four = race 64 1 0 0 1 0 1 1 0 3 0 ∷ race 64 1 0 0 1 0 1 1 1 4 0 ∷ race 64 1 0 1 2 0 1 1 0 3 0 ∷ race 64 1 0 1 2 0 1 1 1 4 0 ∷ []
 
 unfoldable pub three : List Race
-three = race 0 1 0 0 10 1 1 0 20 ∷ race 0 1 0 0 10 1 2 0 30 ∷ race 0 1 1 0 20 1 2 0 30 ∷ []
+three = race 0 1 0 0 10 0 1 1 0 20 0 ∷ race 0 1 0 0 10 0 1 2 0 30 0 ∷ race 0 1 1 0 20 0 1 2 0 30 0 ∷ []
 
 unfoldable pub teams : List Race
-teams = race 7 255 1 0 5 256 0 0 6 ∷ race 7 256 0 0 6 257 0 0 7 ∷ []
+teams = race 7 255 1 0 5 0 256 0 0 6 0 ∷ race 7 256 0 0 6 0 257 0 0 7 0 ∷ []
 
 unfoldable pub witnesses : List Race
-witnesses = race 15 1 0 1 2 1 1 0 3 ∷ race 16 1 0 0 1 1 1 1 4 ∷ []
+witnesses = race 15 1 0 1 2 0 1 1 0 3 0 ∷ race 16 1 0 0 1 0 1 1 1 4 0 ∷ []
+
+unfoldable pub elements : List Race
+elements = race 64 1 0 0 1 3 1 1 0 3 2 ∷ race 64 1 0 0 1 3 1 1 1 4 0 ∷ race 64 1 0 1 2 1 1 1 0 3 2 ∷ race 64 1 0 1 2 1 1 1 1 4 0 ∷ []
 
 -- the least race above a key
 unfoldable pub aboves : List (AimedExample (Option Race))
 aboves =
-    row (raceAbove (keyOf 0 (name 0 0 0) (name 0 0 0)) four) (some (race 64 1 0 0 1 1 1 0 3)) ∷
+    row (raceAbove (keyOf 0 (name 0 0 0) (name 0 0 0)) four) (some (race 64 1 0 0 1 0 1 1 0 3 0)) ∷
     row (raceAbove (keyOf 4294967295 (name 65535 255 65535) (name 65535 255 65535)) four) none ∷
-    row (raceAbove (keyOf 0 (name 0 0 0) (name 0 0 0)) three) (some (race 0 1 0 0 10 1 1 0 20)) ∷
+    row (raceAbove (keyOf 0 (name 0 0 0) (name 0 0 0)) three) (some (race 0 1 0 0 10 0 1 1 0 20 0)) ∷
     row (raceAbove (keyOf 4294967295 (name 65535 255 65535) (name 65535 255 65535)) three) none ∷
-    row (raceAbove (keyOf 0 (name 0 0 0) (name 0 0 0)) teams) (some (race 7 255 1 0 5 256 0 0 6)) ∷
+    row (raceAbove (keyOf 0 (name 0 0 0) (name 0 0 0)) teams) (some (race 7 255 1 0 5 0 256 0 0 6 0)) ∷
     row (raceAbove (keyOf 4294967295 (name 65535 255 65535) (name 65535 255 65535)) teams) none ∷
-    row (raceAbove (keyOf 0 (name 0 0 0) (name 0 0 0)) witnesses) (some (race 15 1 0 1 2 1 1 0 3)) ∷
+    row (raceAbove (keyOf 0 (name 0 0 0) (name 0 0 0)) witnesses) (some (race 15 1 0 1 2 0 1 1 0 3 0)) ∷
     row (raceAbove (keyOf 4294967295 (name 65535 255 65535) (name 65535 255 65535)) witnesses) none ∷
-    row (raceAbove (keyOf 64 (name 1 0 0) (name 1 1 0)) four) (some (race 64 1 0 0 1 1 1 1 4)) ∷
-    row (raceAbove (keyOf 64 (name 1 0 0) (name 1 1 1)) four) (some (race 64 1 0 1 2 1 1 0 3)) ∷
-    row (raceAbove (keyOf 64 (name 1 0 1) (name 1 1 0)) four) (some (race 64 1 0 1 2 1 1 1 4)) ∷
+    row (raceAbove (keyOf 0 (name 0 0 0) (name 0 0 0)) elements) (some (race 64 1 0 0 1 3 1 1 0 3 2)) ∷
+    row (raceAbove (keyOf 4294967295 (name 65535 255 65535) (name 65535 255 65535)) elements) none ∷
+    row (raceAbove (keyOf 64 (name 1 0 0) (name 1 1 0)) four) (some (race 64 1 0 0 1 0 1 1 1 4 0)) ∷
+    row (raceAbove (keyOf 64 (name 1 0 0) (name 1 1 1)) four) (some (race 64 1 0 1 2 0 1 1 0 3 0)) ∷
+    row (raceAbove (keyOf 64 (name 1 0 1) (name 1 1 0)) four) (some (race 64 1 0 1 2 0 1 1 1 4 0)) ∷
     row (raceAbove (keyOf 64 (name 1 0 1) (name 1 1 1)) four) none ∷
-    row (raceAbove (keyOf 64 (name 1 0 0) (name 1 0 65535)) four) (some (race 64 1 0 0 1 1 1 0 3)) ∷
-    row (raceAbove (keyOf 64 (name 1 0 0) (name 1 1 2)) four) (some (race 64 1 0 1 2 1 1 0 3)) ∷
-    row (raceAbove (keyOf 64 (name 1 0 0) (name 65535 255 65535)) four) (some (race 64 1 0 1 2 1 1 0 3)) ∷
-    row (raceAbove (keyOf 64 (name 1 0 1) (name 0 0 0)) four) (some (race 64 1 0 1 2 1 1 0 3)) ∷
-    row (raceAbove (keyOf 64 (name 0 255 65535) (name 65535 255 65535)) four) (some (race 64 1 0 0 1 1 1 0 3)) ∷
-    row (raceAbove (keyOf 0 (name 1 0 0) (name 1 1 0)) three) (some (race 0 1 0 0 10 1 2 0 30)) ∷
-    row (raceAbove (keyOf 0 (name 1 0 0) (name 1 1 65535)) three) (some (race 0 1 0 0 10 1 2 0 30)) ∷
-    row (raceAbove (keyOf 0 (name 1 0 65535) (name 1 2 0)) three) (some (race 0 1 1 0 20 1 2 0 30)) ∷
-    row (raceAbove (keyOf 0 (name 1 1 0) (name 1 1 65535)) three) (some (race 0 1 1 0 20 1 2 0 30)) ∷
+    row (raceAbove (keyOf 64 (name 1 0 0) (name 1 0 65535)) four) (some (race 64 1 0 0 1 0 1 1 0 3 0)) ∷
+    row (raceAbove (keyOf 64 (name 1 0 0) (name 1 1 2)) four) (some (race 64 1 0 1 2 0 1 1 0 3 0)) ∷
+    row (raceAbove (keyOf 64 (name 1 0 0) (name 65535 255 65535)) four) (some (race 64 1 0 1 2 0 1 1 0 3 0)) ∷
+    row (raceAbove (keyOf 64 (name 1 0 1) (name 0 0 0)) four) (some (race 64 1 0 1 2 0 1 1 0 3 0)) ∷
+    row (raceAbove (keyOf 64 (name 0 255 65535) (name 65535 255 65535)) four) (some (race 64 1 0 0 1 0 1 1 0 3 0)) ∷
+    row (raceAbove (keyOf 0 (name 1 0 0) (name 1 1 0)) three) (some (race 0 1 0 0 10 0 1 2 0 30 0)) ∷
+    row (raceAbove (keyOf 0 (name 1 0 0) (name 1 1 65535)) three) (some (race 0 1 0 0 10 0 1 2 0 30 0)) ∷
+    row (raceAbove (keyOf 0 (name 1 0 65535) (name 1 2 0)) three) (some (race 0 1 1 0 20 0 1 2 0 30 0)) ∷
+    row (raceAbove (keyOf 0 (name 1 1 0) (name 1 1 65535)) three) (some (race 0 1 1 0 20 0 1 2 0 30 0)) ∷
     row (raceAbove (keyOf 0 (name 1 1 0) (name 1 2 0)) three) none ∷
-    row (raceAbove (keyOf 7 (name 255 1 0) (name 255 255 65535)) teams) (some (race 7 255 1 0 5 256 0 0 6)) ∷
-    row (raceAbove (keyOf 7 (name 255 1 0) (name 256 0 0)) teams) (some (race 7 256 0 0 6 257 0 0 7)) ∷
-    row (raceAbove (keyOf 7 (name 255 255 65535) (name 256 0 0)) teams) (some (race 7 256 0 0 6 257 0 0 7)) ∷
-    row (raceAbove (keyOf 7 (name 256 0 0) (name 256 255 65535)) teams) (some (race 7 256 0 0 6 257 0 0 7)) ∷
+    row (raceAbove (keyOf 7 (name 255 1 0) (name 255 255 65535)) teams) (some (race 7 255 1 0 5 0 256 0 0 6 0)) ∷
+    row (raceAbove (keyOf 7 (name 255 1 0) (name 256 0 0)) teams) (some (race 7 256 0 0 6 0 257 0 0 7 0)) ∷
+    row (raceAbove (keyOf 7 (name 255 255 65535) (name 256 0 0)) teams) (some (race 7 256 0 0 6 0 257 0 0 7 0)) ∷
+    row (raceAbove (keyOf 7 (name 256 0 0) (name 256 255 65535)) teams) (some (race 7 256 0 0 6 0 257 0 0 7 0)) ∷
     row (raceAbove (keyOf 7 (name 256 0 0) (name 257 0 0)) teams) none ∷
-    row (raceAbove (keyOf 14 (name 65535 255 65535) (name 65535 255 65535)) witnesses) (some (race 15 1 0 1 2 1 1 0 3)) ∷
-    row (raceAbove (keyOf 15 (name 1 0 1) (name 1 1 0)) witnesses) (some (race 16 1 0 0 1 1 1 1 4)) ∷
-    row (raceAbove (keyOf 15 (name 65535 255 65535) (name 65535 255 65535)) witnesses) (some (race 16 1 0 0 1 1 1 1 4)) ∷
-    row (raceAbove (keyOf 16 (name 0 0 0) (name 0 0 0)) witnesses) (some (race 16 1 0 0 1 1 1 1 4)) ∷
-    row (raceAbove (keyOf 0 (name 1 1 0) (name 1 0 0)) three) (some (race 0 1 1 0 20 1 2 0 30)) ∷
+    row (raceAbove (keyOf 14 (name 65535 255 65535) (name 65535 255 65535)) witnesses) (some (race 15 1 0 1 2 0 1 1 0 3 0)) ∷
+    row (raceAbove (keyOf 15 (name 1 0 1) (name 1 1 0)) witnesses) (some (race 16 1 0 0 1 0 1 1 1 4 0)) ∷
+    row (raceAbove (keyOf 15 (name 65535 255 65535) (name 65535 255 65535)) witnesses) (some (race 16 1 0 0 1 0 1 1 1 4 0)) ∷
+    row (raceAbove (keyOf 16 (name 0 0 0) (name 0 0 0)) witnesses) (some (race 16 1 0 0 1 0 1 1 1 4 0)) ∷
+    row (raceAbove (keyOf 64 (name 1 0 0) (name 1 1 0)) elements) (some (race 64 1 0 0 1 3 1 1 1 4 0)) ∷
+    row (raceAbove (keyOf 64 (name 1 0 0) (name 1 1 1)) elements) (some (race 64 1 0 1 2 1 1 1 0 3 2)) ∷
+    row (raceAbove (keyOf 64 (name 1 0 1) (name 1 1 0)) elements) (some (race 64 1 0 1 2 1 1 1 1 4 0)) ∷
+    row (raceAbove (keyOf 64 (name 1 0 0) (name 65535 255 65535)) elements) (some (race 64 1 0 1 2 1 1 1 0 3 2)) ∷
+    row (raceAbove (keyOf 0 (name 1 1 0) (name 1 0 0)) three) (some (race 0 1 1 0 20 0 1 2 0 30 0)) ∷
     row (raceAbove (keyOf 0 (name 1 2 0) (name 1 0 0)) three) none ∷
     row (raceAbove (keyOf 0 (name 7 7 7) (name 3 3 3)) three) none ∷
     []
 
 pub aboves-agree : map (λ (r : AimedExample (Option Race)). r .given) aboves ≡ map (λ (r : AimedExample (Option Race)). r .wanted) aboves
-unfolding verdict-computes bytes race row name label four three teams witnesses aboves
+unfolding verdict-computes bytes race row name label four three teams witnesses elements aboves
 aboves-agree = refl
 
 -- next race, and the work area afterwards
 unfoldable pub nexts : List (AimedExample (Lent (Option Race)))
 nexts =
     row (nextOf (bytes 45 0x01000000100100020201010000310a000010000008000200041102010100013014000a10000000000100041102) 0 (name 0 0 0) (name 0 0 0) (replicate 16383 7)) (record { answer = (refuses 13 0); buffer = replicate 16383 7 }) ∷
-    row (nextOf (bytes 67 0x01000000100100020201010000310100400000000000010001310200400000000000010001020101000131030040000000000001000131040040000000000001000102) 64 (name 1 0 1) (name 1 0 0) (replicate 16384 7)) (record { answer = (gives (some (race 64 1 0 1 2 1 1 0 3))); buffer = replicate 16384 0 }) ∷
+    row (nextOf (bytes 67 0x01000000100100020201010000310100400000000000010001310200400000000000010001020101000131030040000000000001000131040040000000000001000102) 64 (name 1 0 1) (name 1 0 0) (replicate 16384 7)) (record { answer = (gives (some (race 64 1 0 1 2 0 1 1 0 3 0))); buffer = replicate 16384 0 }) ∷
     row (nextOf (bytes 0 0x0) 0 (name 0 0 0) (name 0 0 0) (replicate 16385 7)) (record { answer = (refuses 10 0); buffer = replicate 16385 0 }) ∷
     []
 
@@ -398,7 +460,7 @@ judgements =
     row (judgeOf (bytes 45 0x01000000100100020201010000310a000010000008000200041102010100013014000a10000000000100041102) (replicate 3 7)) (record { answer = (refuses 13 0); buffer = replicate 3 7 }) ∷
     row (judgeOf (bytes 0 0x0) (replicate 3 7)) (record { answer = (refuses 13 0); buffer = replicate 3 7 }) ∷
     row (judgeOf (bytes 45 0x01000000100100020201010000310a000010000008000200041102010100013014000a10000000000100041102) (replicate 16383 7)) (record { answer = (refuses 13 0); buffer = replicate 16383 7 }) ∷
-    row (judgeOf (bytes 45 0x01000000100100020201010000310a000010000008000200041102010100013014000a10000000000100041102) (replicate 16384 7)) (record { answer = (gives (record { chunks = 3; segments = 6; accesses = 2; races = 1; verdict = Ver.Least (race 4106 1 0 0 10 1 1 0 20) })); buffer = replicate 16384 0 }) ∷
+    row (judgeOf (bytes 45 0x01000000100100020201010000310a000010000008000200041102010100013014000a10000000000100041102) (replicate 16384 7)) (record { answer = (gives (record { chunks = 3; segments = 6; accesses = 2; races = 1; verdict = Ver.Least (race 4106 1 0 0 10 1 1 1 0 20 0) })); buffer = replicate 16384 0 }) ∷
     row (judgeOf (bytes 0 0x0) (replicate 16385 7)) (record { answer = (refuses 10 0); buffer = replicate 16385 0 }) ∷
     []
 
