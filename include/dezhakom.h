@@ -24,7 +24,7 @@
 extern "C" {
 #endif
 
-#define DEZHAKOM_VERSION "0.1.0"
+#define DEZHAKOM_VERSION "0.2.0"
 
 /* The bytes of the commands. */
 #define DEZHAKOM_MEMBER 0x01       /* team, member: opens a chunk, the whole log of one member of a team */
@@ -51,6 +51,7 @@ extern "C" {
 #define DEZHAKOM_MOST_TRIPLES 5      /* of a label: 15 */
 #define DEZHAKOM_COMMAND_BYTES 12    /* the length of the longest command */
 #define DEZHAKOM_WORK_WORDS 16384    /* the least length of a work area, in words of 32 bits: 13 */
+#define DEZHAKOM_NAME_WORDS 2        /* the words of 64 bits in a listing's names, for each access */
 
 /* The refusals, and what the place of each is. */
 typedef enum dezhakom_refusal {
@@ -109,16 +110,18 @@ typedef struct dezhakom_label {
     dezhakom_triple triples[DEZHAKOM_MOST_TRIPLES];
 } dezhakom_label;
 
-/* An access by its name (team, member, number in the member's chunk from 0) and its site. */
+/* An access of a race by its name (team, member, number in the member's chunk from 0), its site, and the lowest of its elements,
+ * numbered from 0, that covers the witness: the turn of the loop, where a loop was logged as one access. */
 typedef struct dezhakom_access {
     uint32_t team;
     uint32_t member;
     uint32_t number;
     uint32_t site;
-    uint32_t element; /* always 0; kept for the number of the element that covers the witness */
+    uint32_t element;
 } dezhakom_access;
 
-/* Two accesses that race, the lower name first, and the lowest byte that both touch. */
+/* Two accesses that race, the lower name first, and the lowest byte that both touch. Races are ordered by witness, then first name,
+ * then second name; sites and elements do not matter. */
 typedef struct dezhakom_race {
     uint32_t witness;
     dezhakom_access first;
@@ -135,8 +138,9 @@ typedef struct dezhakom_judgement {
     dezhakom_race least;
 } dezhakom_judgement;
 
-/* The counts of a bundle; whole is 1 where all of its races stand in the lent memory. A listing needs as many names as there are
- * accesses, as many numbers as there are races, and half as many spare: where one is shorter, whole is 0 and so are all three. */
+/* The counts of a bundle; whole is 1 where all of its races stand in the lent memory. A listing needs twice as many words in names as
+ * there are accesses, as many numbers as there are races, and half as many spare: where one is shorter, whole is 0 and so are all
+ * three. */
 typedef struct dezhakom_totals {
     uint32_t chunks;
     uint32_t segments;
@@ -173,11 +177,11 @@ uint32_t dezhakom_label_of_segment(const uint8_t *bytes, size_t length, uint16_t
  * Refused with 15 at 1 or 2 for a label that no segment can have, then with 16. */
 uint32_t dezhakom_compare_labels(const dezhakom_label *first, const dezhakom_label *second, uint32_t *order, size_t *place);
 
-/* The lowest byte that two ranges share, if any: found is 1 where there is one, else 0 as is byte.
- * Refused with 5 at 1 or 2, for the first range that no access can have. */
+/* The lowest byte that two ranges share, if any, and the lowest element of each that covers it: found is 1 where there is one, else
+ * 0 as are byte, element and other_element. Refused with 5 at 1 or 2, for the first range that no access can have. */
 uint32_t dezhakom_lowest_shared_byte(uint32_t base, uint16_t stride, uint16_t count, uint8_t size, uint32_t other_base,
                                      uint16_t other_stride, uint16_t other_count, uint8_t other_size, uint32_t *found,
-                                     uint32_t *byte, size_t *place);
+                                     uint32_t *byte, uint32_t *element, uint32_t *other_element, size_t *place);
 
 /* The judgement of a bundle: its counts, and its least race or race-free. All pairs of accesses are compared.
  * Refused with 13, and the work area stays as it was; then as check. After every other outcome the work area is 0. */
@@ -190,13 +194,13 @@ uint32_t dezhakom_next_race(const uint8_t *bytes, size_t length, uint32_t witnes
                             uint16_t first_number, uint16_t second_team, uint8_t second_member, uint16_t second_number,
                             uint32_t *work, size_t words, uint32_t *found, dezhakom_race *race, size_t *place);
 
-/* All races of a bundle, in order, in one judgement: numbers[0] to numbers[races - 1], which dezhakom_race_in reads by names.
- * Refused as dezhakom_judge, with the same work area; names, numbers and spare then stay as they were. */
+/* All races of a bundle, in order, in one judgement: numbers[0] to numbers[races - 1], which dezhakom_race_in reads by names, two
+ * words for each access. Refused as dezhakom_judge, with the same work area; names, numbers and spare then stay as they were. */
 uint32_t dezhakom_list_races(const uint8_t *bytes, size_t length, uint32_t *work, size_t words, uint64_t *names,
                              size_t names_length, uint64_t *numbers, size_t numbers_length, uint64_t *spare,
                              size_t spare_length, dezhakom_totals *totals, size_t *place);
 
-/* The race that a number of a listing stands for, by the names of the same listing.
+/* The race that a number of a listing stands for, by the names of the same listing, in the memory that was lent to it.
  * It refuses nothing: a name that is not there is 0. */
 void dezhakom_race_in(const uint64_t *names, size_t names_length, uint64_t number, dezhakom_race *race);
 

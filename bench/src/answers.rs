@@ -1,9 +1,9 @@
 //! Answers of the plain Rust code, one for each line of standard input:
 //! `check HEX` gives `accepted` or `refused N at P`; `label TEAM MEMBER SEGMENT HEX` gives the numbers of the triples;
-//! `shared` and the two ranges' eight numbers give `byte N`, `none` or a refusal;
+//! `shared` and the two ranges' eight numbers give `byte N elements I J`, `none` or a refusal;
 //! `judge WORDS HEX`, `next WORDS KEY HEX` and `list HEX` give a judgement, a race or `none`, and a listing whose lines
-//! end in `;`. WORDS is the length of the work area, which is not clean before and must be left as docs/FORMAT.md says; KEY
-//! is a witness and two names, seven numbers.
+//! end in `;`. A race ends in `elements I J`, but for those of a listing, which has none. WORDS is the length of the work area,
+//! which is not clean before and must be left as docs/FORMAT.md says; KEY is a witness and two names, seven numbers.
 //! bench/compare_reader holds them to the second reader's.
 
 #[allow(dead_code)] // what other programs of bench/ use of it
@@ -13,7 +13,7 @@ mod ranges;
 mod reader;
 
 use judge::{Closure, Judgement, LEAST_WORDS, Name, Race};
-use ranges::{Range, SharedByte};
+use ranges::{Overlap, Range, SharedByte};
 use reader::Refusal;
 use std::io::{BufRead, Write};
 
@@ -66,9 +66,14 @@ fn shared(n: &[u32]) -> String {
         .map(|shared| ranges::ask(shared, &first, &second));
     assert_eq!(answers[0], answers[1], "the two answers to {n:?}");
     match answers[0] {
-        Ok(byte) => byte.map_or("none".to_string(), |byte| format!("byte {byte}")),
+        Ok(overlap) => overlap.map_or("none".to_string(), overlap_text),
         Err(place) => refusal_text(Refusal { number: 5, place }),
     }
+}
+
+fn overlap_text(overlap: Overlap) -> String {
+    let Overlap { byte, first_element, second_element } = overlap;
+    format!("byte {byte} elements {first_element} {second_element}")
 }
 
 /// Asks over a work area of so many words, once for each closure.
@@ -121,6 +126,7 @@ fn judgement_text(judgement: Judgement) -> String {
 
 fn race_text(race: Race) -> String {
     let name = |name: Name| format!("{}.{}.{}", name.team, name.member, name.number);
-    let Race { witness, first, first_site, second, second_site } = race;
-    format!("race {witness} {} {first_site} {} {second_site}", name(first), name(second))
+    let Race { witness, first, first_site, first_element, second, second_site, second_element } = race;
+    let (first, second) = (name(first), name(second));
+    format!("race {witness} {first} {first_site} {second} {second_site} elements {first_element} {second_element}")
 }

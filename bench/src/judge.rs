@@ -16,14 +16,17 @@ pub struct Name {
     pub number: u16,
 }
 
-/// Two accesses that race, lower name first, with their sites and the lowest byte that both touch.
+/// Two accesses that race, lower name first, with their sites, the lowest byte that both touch, and the lowest element of each
+/// that covers it.
 #[derive(Clone, Copy, Debug, PartialEq, Eq)]
 pub struct Race {
     pub witness: u32,
     pub first: Name,
     pub first_site: u16,
+    pub first_element: u16,
     pub second: Name,
     pub second_site: u16,
+    pub second_element: u16,
 }
 
 /// The counts of the bundle's chunks, segments, accesses and races, and the least race.
@@ -58,7 +61,7 @@ pub fn judge(bytes: &[u8], work: &mut [u32], closure: Closure) -> Result<Judgeme
             segments: rows.len() as u32,
             accesses: table.len() as u32,
             races,
-            least: race_of(table, least),
+            least: least_of(table, least),
         }
     })
 }
@@ -78,14 +81,14 @@ pub fn next_race(
                 least = least.min(key);
             }
         });
-        race_of(table, least)
+        least_of(table, least)
     })
 }
 
 /// All races in order.
 pub fn list(bytes: &[u8], work: &mut [u32], closure: Closure) -> Result<Vec<Race>, Refusal> {
     over(bytes, work, closure, |bundle, rows, table| {
-        sorted_keys(bundle, rows, table).into_iter().filter_map(|key| race_of(table, key)).collect()
+        sorted_keys(bundle, rows, table).into_iter().map(|key| race_of(table, key)).collect()
     })
 }
 
@@ -342,13 +345,18 @@ fn parts(key: u64) -> (u32, usize, usize) {
 }
 
 /// No race has the greatest key.
-fn race_of(table: &[TableRow], key: u64) -> Option<Race> {
-    if key == u64::MAX {
-        return None;
-    }
+fn least_of(table: &[TableRow], least: u64) -> Option<Race> {
+    (least != u64::MAX).then(|| race_of(table, least))
+}
+
+/// The race of a key, which has no room for the elements: they are found again by the witness.
+#[inline]
+fn race_of(table: &[TableRow], key: u64) -> Race {
     let (witness, first, second) = parts(key);
-    let ((first, first_site), (second, second_site)) = (name_of(&table[first]), name_of(&table[second]));
-    Some(Race { witness, first, first_site, second, second_site })
+    let (one, other) = (&table[first], &table[second]);
+    let ((first, first_site), (second, second_site)) = (name_of(one), name_of(other));
+    let [first_element, second_element] = [one, other].map(|row| range_in(row).element_at(witness));
+    Race { witness, first, first_site, first_element, second, second_site, second_element }
 }
 
 /// The races above the witness and names are those whose key is no less.
@@ -392,8 +400,8 @@ fn each_race(bundle: &Bundle, rows: &[MatrixRow], table: &[TableRow], mut found:
                 if bit(&row, to) || bit(&rows[to], segment) {
                     continue;
                 }
-                if let Some(witness) = ranges::by_euclid(range_in(&one), range_in(other)) {
-                    found(key_of(witness as u32, first, second));
+                if let Some(overlap) = ranges::by_euclid(range_in(&one), range_in(other)) {
+                    found(key_of(overlap.byte, first, second));
                 }
             }
         }

@@ -82,7 +82,7 @@ fn line(judgement: &Judgement) -> String {
     let counts = format!("chunks {chunks} segments {segments} accesses {accesses}");
     match least {
         None => format!("race-free {counts}"),
-        Some(Race { witness, first, first_site, second, second_site }) => {
+        Some(Race { witness, first, first_site, second, second_site, .. }) => {
             let (first, second) = (name(first), name(second));
             format!("race {counts} race {witness:08x} {first} {first_site} {second} {second_site} pairs {races}")
         }

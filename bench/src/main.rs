@@ -14,7 +14,7 @@ mod reader;
 
 use bundles::Case;
 use generate::{Pair, Random};
-use ranges::SharedByte;
+use ranges::{Overlap, SharedByte};
 use reader::Refusal;
 use std::hint::black_box;
 use std::time::Instant;
@@ -61,7 +61,7 @@ fn main() {
 }
 
 #[inline(always)]
-fn ask(shared_byte: SharedByte, (first, second): &Pair) -> Result<Option<u32>, usize> {
+fn ask(shared_byte: SharedByte, (first, second): &Pair) -> Result<Option<Overlap>, usize> {
     ranges::ask(shared_byte, first, second)
 }
 
@@ -94,7 +94,10 @@ fn quickest<const TASKS: usize>(rounds: usize, mut tasks: [&mut dyn FnMut(); TAS
 
 fn ask_all(shared_byte: SharedByte, pairs: &[Pair]) {
     let shared_byte = black_box(shared_byte);
-    let sum = pairs.iter().fold(0u32, |sum, pair| sum.wrapping_add(ask(shared_byte, pair).unwrap_or(None).unwrap_or(1)));
+    let sum = pairs.iter().fold(0u32, |sum, pair| {
+        let overlap = ask(shared_byte, pair).unwrap_or(None);
+        sum.wrapping_add(overlap.map_or(1, |o| o.byte ^ o.first_element ^ o.second_element))
+    });
     black_box(sum);
 }
 

@@ -1,4 +1,5 @@
-//! The lowest byte that two ranges share, in plain Rust: by a loop over the elements, and by the proved code's own algorithm.
+//! The lowest byte that two ranges share and the elements that cover it, in plain Rust: by a loop over the elements, and by
+//! the proved code's own algorithm.
 
 /// The bytes base + k * stride + j, with k below count and j below size.
 #[derive(Clone, Copy, Debug)]
@@ -28,26 +29,59 @@ impl Range {
     fn start_of(&self, element: u64) -> u64 {
         self.base as u64 + element * self.stride as u64
     }
+
+    /// The lowest element that covers a byte, for a byte that some element covers: the first that ends past it.
+    #[inline]
+    pub fn element_at(&self, byte: u32) -> u16 {
+        let (distance, size) = (byte - self.base, self.size as u32);
+        if distance < size { 0 } else { ((distance - size) / self.stride as u32 + 1) as u16 }
+    }
 }
 
-/// The form of the exported function, which all that are compared have: the two ranges, found, the byte, the place of a
-/// refusal; the answer is the refusal's number or 0.
-pub type SharedByte =
-    unsafe extern "C" fn(u32, u16, u16, u8, u32, u16, u16, u8, &mut u32, &mut u32, &mut usize) -> u32;
+/// The lowest byte that two ranges share, and the lowest element of each that covers it.
+#[derive(Clone, Copy, Debug, PartialEq, Eq)]
+pub struct Overlap {
+    pub byte: u32,
+    pub first_element: u32,
+    pub second_element: u32,
+}
 
-/// The byte or none, or refusal 5 at 1 or 2.
-fn answer(first: Range, second: Range, lowest: impl Fn(Range, Range) -> Option<u64>) -> Result<Option<u32>, usize> {
+/// The form of the exported function, which all that are compared have: the two ranges, found, the byte, the two elements,
+/// the place of a refusal; the answer is the refusal's number or 0.
+pub type SharedByte = unsafe extern "C" fn(
+    u32,
+    u16,
+    u16,
+    u8,
+    u32,
+    u16,
+    u16,
+    u8,
+    &mut u32,
+    &mut u32,
+    &mut u32,
+    &mut u32,
+    &mut usize,
+) -> u32;
+
+/// The byte with its elements or none, or refusal 5 at 1 or 2.
+fn answer(
+    first: Range,
+    second: Range,
+    lowest: impl Fn(Range, Range) -> Option<Overlap>,
+) -> Result<Option<Overlap>, usize> {
     if !first.is_good() {
         return Err(1);
     }
     if !second.is_good() {
         return Err(2);
     }
-    Ok(lowest(first, second).map(|byte| byte as u32))
+    Ok(lowest(first, second))
 }
 
-/// Steps through the elements of both ranges in the order of their starts.
-fn by_elements(first: Range, second: Range) -> Option<u64> {
+/// Steps through the elements of both ranges in the order of their starts. An element that is passed over ends before the byte
+/// that is found, so those that are left are the lowest that cover it.
+fn by_elements(first: Range, second: Range) -> Option<Overlap> {
     let (mut i, mut j) = (0, 0);
     while i < first.count as u64 && j < second.count as u64 {
         let one = first.start_of(i);
@@ -57,7 +91,7 @@ fn by_elements(first: Range, second: Range) -> Option<u64> {
         } else if other + second.size as u64 <= one {
             j += 1;
         } else {
-            return Some(one.max(other));
+            return Some(Overlap { byte: one.max(other) as u32, first_element: i as u32, second_element: j as u32 });
         }
     }
     None
@@ -79,13 +113,15 @@ fn first_pair(stride: u64, pace: u64, low: u64, high: u64, count: u64, limit: u6
     (sum < count).then_some((sum, one))
 }
 
-/// Euclid's algorithm on the strides.
+/// Euclid's algorithm on the strides. It finds the same pair as the loop: of each range the first element that shares a byte
+/// with the other range.
 #[inline]
-pub fn by_euclid(first: Range, second: Range) -> Option<u64> {
-    let (lower, upper) = if first.base <= second.base { (first, second) } else { (second, first) };
+pub fn by_euclid(first: Range, second: Range) -> Option<Overlap> {
+    let in_order = first.base <= second.base;
+    let (lower, upper) = if in_order { (first, second) } else { (second, first) };
     let distance = (upper.base - lower.base) as u64;
     if distance < lower.size as u64 {
-        return Some(upper.base as u64);
+        return Some(Overlap { byte: upper.base, first_element: 0, second_element: 0 });
     }
     let low = distance + 1 - lower.size as u64;
     let high = distance + upper.size as u64 - 1;
@@ -97,7 +133,10 @@ pub fn by_euclid(first: Range, second: Range) -> Option<u64> {
         lower.count as u64,
         upper.count as u64,
     )?;
-    Some(lower.start_of(one).max(upper.start_of(other)))
+    let byte = lower.start_of(one).max(upper.start_of(other)) as u32;
+    let (first_element, second_element) =
+        if in_order { (one as u32, other as u32) } else { (other as u32, one as u32) };
+    Some(Overlap { byte, first_element, second_element })
 }
 
 macro_rules! as_exported {
@@ -114,13 +153,19 @@ macro_rules! as_exported {
             other_size: u8,
             found: &mut u32,
             byte: &mut u32,
+            element: &mut u32,
+            other_element: &mut u32,
             place: &mut usize,
         ) -> u32 {
             let first = Range { base, stride, count, size };
             let second = Range { base: other_base, stride: other_stride, count: other_count, size: other_size };
             let answer = answer(first, second, $lowest);
+            let none = Overlap { byte: 0, first_element: 0, second_element: 0 };
+            let overlap = answer.unwrap_or(None).unwrap_or(none);
             *found = matches!(answer, Ok(Some(_))) as u32;
-            *byte = answer.unwrap_or(None).unwrap_or(0);
+            *byte = overlap.byte;
+            *element = overlap.first_element;
+            *other_element = overlap.second_element;
             *place = answer.err().unwrap_or(0);
             if answer.is_ok() { 0 } else { 5 }
         }
@@ -130,10 +175,10 @@ macro_rules! as_exported {
 as_exported!(shared_by_elements, by_elements);
 as_exported!(shared_by_euclid, by_euclid);
 
-/// Asks one of the three: the byte or none, or the place of refusal 5.
+/// Asks one of the three: the byte with its elements or none, or the place of refusal 5.
 #[inline(always)]
-pub fn ask(shared_byte: SharedByte, first: &Range, second: &Range) -> Result<Option<u32>, usize> {
-    let (mut found, mut byte, mut place) = (0, 0, 0);
+pub fn ask(shared_byte: SharedByte, first: &Range, second: &Range) -> Result<Option<Overlap>, usize> {
+    let (mut found, mut byte, mut first_element, mut second_element, mut place) = (0, 0, 0, 0, 0);
     // Any numbers may be passed, so the proved function is safe to call; so are those of Rust.
     let refusal = unsafe {
         shared_byte(
@@ -147,11 +192,13 @@ pub fn ask(shared_byte: SharedByte, first: &Range, second: &Range) -> Result<Opt
             second.size,
             &mut found,
             &mut byte,
+            &mut first_element,
+            &mut second_element,
             &mut place,
         )
     };
     match refusal {
-        0 => Ok((found != 0).then_some(byte)),
+        0 => Ok((found != 0).then_some(Overlap { byte, first_element, second_element })),
         _ => Err(place),
     }
 }

@@ -15,13 +15,14 @@ from ctypes import POINTER, Structure, byref, c_char_p, c_size_t, c_uint8, c_uin
 
 MEMBER, END, REGION, BARRIER, ACQUIRE, RELEASE = 0x01, 0x02, 0x10, 0x11, 0x20, 0x21
 READ, WRITE, ATOMIC_READ, ATOMIC_WRITE = 0x30, 0x31, 0x32, 0x33
-WORK_WORDS, MOST_ACCESSES, COMMAND_BYTES, MOST_TRIPLES = 16384, 1024, 12, 5
+WORK_WORDS, MOST_ACCESSES, COMMAND_BYTES, MOST_TRIPLES, NAME_WORDS = 16384, 1024, 12, 5, 2
 ORDERS = ("same", "before", "after", "concurrent")
 
 Command = namedtuple("Command", "byte team member lock site base stride count size", defaults=(0,) * 8)
 Range = namedtuple("Range", "base stride count size")
+Overlap = namedtuple("Overlap", "byte first_element second_element")  # the lowest element of each range that covers the byte
 Name = namedtuple("Name", "team member number")
-Race = namedtuple("Race", "witness first second first_site second_site")
+Race = namedtuple("Race", "witness first second first_site second_site first_element second_element")
 Judgement = namedtuple("Judgement", "chunks segments accesses races least")  # least is None where it is race-free
 Listing = namedtuple("Listing", "chunks segments accesses races")  # races is the list of all, in order
 
@@ -73,7 +74,7 @@ _FORMS = {
     "find_chunk": (*_BYTES, c_uint16, c_uint8, _SIZE, _SIZE, _SIZE),
     "label_of_segment": (*_BYTES, c_uint16, c_uint8, c_uint32, POINTER(_Label), _SIZE),
     "compare_labels": (POINTER(_Label), POINTER(_Label), _WORD, _SIZE),
-    "lowest_shared_byte": (*_RANGE, *_RANGE, _WORD, _WORD, _SIZE),
+    "lowest_shared_byte": (*_RANGE, *_RANGE, _WORD, _WORD, _WORD, _WORD, _SIZE),
     "judge": (*_BYTES, *_WORK, POINTER(_Judgement), _SIZE),
     "next_race": (*_BYTES, c_uint32, *_NAME, *_NAME, *_WORK, _WORD, POINTER(_Race), _SIZE),
     "list_races": (*_BYTES, *_WORK, *_WORDS, *_WORDS, *_WORDS, POINTER(_Totals), _SIZE),
@@ -82,7 +83,7 @@ _FORMS = {
 
 
 def _load():
-    name = os.environ.get("DEZHAKOM_LIBRARY", "libdezhakom.so.0")
+    name = os.environ.get("DEZHAKOM_LIBRARY", "libdezhakom.so.1")
     try:
         library = ctypes.CDLL(name)
     except OSError as error:
@@ -137,7 +138,7 @@ def _area(work):
 def _race(record):
     first, second = record.first, record.second
     names = (Name(access.team, access.member, access.number) for access in (first, second))
-    return Race(record.witness, *names, first.site, second.site)
+    return Race(record.witness, *names, first.site, second.site, first.element, second.element)
 
 
 def read_command(data, position=0):
@@ -188,10 +189,10 @@ def _label(triples):
 
 
 def lowest_shared_byte(first, second):
-    """The lowest byte that two ranges (base, stride, count, size) share, or None."""
-    found, byte = c_uint32(), c_uint32()
-    _ask("lowest_shared_byte", *_range(first), *_range(second), byref(found), byref(byte))
-    return byte.value if found.value else None
+    """The lowest byte that two ranges (base, stride, count, size) share, with its elements, or None."""
+    found, *overlap = (c_uint32() for _ in range(4))
+    _ask("lowest_shared_byte", *_range(first), *_range(second), byref(found), *map(byref, overlap))
+    return Overlap(*(word.value for word in overlap)) if found.value else None
 
 
 def judge(data, work=None):
@@ -216,11 +217,11 @@ def list_races(data, work=None):
     room = min(4096, accesses * (accesses - 1) // 2)
     totals = _Totals()
     while not totals.whole:  # a second time where the first attempt had not enough room
-        names, numbers, spare = ((c_uint64 * length)() for length in (accesses, room, room // 2))
-        _ask("list_races", data, len(data), work, len(work), names, accesses, numbers, room, spare, room // 2, byref(totals))
+        names, numbers, spare = ((c_uint64 * length)() for length in (NAME_WORDS * accesses, room, room // 2))
+        _ask("list_races", data, len(data), work, len(work), names, len(names), numbers, room, spare, room // 2, byref(totals))
         room = totals.races
     race_in, record, races = _FUNCTIONS["race_in"], _Race(), []
     for number in numbers[: totals.races]:
-        race_in(names, accesses, number, byref(record))
+        race_in(names, len(names), number, byref(record))
         races.append(_race(record))
     return Listing(totals.chunks, totals.segments, totals.accesses, races)

@@ -119,6 +119,8 @@ extern "C" {
         other_size: u8,
         found: &mut u32,
         byte: &mut u32,
+        element: &mut u32,
+        other_element: &mut u32,
         place: &mut usize,
     ) -> u32;
 

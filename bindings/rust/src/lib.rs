@@ -24,6 +24,8 @@ pub const MOST_ACCESSES: usize = 1_024;
 pub const COMMAND_BYTES: usize = 12;
 /// The least length of a work area.
 pub const WORK_WORDS: usize = 16_384;
+/// The words of a listing's names, for each access.
+const NAME_WORDS: usize = 2;
 
 // ----------------------------------------------------------------- refusals
 
@@ -382,10 +384,18 @@ pub fn compare_labels(first: &Label, second: &Label) -> Result<Order, Refusal> {
     })
 }
 
-/// The lowest byte that both ranges touch, if any. Refused with 5 at 1 or 2, for the first range that no access can have.
+/// The lowest byte that two ranges share, and the lowest element of each that covers it; elements are numbered from 0.
+#[derive(Clone, Copy, Debug, PartialEq, Eq, Hash)]
+pub struct Overlap {
+    pub byte: u32,
+    pub first_element: u32,
+    pub second_element: u32,
+}
+
+/// The lowest byte that both ranges touch, if any, with its elements. Refused with 5 at 1 or 2, for the first range that no access can have.
 #[inline]
-pub fn lowest_shared_byte(first: Range, second: Range) -> Result<Option<u32>, Refusal> {
-    let (mut found, mut byte, mut place) = (0, 0, 0);
+pub fn lowest_shared_byte(first: Range, second: Range) -> Result<Option<Overlap>, Refusal> {
+    let (mut found, mut byte, mut first_element, mut second_element, mut place) = (0, 0, 0, 0, 0);
     let refusal = unsafe {
         ffi::dezhakom_lowest_shared_byte(
             first.base,
@@ -398,11 +408,13 @@ pub fn lowest_shared_byte(first: Range, second: Range) -> Result<Option<u32>, Re
             second.size,
             &mut found,
             &mut byte,
+            &mut first_element,
+            &mut second_element,
             &mut place,
         )
     };
     answer(refusal, place)?;
-    Ok((found != 0).then_some(byte))
+    Ok((found != 0).then_some(Overlap { byte, first_element, second_element }))
 }
 
 // -------------------------------------------------------------------- races
@@ -429,8 +441,12 @@ pub struct Race {
     pub witness: u32,
     pub first: Name,
     pub first_site: u32,
+    /// The lowest element of the first access, numbered from 0, that covers the witness.
+    pub first_element: u32,
     pub second: Name,
     pub second_site: u32,
+    /// The same of the second access.
+    pub second_element: u32,
 }
 
 impl Race {
@@ -444,8 +460,10 @@ impl Race {
             witness: record.witness,
             first: name(&record.first),
             first_site: record.first.site,
+            first_element: record.first.element,
             second: name(&record.second),
             second_site: record.second.site,
+            second_element: record.second.element,
         }
     }
 
@@ -455,10 +473,10 @@ impl Race {
     }
 }
 
-/// The line of racelist.
+/// The line of racelist, which does not have the elements.
 impl fmt::Display for Race {
     fn fmt(&self, out: &mut fmt::Formatter) -> fmt::Result {
-        let Race { witness, first, first_site, second, second_site } = self;
+        let Race { witness, first, first_site, second, second_site, .. } = self;
         write!(out, "race {witness:08x} {first} {first_site} {second} {second_site}")
     }
 }
@@ -542,7 +560,7 @@ impl Listing {
         // Room for all that a bundle of this length can have: an access has 12 bytes. What is not used is not touched, but for the spare memory.
         let accesses = MOST_ACCESSES.min(bytes.len() / COMMAND_BYTES);
         let races = accesses * accesses.saturating_sub(1) / 2;
-        let (mut names, mut numbers, mut spare) = (vec![0; accesses], vec![0; races], vec![0; races / 2]);
+        let (mut names, mut numbers, mut spare) = (vec![0; NAME_WORDS * accesses], vec![0; races], vec![0; races / 2]);
         let (mut totals, mut place) = (ffi::Totals::default(), 0);
         let refusal = unsafe {
             ffi::dezhakom_list_races(
@@ -563,7 +581,6 @@ impl Listing {
         answer(refusal, place)?;
         let ffi::Totals { chunks, segments, accesses, races, whole } = totals;
         assert!(whole == 1, "there is room for all races");
-        names.truncate(accesses as usize);
         numbers.truncate(races as usize);
         numbers.shrink_to_fit();
         Ok(Listing { counts: Counts { chunks, segments, accesses, races }, names, numbers })

@@ -57,12 +57,14 @@ fn a_race() {
     let bytes = e_bytes();
     let judgement = judge(&bytes, &mut work).unwrap();
     assert_eq!(judgement.counts, Counts { chunks: 3, segments: 6, accesses: 2, races: 1 });
-    assert_eq!(judgement.least.unwrap().to_string(), "race 0000100a 1.0.0 10 1.1.0 20");
+    let least = judgement.least.unwrap();
+    assert_eq!(least.to_string(), "race 0000100a 1.0.0 10 1.1.0 20");
+    assert_eq!((least.first_element, least.second_element), (1, 0));
     assert!(work.iter().all(|&word| word == 0));
     let listing = Listing::of(&bytes, &mut work).unwrap();
     assert_eq!((listing.len(), listing.is_empty()), (1, false));
     assert_eq!(listing.races().next(), judgement.least);
-    assert_eq!(next_race(&bytes, judgement.least.unwrap().key(), &mut work), Ok(None));
+    assert_eq!(next_race(&bytes, least.key(), &mut work), Ok(None));
 }
 
 #[test]
@@ -107,12 +109,35 @@ fn labels() {
 #[test]
 fn ranges() {
     let of = |base, stride, count, size| Range { base, stride, count, size };
+    let at = |byte, first_element, second_element| Ok(Some(Overlap { byte, first_element, second_element }));
     assert_eq!(lowest_shared_byte(of(0, 8, 4, 4), of(4, 8, 4, 4)), Ok(None));
-    assert_eq!(lowest_shared_byte(of(0, 8, 4, 4), of(4, 0, 1, 8)), Ok(Some(8)));
-    assert_eq!(lowest_shared_byte(of(0, 3, 3, 1), of(1, 2, 3, 1)), Ok(Some(3)));
+    assert_eq!(lowest_shared_byte(of(0, 8, 4, 4), of(4, 0, 1, 8)), at(8, 1, 0));
+    assert_eq!(lowest_shared_byte(of(4, 0, 1, 8), of(0, 8, 4, 4)), at(8, 0, 1));
+    assert_eq!(lowest_shared_byte(of(0, 3, 3, 1), of(1, 2, 3, 1)), at(3, 1, 1));
+    // Elements 2 to 7 of the first range cover byte 9.
+    assert_eq!(lowest_shared_byte(of(0, 1, 8, 8), of(9, 0, 1, 1)), at(9, 2, 0));
+    assert_eq!(lowest_shared_byte(of(0, 1, 65_535, 1), of(65_534, 0, 1, 8)), at(65_534, 65_534, 0));
     assert_eq!(lowest_shared_byte(Range::array(0, 3, 8), Range::one(u32::MAX, 1)), Ok(None));
     let refused = lowest_shared_byte(Range::one(0, 1), Range::one(u32::MAX, 2));
     assert_eq!(refused, Err(Refusal { cause: Cause::OutOfRange, place: 2 }));
+}
+
+/// Three loops over one array: the elements are the turns of the loops, and the order of races does not look at them.
+#[test]
+fn elements_of_a_listing() {
+    use Command::*;
+    let mut commands = vec![Member { team: 0, member: 0 }, Region { team: 1, size: 3 }, End];
+    for (member, base, stride, count) in [(0, 1000, 4, 50), (1, 1100, 4, 50), (2, 1052, 12, 20)] {
+        commands.push(Member { team: 1, member });
+        commands.push(word(AccessKind::Write, member as u32, base, stride, count));
+        commands.push(End);
+    }
+    let bytes = written(&commands);
+    let mut work = vec![0; WORK_WORDS];
+    let listing = Listing::of(&bytes, &mut work).unwrap();
+    let found: Vec<_> = listing.races().map(|race| (race.witness, race.first_element, race.second_element)).collect();
+    assert_eq!(found, [(1052, 13, 0), (1100, 25, 0), (1100, 0, 4)]);
+    assert_eq!(listing.races().next(), judge(&bytes, &mut work).unwrap().least);
 }
 
 /// Some ten thousand races.
@@ -131,4 +156,5 @@ fn a_long_listing() {
     assert_eq!(races.len(), listing.len());
     assert!(races.windows(2).all(|pair| pair[0].key() < pair[1].key()));
     assert!(races.iter().all(|race| race.first.member < race.second.member && race.witness == 64));
+    assert!(races.iter().all(|race| race.first_element == 0 && race.second_element == 0));
 }

@@ -94,10 +94,15 @@ fn command_text(command: Command) -> String {
     }
 }
 
-/// The vectors have the witness in decimal.
+/// The vectors have the witness in decimal, and the elements.
 fn race_text(race: Race) -> String {
-    let Race { witness, first, first_site, second, second_site, .. } = race;
-    format!("race {witness} {first} {first_site} {second} {second_site}")
+    let Race { witness, first, first_site, first_element, second, second_site, second_element, .. } = race;
+    format!("race {witness} {first} {first_site} {second} {second_site} elements {first_element} {second_element}")
+}
+
+fn overlap_text(overlap: Overlap) -> String {
+    let Overlap { byte, first_element, second_element } = overlap;
+    format!("byte {byte} elements {first_element} {second_element}")
 }
 
 fn label_text(label: Label) -> String {
@@ -174,7 +179,7 @@ fn answer(operation: u64, mut body: Body) -> Result<String, Refusal> {
             Order::Concurrent => "concurrent",
         }
         .to_string(),
-        7 => lowest_shared_byte(body.range(), body.range())?.map_or("none".to_string(), |byte| format!("byte {byte}")),
+        7 => lowest_shared_byte(body.range(), body.range())?.map_or("none".to_string(), overlap_text),
         8 => over_area(body, judge_text),
         9 => over_area(body, next_text),
         _ => panic!("operation {operation}"),
