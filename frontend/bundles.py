@@ -14,10 +14,12 @@ WIDTHS = {MEMBER: (2, 1), END: (), REGION: (2, 1), BARRIER: (), ACQUIRE: (1,), R
 LENGTHS = {code: 1 + sum(widths) for code, widths in WIDTHS.items()}
 
 MOST_BYTES = 65536
+MOST_RACES = 200  # of a bundle that are shown
 
 Command = namedtuple("Command", "offset code operands")
 Access = namedtuple("Access", "number kind site range locks segment")
 Fork = namedtuple("Fork", "team size")
+Side = namedtuple("Side", "access turn")  # of a race; the turn is the lowest element that holds the witness
 
 
 class NotAsExpected(Exception):
@@ -31,12 +33,25 @@ class Range(namedtuple("Range", "base stride count size")):
     def touches(self, byte):
         return self.elements_at(byte) > 0
 
-    def elements_at(self, byte):
-        """How many elements hold this byte."""
+    def holding(self, byte):
+        """The numbers of the elements that hold this byte, from 0, as a range of Python."""
         distance = byte - self.base
         step = self.stride or 1
         low = max(0, -((self.size - 1 - distance) // step))
-        return max(0, min(self.count - 1, distance // step) - low + 1)
+        return range(low, min(self.count - 1, distance // step) + 1)
+
+    def elements_at(self, byte):
+        """How many elements hold this byte."""
+        return len(self.holding(byte))
+
+    def lowest_element(self, byte):
+        """The lowest element that holds this byte, or None."""
+        return min(self.holding(byte), default=None)
+
+    def element(self, number):
+        """The bytes of an element, as a range of Python."""
+        start = self.base + number * self.stride
+        return range(start, start + self.size)
 
     def starts_at(self, byte):
         distance = byte - self.base
@@ -153,6 +168,20 @@ class Log:
             raise NotAsExpected("no such access")
         return member.accesses[name[2]]
 
+    def sides(self, race):
+        """The two accesses of a race with their turns, or NotAsExpected if it is no race of this log."""
+        return [
+            self.side(race.first, race.first_site, race.witness),
+            self.side(race.second, race.second_site, race.witness),
+        ]
+
+    def side(self, name, site, witness):
+        access = self.access(name)
+        turn = access.range.lowest_element(witness)
+        if access.site != site or turn is None:
+            raise NotAsExpected("another access")
+        return Side(access, turn)
+
     def above(self, team, member, segment):
         """The segment and those that it descends from by forks: their number for each (team, member)."""
         found = {(team, member): segment}
@@ -212,3 +241,9 @@ def command_text(command):
         site, *numbers = operands
         return f"{KINDS[code]} site {site}, {Range(*numbers).text()}"
     return WORDS[code]
+
+
+def turns_text(sides):
+    """The loop turns of a race in words."""
+    first, second = (f"turn {s.turn} of the {s.access.kind} at site {s.access.site}" for s in sides)
+    return f"loop {first} and {second}"

@@ -120,8 +120,10 @@ def parser():
     listing = add("list", "list the races of a bundle", "Prints exactly what the proved program racelist prints of a bundle.")
     check = add("check", "tell whether a bundle is whole", "Prints 'accepted' and the counts, or the refusal in plain words.")
     show = add(
-        "show", "print the commands of a bundle",
-        "Prints each command with its offset; of a refused bundle those before the place of the refusal, and the refusal.",
+        "show", "print the commands of a bundle, and its races with their loop turns",
+        "Prints each command with its offset, and below them the races with their loop turns, the first 200 of them, or race-free;\n"
+        "of a refused bundle the commands before the place of the refusal, and the refusal. A turn is the number, from 0, of the\n"
+        "lowest element of an access that holds the byte of the race.",
     )
     graph = add(
         "graph", "print the fork-join graph of a bundle", "Prints the segments and the edges of the graph of an accepted bundle."

@@ -37,6 +37,11 @@ def readable_character(c):
     return f"\\u{code:04x}" if code < 0x10000 else f"\\U{code:08x}"
 
 
+def shell_name(path):
+    """The text of a path as one word of a shell, if it is plain; else FILE."""
+    return path if all(c.isalnum() or c in "/._-+" for c in path) and path.isascii() else "FILE"
+
+
 def counted(number, one, many=None):
     """'1 bundle', '2 bundles', '1,000 bundles'."""
     return f"{number:,} {one if number == 1 else many or one + 's'}"

@@ -7,7 +7,7 @@ import os
 import time
 
 from frontend import bundles
-from frontend.names import counted, readable, to_text
+from frontend.names import counted, readable, shell_name, to_text
 from frontend.pictures import Graph, bytes_picture
 from frontend.refusals import in_words
 from frontend.tray import open_file
@@ -16,7 +16,6 @@ STYLE = os.path.join(os.path.dirname(os.path.abspath(__file__)), "style.css")
 WORDS = ("race", "refused", "missing", "race-free")
 SIGNS = {"race": "✗", "refused": "⚠", "missing": "–", "race-free": "✓"}  # so that a word is not told by its colour alone
 
-MOST_RACES = 200  # of a bundle
 ALL_RACES = 1200  # of the page, if there are many bundles with races
 MANY_NOTES = 20  # more are folded
 MANY_BUNDLES = 60  # more are laid out as they come into sight
@@ -34,7 +33,7 @@ def word_html(word):
 
 def races_each(racy):
     """How many races of a bundle are shown where so many bundles have races."""
-    return max(1, min(MOST_RACES, ALL_RACES // max(1, racy)))
+    return max(1, min(bundles.MOST_RACES, ALL_RACES // max(1, racy)))
 
 
 class Page:
@@ -105,7 +104,7 @@ class Page:
         if self.short:
             short = (
                 f"<p>{counted(self.short, 'bundle')} got one line each, to keep this page small:"
-                " <code>./dezhakom list FILE</code> lists the races of a bundle, <code>./dezhakom show FILE</code> its commands.</p>\n"
+                " <code>./dezhakom list FILE</code> lists the races of a bundle, <code>./dezhakom show FILE</code> its commands and loop turns.</p>\n"
             )
         return f"""{short}<h2>How to read this</h2>
 <p class="soft">The words come from the proved program judge_build, the races from the proved program racelist; this page shows them.
@@ -115,6 +114,9 @@ the build, the tray has no log of it. {word_html("race-free")}: every log of the
 <p class="soft">A segment is what a member of a team does between two forks or barriers. In the pictures each row is a member, named by
 its team and its number; time runs to the right; boxes are segments, filled if they have accesses; a team stands below the segment
 that forks it; a thick line down is a barrier. Addresses are hexadecimal.</p>
+<p class="soft">An access in a loop touches one element in each turn of the loop: a turn is an element's number from 0 in its access.
+Where several elements of an access hold the byte, it is the lowest. An access of one element has turn 0 alone. Turns and pictures are
+worked out by this page from the log.</p>
 </body>
 </html>
 """
@@ -156,17 +158,18 @@ that forks it; a thick line down is a barrier. Addresses are hexadecimal.</p>
     def races(self, bundle):
         line = bundle.line
         shown = bundle.races[: self.most] or [line.least]
-        log, problem = self.log_of(bundle)
+        log, sides = self.log_of(bundle, shown)
         drawing = Drawing(self, log) if log else None
+        told = [race_html(race, both, drawing) for race, both in zip(shown, sides)]
         parts = [
             f"<p>{counted(line.pairs, 'race')} among {counted(line.counts.accesses, 'access', 'accesses')} in"
             f" {counted(line.counts.segments, 'segment')} of {counted(line.counts.chunks, 'member')}. The least:</p>"
         ]
-        if problem:
-            parts.append(f'<p class="soft">{text(problem)}</p>')
-        parts.append(race_html(shown[0], log, drawing))
+        if not log:
+            parts.append('<p class="soft">There are no turns and no pictures: the file is no longer the one that was judged.</p>')
+        parts.append(told[0])
         rest = [
-            f"<details><summary>{race_title(race)}</summary>{race_html(race, log, drawing)}</details>\n" for race in shown[1:]
+            f"<details><summary>{race_title(race)}</summary>{whole}</details>\n" for race, whole in zip(shown[1:], told[1:])
         ]
         if rest:
             left = "" if len(shown) == line.pairs else f", the first {len(rest):,} of them here"
@@ -174,7 +177,7 @@ that forks it; a thick line down is a barrier. Addresses are hexadecimal.</p>
         if len(shown) < line.pairs:
             parts.append(
                 f'<p class="soft">{counted(len(shown), "race")} of {line.pairs:,} shown. All of them:'
-                f" <code>./dezhakom list {text(shell_name(bundle.path))}</code></p>"
+                f" <code>./dezhakom list {text(shell_name(to_text(bundle.path)))}</code></p>"
             )
         if bundle.races_failure and line.pairs > 1:
             parts.append(f'<p class="soft">The other races could not be listed: {text(bundle.races_failure)}.</p>')
@@ -183,15 +186,15 @@ that forks it; a thick line down is a barrier. Addresses are hexadecimal.</p>
             parts.append(drawing.overview())
         return "\n".join(parts)
 
-    def log_of(self, bundle):
-        """The decoded bundle for pictures, or None and why there are none."""
+    def log_of(self, bundle, shown):
+        """The decoded bundle and the two sides of each race, for turns and pictures; None for each if it is another file by now."""
         try:
             log = bundles.read_log(read_bytes(bundle.path))
             if log.counts() != tuple(bundle.line.counts):
                 raise bundles.NotAsExpected("other counts")
-            return log, None
+            return log, [log.sides(race) for race in shown]
         except (OSError, bundles.NotAsExpected):
-            return None, "There are no pictures: the file is no longer the one that was judged."
+            return None, [None] * len(shown)
 
 
 class Drawing:
@@ -249,18 +252,16 @@ def segment_text(key):
     return f"{key[2]} of member {key[0]}.{key[1]}"
 
 
-def race_html(race, log, drawing):
-    """One race: the two accesses side by side, and the pictures."""
-    try:
-        accesses = [log.access(race.first), log.access(race.second)] if log else None
-    except bundles.NotAsExpected:
-        accesses = None
-    rows = [
-        ("Site", f"<b>{race.first_site}</b>", f"<b>{race.second_site}</b>"),
-        ("Access", name_text(race.first), name_text(race.second)),
-    ]
-    if accesses:
-        keys = (race.first, race.second)
+def race_html(race, sides, drawing):
+    """One race: the two accesses side by side, and, if its sides are known, their loop turns and the pictures."""
+    parts = [f"<p>Both touch byte <code>{race.witness:08x}</code>, the lowest that they share, and nothing orders them.</p>"]
+    rows = [("Site", f"<b>{race.first_site}</b>", f"<b>{race.second_site}</b>")]
+    if sides:
+        parts.append(f"<p>{sentence(bundles.turns_text(sides))}</p>")
+        rows.append(("Turn", *map(turn_html, sides)))
+    rows.append(("Access", name_text(race.first), name_text(race.second)))
+    if sides:
+        keys, accesses = (race.first, race.second), [s.access for s in sides]
         rows += [
             ("Does", *(a.kind for a in accesses)),
             ("Segment", *(f"team {k[0]}, member {k[1]}, segment {a.segment}" for k, a in zip(keys, accesses))),
@@ -269,13 +270,20 @@ def race_html(race, log, drawing):
         ]
     head = '<tr><th></th><th class="one">1st access</th><th class="two">2nd access</th></tr>'
     body = "".join(f"<tr><th>{a}</th><td>{b}</td><td>{c}</td></tr>" for a, b, c in rows)
-    parts = [
-        f"<p>Both touch byte <code>{race.witness:08x}</code>, the lowest that they share, and nothing orders them.</p>",
-        f'<table class="accesses">{head}{body}</table>',
-    ]
-    if accesses:
+    parts.append(f'<table class="accesses">{head}{body}</table>')
+    if sides:
         parts.append(f'<div class="pictures">{bytes_html(race, *accesses)}{drawing.race(race, *accesses)}</div>')
     return "\n".join(parts)
+
+
+def sentence(words):
+    return f"{words[0].upper()}{words[1:]}."
+
+
+def turn_html(side):
+    """The turn among those of its access."""
+    last = side.access.range.count - 1
+    return f"<b>{side.turn}</b> of 0 to {last}" if last else f"<b>{side.turn}</b>, the only one"
 
 
 def bytes_html(race, first, second):
@@ -283,7 +291,8 @@ def bytes_html(race, first, second):
     picture, whole = bytes_picture(title, first.range, second.range, race.witness)
     cut = "" if whole else " Cut: a range goes on at a side."
     return (
-        f'<figure><div class="box">{picture}</div><figcaption>Bytes touched are filled, a bar starts an element.{cut}</figcaption></figure>'
+        f'<figure><div class="box">{picture}</div><figcaption>Bytes touched are filled, those of the turn in a'
+        f" stronger colour; a bar starts an element.{cut}</figcaption></figure>"
     )
 
 
@@ -358,12 +367,6 @@ def one_line(bundle):
         why = f"refusal {line.refusal[0]} at {line.refusal[1]}" if line and line.refusal else text(bundle.reason or "not judged")
         return f"{name}: {word_html('refused')}, {why}"
     return f"{name}: {word_html('race')}, {counted(line.pairs, 'race')}, the least at {race_title(line.least)}"
-
-
-def shell_name(path):
-    """A path as one word of a shell, if it is plain; else FILE."""
-    plain = to_text(path)
-    return plain if all(c.isalnum() or c in "/._-+" for c in plain) and plain.isascii() else "FILE"
 
 
 def made_at():

@@ -198,7 +198,7 @@ def first_cell(witness):
 
 
 def bytes_picture(title, first, second, witness):
-    """Two rows of cells, one for each range, around the witness. Answers the picture and whether all of both is in it."""
+    """Two rows of cells, one for each range, around the witness, which both touch. Answers the picture and whether all of both is in it."""
     start = first_cell(witness)
     stop = min(start + CELLS, 1 << 32)
     width, height = CELLS * CELL + 2, 106
@@ -208,8 +208,9 @@ def bytes_picture(title, first, second, witness):
         if x + 52 <= width:
             parts.append(f'<text class="a" x="{x}" y="10">{address:08x}</text><path class="t" d="M{x} 13v5"/>')
     for word, y, touched in (("1st", 22, first), ("2nd", 56, second)):
-        parts.append(byte_row(touched, y, start, stop))
-        parts.append(f'<text class="o" x="{width - 3}" y="{y + 28}">{word}</text>')
+        turn = touched.lowest_element(witness)
+        parts.append(byte_row(touched, turn, y, start, stop))
+        parts.append(f'<text class="o" x="{width - 3}" y="{y + 28}">{word}, turn {turn}</text>')
     x = (witness - start) * CELL + 1
     parts.append(f'<rect class="x" x="{x - 1.5}" y="18" width="{CELL + 1}" height="68" rx="2"/>')
     anchor = min(max(x + CELL / 2, 52), width - 52)
@@ -222,16 +223,15 @@ def bytes_picture(title, first, second, witness):
     return picture, whole
 
 
-def byte_row(touched, y, start, stop):
-    """The cells of one range: touched ones are full, the first byte of each element has a bar at its left."""
-    full, gaps, bars = [], [], []
+def byte_row(touched, turn, y, start, stop):
+    """The cells of one range: touched ones are full, those of the turn marked, the first byte of each element has a bar at its left."""
+    marked, full, gaps, bars = [], [], [], []
+    its = touched.element(turn)
     for address in range(start, stop):
         x = (address - start) * CELL + 1
-        if touched.touches(address):
-            full.append(f"M{x} {y}h{CELL - 2}v16h-{CELL - 2}z")
-            if touched.starts_at(address):
-                bars.append(f"M{x + 1.5} {y}v16")
-        else:
-            gaps.append(f"M{x} {y}h{CELL - 2}v16h-{CELL - 2}z")
-    parts = (("g", gaps), ("f", full), ("s", bars))
+        cells = marked if address in its else full if touched.touches(address) else gaps
+        cells.append(f"M{x} {y}h{CELL - 2}v16h-{CELL - 2}z")
+        if touched.starts_at(address):
+            bars.append(f"M{x + 1.5} {y}v16")
+    parts = (("g", gaps), ("f", full), ("u", marked), ("s", bars))
     return "".join(f'<path class="{name}" d="{"".join(drawn)}"/>' for name, drawn in parts if drawn)

@@ -34,6 +34,7 @@ TICK = 0.1  # seconds between two looks at whether the job was stopped
 Counts = namedtuple("Counts", "chunks segments accesses")
 Race = namedtuple("Race", "witness first first_site second second_site")  # a name is (team, member, number)
 Line = namedtuple("Line", "word counts least pairs refusal")  # of a bundle; refusal is (number, place), None if unreadable
+Listing = namedtuple("Listing", "races pairs refusal")  # the first races as (their line, Race); how many there are; (number, place)
 Run = namedtuple("Run", "lines word failure")  # lines so far; the build's word, or None and why the run is not whole
 
 
@@ -201,12 +202,38 @@ class Programs:
                     break
                 else:
                     raise Failed("racelist printed a line that has no form of ours")
+            else:
+                raise Failed("the output of racelist is not whole")
         except Failed as failure:
             return counts, races, str(failure)
         finally:
             end(process)
         return counts, races, None
 
+    def listing(self, stdin, most):
+        """What racelist prints of a bundle, read to its end and Failed unless it is whole. The first races are kept, all counted."""
+        races, pairs, refusal = [], 0, None
+        process = self.start("racelist", stdin)
+        try:
+            lines = self.lines(process)
+            last = next(lines, b"")
+            whole = False
+            if found := REFUSED_LINE.fullmatch(last):
+                refusal, whole = tuple(map(int, found.groups())), True
+            elif COUNTS_LINE.fullmatch(last):
+                for last in lines:
+                    found = RACE_LINE.fullmatch(last)
+                    if not found:
+                        break
+                    pairs += 1
+                    if pairs <= most:
+                        races.append((last.decode(), race_of(found.groups())))
+                whole = last == (b"pairs %d" % pairs if pairs else b"race-free")
+            if not whole or next(lines, None) is not None:
+                raise Failed("the output of racelist is not whole")
+        finally:
+            end(process)
+        return Listing(races, pairs, refusal)
 
     # ------------------------------------------------------------------ canon
 

@@ -1,4 +1,4 @@
-"""The commands for one bundle: list, check, show, graph, canon. Whether it is accepted is a proved program's word."""
+"""The commands for one bundle: list, check, show, graph, canon. Whether it is accepted, and its races, come from a proved program."""
 
 import html
 import os
@@ -6,7 +6,7 @@ import sys
 
 from frontend import bundles
 from frontend.failures import CannotDo, reason_of
-from frontend.names import counted, readable
+from frontend.names import counted, readable, shell_name
 from frontend.programs import COUNTS_LINE, REFUSED_LINE, Failed, Programs, end
 from frontend.refusals import in_words
 
@@ -87,10 +87,19 @@ def check_file(options):
     return 0
 
 
+def listing_of(options, data):
+    """The races of a bundle, or its refusal, by one run of racelist."""
+    try:
+        return programs_of(options).listing(data, bundles.MOST_RACES)
+    except Failed as failure:
+        raise CannotDo(f"no verdict: {failure}") from failure
+
+
 def show_file(options):
-    """The commands of a bundle, or those before the place of the refusal, which stands below them."""
+    """The commands of a bundle, and below them its races; or those before the place of the refusal, which stands below them."""
     data = read_input(options.file)
-    counts, refusal = verdict_of(options, data)
+    listing = listing_of(options, data)
+    refusal = listing.refusal
     inside, segment = False, 0
     for command in bundles.commands(data[: bundles.MOST_BYTES]):
         if refusal and command.offset >= refusal[1]:
@@ -107,7 +116,30 @@ def show_file(options):
         if data and refusal[0] != 1:
             print(plain_dump(data, refusal[1]))
         return 1
+    print_races(listing, data, options.file)
     return 0
+
+
+def print_races(listing, data, name):
+    """racelist's line for each of the first races, each with its loop turns; or that there are none."""
+    try:
+        log = bundles.read_log(data)
+    except bundles.NotAsExpected:
+        log = None
+    for line, race in listing.races:
+        print(line + turns_of(log, race))
+    if more := listing.pairs - len(listing.races):
+        print(f"{counted(more, 'more race')}: ./dezhakom list {shell_name(name)} lists all {listing.pairs:,}")
+    if not listing.pairs:
+        print("race-free")
+
+
+def turns_of(log, race):
+    """What stands behind the line of a race: nothing, if the decoded log does not have the race."""
+    try:
+        return f": {bundles.turns_text(log.sides(race))}" if log else ""
+    except bundles.NotAsExpected:
+        return ""
 
 
 def plain_dump(data, place):

@@ -116,6 +116,17 @@ class Faults(Case):
         for command in ("list", "check", "show", "graph"):
             self.assertEqual(self.run_command(command, self.tray / "b" / "a", programs_at=programs).status, 2)
 
+    def test_a_list_that_is_not_whole_is_not_taken(self):
+        programs = self.faulty_programs("[say(x) for x in real(names)]\n")
+        real = (programs / "racelist").resolve()
+        (programs / "racelist").unlink()
+        (programs / "racelist").write_text(f"#!/bin/sh\n{real} | head -n 4\n")  # the counts and 3 of 6 races
+        (programs / "racelist").chmod(0o755)
+        self.put("b", a=(ROOT / "examples" / "tray" / "settle-4.2.1" / "dam.bundle").read_bytes())
+        self.judge(sheet="build\nb\n", status=1, programs_at=programs)
+        self.assertEqual(self.words(), {"b": "race"})
+        self.assertIn("The other races could not be listed: the output of racelist is not whole", self.page_text())
+
     def test_timeout_is_for_each_bundle(self):
         """A run that is slow as a whole, and quick for each bundle, is not ended."""
         programs = self.faulty_programs("for x in real(names):\n    time.sleep(0.4)\n    say(x)\n")
