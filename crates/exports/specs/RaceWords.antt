@@ -20,13 +20,16 @@ use Rattle.exports.specs.Told.{Told, told, Left, left, Perhaps, perhaps,
 abbrev pub nameOf : ℕ → ℕ → ℕ → Name
 nameOf team member number = record { team = team; member = member; number = number }
 
--- team, member, number, site, and a word that is 0, before other words
-abbrev pub accessWords : Name → ℕ → List ℕ → List ℕ
-accessWords name site rest = name .team ∷ name .member ∷ name .number ∷ site ∷ 0 ∷ rest
+-- team, member, number, site and element, before other words
+abbrev pub accessWords : Name → ℕ → ℕ → List ℕ → List ℕ
+accessWords name site element rest = name .team ∷ name .member ∷ name .number ∷ site ∷ element ∷ rest
 
 -- the witness and both accesses: 11 words
 abbrev pub raceWords : Race → List ℕ
-raceWords r = r .witness ∷ accessWords (r .first) (r .«first_site») (accessWords (r .second) (r .«second_site») [])
+raceWords r =
+    r .witness
+    ∷ accessWords (r .first) (r .«first_site») (r .«first_element»)
+    (accessWords (r .second) (r .«second_site») (r .«second_element») [])
 
 -- judge: the four counts, 1 for a race or 0 for race-free, and the least race: 16 words
 abbrev pub leastWords : Verdict → List ℕ

@@ -7,6 +7,7 @@ use Rattle.bundle.specs.Answer.{Answer, gives, refuses}
 use Rattle.bundle.specs.Commands.{Taken, Lent}
 use Rattle.bundle.specs.Find.{Ends}
 use Rattle.bundle.specs.declared.command.Range.{Range}
+use Rattle.order.specs.declared.range.Overlap.{Overlap}
 use Rattle.exports.specs.CommandWords.{commandWords}
 
 pub record Told (A : Type 0) : Type 0 where
@@ -62,9 +63,12 @@ checkTold = told tt (λ (u : Unit {0}). u)
 abbrev pub endsTold : Answer Ends → Told Ends
 endsTold = told (record { start = 0; end = 0 }) (λ (e : Ends). e)
 
--- the lowest shared byte of two ranges
+-- the lowest shared byte of two ranges, and the elements that cover it
 abbrev pub rangeOf : ℕ → ℕ → ℕ → ℕ → Range
 rangeOf base stride count size = record { base = base; stride = stride; count = count; size = size }
 
-abbrev pub sharedTold : Answer (Option ℕ) → Told (Perhaps ℕ)
-sharedTold = told (record { found = 0; value = 0 }) (perhaps 0 (λ (byte : ℕ). byte))
+abbrev pub noOverlap : Overlap
+noOverlap = record { byte = 0; «first_element» = 0; «second_element» = 0 }
+
+abbrev pub sharedTold : Answer (Option Overlap) → Told (Perhaps Overlap)
+sharedTold = told (record { found = 0; value = noOverlap }) (perhaps noOverlap (λ (o : Overlap). o))

@@ -1,4 +1,4 @@
-// Judge a bundle, and the next race above a key. A race is eleven words: its witness, and of either access team, member, number, site and 0; a judgement
+// Judge a bundle, and the next race above a key. A race is eleven words: its witness, and of either access team, member, number, site and element; a judgement
 // is sixteen: the counts of chunks, segments, accesses and races, whether there is a race, and the least one.
 use bundle::refusal::number;
 use verdict::judge::judge;
@@ -24,12 +24,12 @@ pub fn race_words(race: Race) -> [u32; 11]
         first.member as u32,
         first.number as u32,
         race.first_site as u32,
-        0,
+        race.first_element,
         second.team as u32,
         second.member as u32,
         second.number as u32,
         race.second_site as u32,
-        0,
+        race.second_element,
     ]
 }
 

@@ -22,7 +22,7 @@ fn totals_words(totals: Totals, whole: u32) -> [u32; 5]
     ]
 }
 
-// Lists all races of a bundle: `numbers` has a number for each, in their order, and `names` what the numbers mean.
+// Lists all races of a bundle: `numbers` has a number for each, in their order, and `names` two words for each access, by which they are read.
 #[no_mangle]
 pub extern "C" fn dezhakom_list_races(
     bytes: &[u8],

@@ -1,4 +1,4 @@
-// The lowest byte that two ranges share.
+// The lowest byte that two ranges share, and the elements that cover it.
 use bundle::command::Range;
 use bundle::refusal::number;
 use order::range::Shared;
@@ -7,7 +7,7 @@ ghost use mathlib.Core.Path.{_≡_};
 ghost use Rattle.order.specs.Ranges.{sharedOf};
 ghost use Rattle.exports.specs.Told.{rangeOf, sharedTold};
 
-// Whether two ranges share a byte, and the lowest one.
+// Whether two ranges share a byte, the lowest one, and the lowest element of each that covers it.
 #[no_mangle]
 pub extern "C" fn dezhakom_lowest_shared_byte(
     base: u32,
@@ -20,9 +20,11 @@ pub extern "C" fn dezhakom_lowest_shared_byte(
     other_size: u8,
     found: &mut u32,
     byte: &mut u32,
+    element: &mut u32,
+    other_element: &mut u32,
     place: &mut usize,
 ) -> u32
-    ensures { λ r. ⌜ sharedTold (sharedOf (rangeOf base stride count size) (rangeOf «other_base» «other_stride» «other_count» «other_size»)) ≡ record { number = r; place = now (place .exit); answer = record { found = now (found .exit); value = now (byte .exit) } } ⌝ }
+    ensures { λ r. ⌜ sharedTold (sharedOf (rangeOf base stride count size) (rangeOf «other_base» «other_stride» «other_count» «other_size»)) ≡ record { number = r; place = now (place .exit); answer = record { found = now (found .exit); value = record { byte = now (byte .exit); «first_element» = now (element .exit); «second_element» = now («other_element» .exit) } } } ⌝ }
 {
     let first = Range {
         base,
@@ -39,19 +41,25 @@ pub extern "C" fn dezhakom_lowest_shared_byte(
     match lowest_shared_byte(first, second) {
         Shared::Byte(lowest) => {
             *found = 1;
-            *byte = lowest;
+            *byte = lowest.byte;
+            *element = lowest.first_element;
+            *other_element = lowest.second_element;
             *place = 0;
             0
         }
         Shared::Nothing => {
             *found = 0;
             *byte = 0;
+            *element = 0;
+            *other_element = 0;
             *place = 0;
             0
         }
         Shared::Refused { place: at, cause } => {
             *found = 0;
             *byte = 0;
+            *element = 0;
+            *other_element = 0;
             *place = at;
             number(cause) as u32
         }

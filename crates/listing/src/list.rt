@@ -25,6 +25,9 @@ ghost use Rattle.listing.specs.Ranking.{RowsIn, orderOf, Copied};
 ghost use Rattle.listing.specs.Pushing.{Pushes, allNumbers};
 ghost use Rattle.listing.specs.Settling.{AllPut, Settled, Kept, listedIn};
 
+// The words of `names` that suffice for any bundle: two for each of 1,024 accesses.
+pub const MOST_NAME_WORDS: usize = 2048;
+
 // The counts of a bundle's chunks, segments, accesses and races.
 pub struct Totals {
     pub chunks: u32,

@@ -15,8 +15,8 @@ use Rattle.bundle.proofs.SegmentRuns.{segments-length}
 use Rattle.order.specs.Ranges.{sharedByte}
 use Rattle.verdict.specs.Graph.{closureOf}
 use Rattle.verdict.specs.GraphTests.{NodePair}
-use Rattle.verdict.specs.Accesses.{NamedAccess, accessesOf, raceAt}
-use Rattle.verdict.specs.RaceLists.{clashes, raceOf, racesAmong, racesOf}
+use Rattle.verdict.specs.Accesses.{NamedAccess, accessesOf}
+use Rattle.verdict.specs.RaceLists.{clashes, raceWith, raceOf, racesAmong, racesOf}
 use Rattle.verdict.proofs.AccessCount.{few-accesses}
 use Rattle.verdict.proofs.Sorting.{order-length}
 use Rattle.listing.specs.Listing.{totalsOf}
@@ -36,7 +36,7 @@ one-race : (closure : List NodePair) (x y : NamedAccess) → length (raceOf clos
 unfolding raceOf
 one-race closure x y = go (clashes closure x y) (sharedByte (x .access .range) (y .access .range))
   where
-    go : (t : Bool) (o : Option ℕ) → length (cond t (fromOption [] (λ witness. raceAt x y witness ∷ []) o) []) ≤ 1
+    go : (t : Bool) (o : Option ℕ) → length (cond t (fromOption [] (λ witness. raceWith x y witness ∷ []) o) []) ≤ 1
     go false o = omega arith
     go true none = omega arith
     go true (some w) = omega arith

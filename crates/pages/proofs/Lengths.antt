@@ -1,7 +1,7 @@
 -- How long the lines are: 96 bytes at most. Assumes nothing.
 use mathlib.Core.Path.{_≡_, refl}
 use mathlib.Core.List.{List, []}
-use Prim.Native.Nat.{ℕ, _-_, _/_, _%_, _≤_, _<_}
+use Prim.Native.Nat.{ℕ, _-_, _*_, _/_, _%_, _≤_, _<_}
 use native.Mathlib.Decide.{ℕ-discrete, decLe}
 use native.Mathlib.Nat.{mod-lt}
 use native.Mathlib.Omega.{arith}
@@ -27,8 +27,8 @@ text-within side = access-length (nameIn side) (side % 65536) (named side) (mod-
 race : (names : List ℕ) (number : ℕ) → Within 62 (raceLine (raceIn names number))
 unfolding raceIn
 race names number =
-    race-length (raceIn names number) (named (getD names (number / 1024 % 1024) 0)) (mod-lt _ (omega arith))
-    (named (getD names (number % 1024) 0)) (mod-lt _ (omega arith))
+    race-length (raceIn names number) (named (getD names (2 * (number / 1024 % 1024)) 0)) (mod-lt _ (omega arith))
+    (named (getD names (2 * (number % 1024)) 0)) (mod-lt _ (omega arith))
 
 last : (n : ℕ) → n < 4294967296 → Within 17 (lastLine n)
 unfolding lastLine raceFreeLine

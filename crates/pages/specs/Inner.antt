@@ -2,7 +2,7 @@
 use mathlib.Core.Path.{_≡_}
 use mathlib.Core.Bool.{cond}
 use mathlib.Core.List.{List}
-use Prim.Native.Nat.{ℕ, _+_, _-_, _/_, _%_, _<_}
+use Prim.Native.Nat.{ℕ, _+_, _-_, _*_, _/_, _%_, _<_}
 use lib.Dec.{leb}
 use lib.ListN.{length, getD}
 use Rattle.bundle.specs.Commands.{written}
@@ -19,10 +19,10 @@ pub record PutNext (line before : List ℕ) (at r : ℕ) (after : List ℕ) : Ty
 abbrev pub textOf : ℕ → List ℕ
 textOf side = accessText (nameIn side) (side % 65536)
 
--- a table that holds the texts of the first names
+-- a table that holds the texts of the first names; of each access two words are lent, the first of them name and site
 pub record Sides (names : List ℕ) (count : ℕ) (sides : List ℕ) : Type 0 where
   pub long : length sides ≡ 32768
-  pub texts : (i : ℕ) → i < count → sideText sides i ≡ textOf (getD names i 0)
+  pub texts : (i : ℕ) → i < count → sideText sides i ≡ textOf (getD names (2 * i) 0)
 
 -- the line of a race's number by the table
 abbrev pub numberLine : ℕ → List ℕ → List ℕ

@@ -1,9 +1,9 @@
 // Prints the listing of the bundle on standard input: the counts, each race, and the last line; or the refusal.
 mod print;
 
-use bundle::limits::MOST_ACCESSES;
 use libc::STDIN_FILENO;
 use listing::list::Listed;
+use listing::list::MOST_NAME_WORDS;
 use listing::list::list_races;
 use print::print_few;
 use print::print_many;
@@ -17,7 +17,7 @@ fn list_many(bytes: &[u8], turns: u32) {
         return;
     }
     let mut work = [0u32; WORK_WORDS];
-    let mut names = [0u64; MOST_ACCESSES as usize];
+    let mut names = [0u64; MOST_NAME_WORDS];
     let mut numbers = [0u64; 523776];
     let mut spare = [0u64; 261888];
     match list_races(bytes, &mut work, &mut names, &mut numbers, &mut spare) {
@@ -34,7 +34,7 @@ fn list(bytes: &[u8]) {
         return;
     }
     let mut work = [0u32; WORK_WORDS];
-    let mut names = [0u64; MOST_ACCESSES as usize];
+    let mut names = [0u64; MOST_NAME_WORDS];
     let mut numbers = [0u64; 8448];
     let mut spare = [0u64; 4224];
     match list_races(bytes, &mut work, &mut names, &mut numbers, &mut spare) {

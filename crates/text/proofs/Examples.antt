@@ -11,8 +11,10 @@ raceOfE =
       witness = 0x100a;
       first = record { team = 1; member = 0; number = 0 };
       «first_site» = 10;
+      «first_element» = 1;
       second = record { team = 1; member = 1; number = 0 };
       «second_site» = 20;
+      «second_element» = 0;
     }
 
 pub listing-of-E : countsLine 3 6 2 ++ raceLine raceOfE ++ pairsLine 1 ≡ ascii "chunks 3 segments 6 accesses 2\nrace 0000100a 1.0.0 10 1.1.0 20\npairs 1\n"

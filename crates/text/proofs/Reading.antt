@@ -13,6 +13,7 @@ use lib.ListN.{length, getD}
 use Rattle.bundle.specs.Lists.{all}
 use Rattle.bundle.proofs.Tests.{and-left, and-right}
 use Rattle.verdict.specs.declared.race.Race.{Race}
+use Rattle.verdict.proofs.RaceElements.{withElements}
 use Rattle.text.specs.Digits.{ascii, digitByte, digits, widthOf, decimal, hexadecimal}
 use Rattle.text.specs.Lines.{lineEnd, nameText, raceLine}
 use Rattle.text.proofs.Widths.{width-some, width-fits, width-least, two}
@@ -159,7 +160,12 @@ race-fields r =
     (decimal (r .first .number)) (decimal (r .«first_site»)) (decimal (r .second .team)) (decimal (r .second .member)) (decimal (r .second .number))
     (decimal (r .«second_site»))
 
--- a race, read from its line
+-- "The listing is unchanged" (A.2): a race's line does not look at the element numbers
+pub same-line : (r : Race) (i j : ℕ) → raceLine (withElements r i j) ≡ raceLine r
+unfolding raceLine
+same-line r i j = refl
+
+-- a race, read from its line, with 0 for the element numbers, which are not in it
 pub readRace : List ℕ → Race
 readRace line =
     let at : ℕ → List ℕ = λ i. getD (fieldsOf line) i [] in
@@ -167,16 +173,19 @@ readRace line =
       witness = numberIn 16 (at 1);
       first = record { team = numberIn 10 (at 2); member = numberIn 10 (at 3); number = numberIn 10 (at 4) };
       «first_site» = numberIn 10 (at 5);
+      «first_element» = 0;
       second = record { team = numberIn 10 (at 6); member = numberIn 10 (at 7); number = numberIn 10 (at 8) };
       «second_site» = numberIn 10 (at 9);
+      «second_element» = 0;
     }
 
-pub race-read : (r : Race) → r .witness < 4294967296 → readRace (raceLine r) ≡ r
+pub race-read : (r : Race) → r .witness < 4294967296 → readRace (raceLine r) ≡ withElements r 0 0
 unfolding readRace raceFields word witness number textsOf
 race-read r h =
     rw (← race-fields r, fields-back (raceFields r))
     (simp (decimal-read, hexadecimal-read (r .witness) h))
 
--- two races with one line are one
-pub race-lines-differ : (r q : Race) → r .witness < 4294967296 → q .witness < 4294967296 → raceLine r ≡ raceLine q → r ≡ q
+-- two races with one line are one, but for the element numbers
+pub race-lines-differ :
+    (r q : Race) → r .witness < 4294967296 → q .witness < 4294967296 → raceLine r ≡ raceLine q → withElements r 0 0 ≡ withElements q 0 0
 race-lines-differ r q h k e = sym (race-read r h) ∙ ap readRace e ∙ race-read q k

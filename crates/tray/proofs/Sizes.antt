@@ -20,12 +20,12 @@ counts-size j vs owned =
 pub race-size : (r : Race) (vs : List Val) → Is (row race-type) r vs → length (raceLine r) ≤ 62
 race-size r vs owned =
     let first = owned .1 .1 .1 .0 .1 .1 in
-    let second = owned .1 .1 .1 .1 .1 .0 .1 .1 in
+    let second = owned .1 .1 .1 .1 .1 .1 .0 .1 .1 in
     race-length r
     (record { team = first .0 .1; member = first .1 .0 .1; number = first .1 .1 .0 .1 })
     (owned .1 .1 .1 .1 .0 .1)
     (record { team = second .0 .1; member = second .1 .0 .1; number = second .1 .1 .0 .1 })
-    (owned .1 .1 .1 .1 .1 .1 .0 .1)
+    (owned .1 .1 .1 .1 .1 .1 .1 .0 .1)
     .most
 
 pub pairs-size : (n : ℕ) → n < 4294967296 → length (pairsLine n) ≤ 17

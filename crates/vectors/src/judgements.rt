@@ -18,7 +18,7 @@ fn put_name(name: Name) {
     text::put_dotted(name.number as u64);
 }
 
-// "race W T.M.N SITE T.M.N SITE"
+// "race W T.M.N SITE T.M.N SITE elements I J"
 fn put_race(race: Race) {
     let first = race.first;
     let second = race.second;
@@ -28,6 +28,7 @@ fn put_race(race: Race) {
     text::put_field(race.first_site as u64);
     put_name(second);
     text::put_field(race.second_site as u64);
+    text::put_elements(race.first_element, race.second_element);
 }
 
 fn put_verdict(verdict: Verdict) {

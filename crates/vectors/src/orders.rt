@@ -79,9 +79,10 @@ fn range_at(body: &[u8], at: usize) -> Range
 
 fn put_shared(shared: Shared) {
     match shared {
-        Shared::Byte(byte) => {
+        Shared::Byte(overlap) => {
             text::put_text(b"byte");
-            text::put_field(byte as u64);
+            text::put_field(overlap.byte as u64);
+            text::put_elements(overlap.first_element, overlap.second_element);
         }
         Shared::Nothing => text::put_text(b"none"),
         Shared::Refused { place, cause } => text::put_refusal(cause, place),

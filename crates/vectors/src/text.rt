@@ -12,6 +12,13 @@ pub fn put_field(number: u64) {
     io::print_decimal(STDOUT_FILENO, number);
 }
 
+// " elements I J"
+pub fn put_elements(first: u32, second: u32) {
+    put_text(b" elements");
+    put_field(first as u64);
+    put_field(second as u64);
+}
+
 // A dot, and the number.
 pub fn put_dotted(number: u64) {
     put_text(b".");
