@@ -16,7 +16,7 @@ use Rattle.bundle.proofs.Keys.{perm-distinct}
 use Rattle.bundle.proofs.Places.{memberKey}
 use Rattle.bundle.proofs.Tables.{table-length}
 use Rattle.order.specs.Ranges.{sharedByte}
-use Rattle.order.specs.Pairs.{elementBy}
+use Rattle.order.specs.Pairs.{elementFrom}
 use Rattle.order.proofs.SharedByte.{shared-some}
 use Rattle.order.proofs.PairBytes.{touch-fits}
 use Rattle.verdict.specs.Graph.{segmentsOf, closureOf}
@@ -37,7 +37,7 @@ use Rattle.listing.proofs.RankLaws.{getD-left}
 use Rattle.listing.proofs.OrderLaws.{table-at}
 use Rattle.listing.proofs.NumberLists.{Numbers, ranksOf, number-witness, number-first, number-second, numbers-elim, numbers-intro, numbers-distinct}
 use Rattle.listing.proofs.RaceNumbers.{raceOfNumber, race-of-parts, number-race, race-number, numbers-ascend}
-use Rattle.listing.proofs.NameTables.{even-word, odd-word, site-small, base-small, stride-small, size-small, row-fits, doubles-table, words-table, rank-found}
+use Rattle.listing.proofs.NameTables.{even-word, odd-word, site-small, stride-small, row-fits, doubles-table, words-table, rank-found}
 
 -- a map that changes no element
 map-kept : {A : Type 0} (f : ℕ → A) (g : A → ℕ) (ks : List ℕ) → ((k : ℕ) → List·Memᴰ k ks → g (f k) ≡ k) → map g (map f ks) ≡ ks
@@ -58,15 +58,11 @@ byte-small m one other {w} ok e = go (rowsMeet one other && rowsClash m one othe
     go false q = absurd (let z : _≡_ {A = ℕ} 0 1 = cc in omega arith)
 
 -- the parts of an access's second word
-element-parts :
-    (base stride size byte : ℕ) → base < 4294967296 → stride < 65536 → size < 256
-    → elementIn (base * 16777216 + stride * 256 + size) byte ≡ elementBy base stride size byte
-element-parts base stride size byte b t z =
-    let reach : ℕ = base * 16777216 + stride * 256 + size in
-    let one : reach / 16777216 % 4294967296 ≡ base = omega arith in
-    let two : reach / 256 % 65536 ≡ stride = omega arith in
-    let three : reach % 256 ≡ size = omega arith in
-    rw (one, two, three)
+element-parts : (end stride byte : ℕ) → stride < 65536 → elementIn (end * 65536 + stride) byte ≡ elementFrom end stride byte
+element-parts end stride byte h =
+    let high : (end * 65536 + stride) / 65536 ≡ end = omega arith in
+    let low : (end * 65536 + stride) % 65536 ≡ stride = omega arith in
+    rw (high, low)
 
 module _
     (cs : List Chunk) (members : Distinct (map memberKey cs))
@@ -168,10 +164,7 @@ module _
     reach-read i w h =
         let row = accessRowAt ordered i in
         ap (λ (x : ℕ). elementIn x w) (word-read (2 * i + 1) (omega arith) ∙ odd-word ordered i)
-        ∙ element-parts (row .base) (row .stride) (row .size) w
-        (base-small tab (accesses-distinct cs members) small n all copied i h)
-        (stride-small tab (accesses-distinct cs members) small n all copied ordered i)
-        (size-small tab (accesses-distinct cs members) small n all copied ordered i)
+        ∙ element-parts (row .base + row .size) (row .stride) w (stride-small tab (accesses-distinct cs members) small n all copied ordered i)
 
     number-read : (k : ℕ) → List·Memᴰ k numbers → raceIn held k ≡ race k
     unfolding raceIn
@@ -200,10 +193,10 @@ module _
         record {
           witness = witness q;
           first = first .name-in q;
-          «first_site» = first .site-in q;
+          «first_site» = first .rest-in q;
           «first_element» = element q;
           second = second .name-in q;
-          «second_site» = second .site-in q;
+          «second_site» = second .rest-in q;
           «second_element» = other-element q;
         })
         ∙ sym (ap race (r .is) ∙ race-of-parts paths tab (accesses-distinct cs members) small n all copied w i j (omega (arith, few)) (omega (arith, few)))

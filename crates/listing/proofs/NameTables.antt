@@ -110,7 +110,7 @@ module _
       subst NameFits (sym (name-of tab distinct small n all copied (a .row))) (a .fits)
 
   -- the parts of a row's second word fit their widths, and so does the word
-  pub base-small : (i : ℕ) → i < n → accessRowAt ordered i .base < 4294967296
+  base-small : (i : ℕ) → i < n → accessRowAt ordered i .base < 4294967296
   unfolding accessRowAt
   base-small i h = omega (arith, ap (λ (r : AccessRow). r .base) (copied .each i h), small (getD (orderOf rows n) i 0 % 1024))
 
@@ -118,7 +118,7 @@ module _
   unfolding accessRowAt
   stride-small words r = omega arith
 
-  pub size-small : (words : List ℕ) (r : ℕ) → accessRowAt words r .size < 256
+  size-small : (words : List ℕ) (r : ℕ) → accessRowAt words r .size < 256
   unfolding accessRowAt
   size-small words r = omega arith
 
@@ -147,7 +147,7 @@ module _
   double-of of =
       ap₂ (λ (a b : ℕ). a * 18446744073709551616 + b)
       (ap₂ (λ (a : Name) (s : ℕ). packed a * 65536 + s) (name-of tab distinct small n all copied of) (of .site))
-      (ap (λ (a : Range). a .base * 16777216 + a .stride * 256 + a .size) (row-range of))
+      (ap (λ (a : Range). (a .base + a .size) * 65536 + a .stride) (row-range of))
 
   -- the double words of the accesses as they stand in the bundle
   doubles-listed : map doubleWord xs ≡ table (doubleAt rows) n

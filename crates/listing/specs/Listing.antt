@@ -11,7 +11,7 @@ use Rattle.bundle.specs.Answer.{Answer, gives, refuses, numberOf}
 use Rattle.bundle.specs.Lists.{concatMap}
 use Rattle.bundle.specs.Chunks.{Chunk, chunksOf}
 use Rattle.bundle.specs.Check.{checkOf}
-use Rattle.order.specs.Pairs.{elementBy}
+use Rattle.order.specs.Pairs.{elementFrom}
 use Rattle.verdict.specs.Graph.{segmentsOf}
 use Rattle.verdict.specs.Races.{NamedAccess, accessesOf, racesOf}
 use Rattle.verdict.specs.Tallying.{packed, nameIn}
@@ -21,12 +21,12 @@ use Rattle.listing.specs.declared.list.Totals.{Totals}
 use Rattle.listing.specs.declared.list.Listed.{Listed}
 use Rattle.listing.specs.declared.list.Listed.the-variants as Lis
 
--- an access in two words of 64 bits: its name and site; and the base, stride and size of its range
+-- an access in two words of 64 bits: its name and site; and of its range the end of element 0 and the stride
 abbrev pub sideOf : NamedAccess → ℕ
 sideOf x = packed (x .name) * 65536 + x .access .site
 
 abbrev pub reachOf : NamedAccess → ℕ
-reachOf x = x .access .range .base * 16777216 + x .access .range .stride * 256 + x .access .range .size
+reachOf x = (x .access .range .base + x .access .range .size) * 65536 + x .access .range .stride
 
 -- both as one number of 128 bits; the order of these numbers is that of the names
 abbrev pub doubleWord : NamedAccess → ℕ
@@ -53,7 +53,7 @@ raceNumber doubles r = numberFor (r .witness) (rankIn doubles (r .first)) (rankI
 
 -- the lowest element that covers a byte, by the second word of an access
 abbrev pub elementIn : ℕ → ℕ → ℕ
-elementIn reach byte = elementBy (reach / 16777216 % 4294967296) (reach / 256 % 65536) (reach % 256) byte
+elementIn reach byte = elementFrom (reach / 65536) (reach % 65536) byte
 
 -- the race that a number stands for
 unfoldable pub raceIn : List ℕ → ℕ → Race

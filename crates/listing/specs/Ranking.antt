@@ -29,12 +29,12 @@ pub record Copied (rows words : List ℕ) (n : ℕ) (before after : List ℕ) : 
   pub long : length after ≡ length before
   pub each : (i : ℕ) → i < n → accessRowAt after i ≡ accessRowAt rows (getD words i 0 % 1024)
 
--- the two words of a row: name and site; base, stride and size
+-- the two words of a row: name and site; the end of element 0 and the stride
 abbrev pub sideOfRow : AccessRow → ℕ
 sideOfRow r = packed (rowName r) * 65536 + r .site
 
 abbrev pub reachOfRow : AccessRow → ℕ
-reachOfRow r = r .base * 16777216 + r .stride * 256 + r .size
+reachOfRow r = (r .base + r .size) * 65536 + r .stride
 
 -- both as one number
 abbrev pub doubleOfRow : AccessRow → ℕ

@@ -78,13 +78,11 @@ fn side_of(row: AccessRow) -> u64
     (team * 16777216 + member * 65536 + number) * 65536 + row.site as u64
 }
 
-// The base, stride and size of an access's range as one number.
+// The end of an access's element 0 and its stride as one number.
 fn reach_of(row: AccessRow) -> u64
     ensures { λ r. ⌜ r ≡ reachOfRow row ⌝ }
 {
-    let base = row.base as u64;
-    let stride = row.stride as u64;
-    base * 16777216 + stride * 256 + row.size as u64
+    (row.base as u64 + row.size as u64) * 65536 + row.stride as u64
 }
 
 // Writes the two words of the i-th access.

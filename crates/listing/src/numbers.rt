@@ -1,5 +1,5 @@
 // A race as one number, in whose order the races are: the witness, and the ranks of the two names among all.
-use order::range::element_at;
+use order::range::element_from;
 use verdict::pairs::name_in;
 use verdict::race::Race;
 ghost use mathlib.Core.Path.{_≡_};
@@ -27,12 +27,7 @@ fn word_at(names: &[u64], place: usize) -> u64
 fn element_in(reach: u64, byte: u32) -> u32
     ensures { λ r. ⌜ r ≡ elementIn reach byte ⌝ }
 {
-    element_at(
-        (reach / 16777216 % 4294967296) as u32,
-        (reach / 256 % 65536) as u16,
-        (reach % 256) as u8,
-        byte,
-    )
+    element_from(reach / 65536, (reach % 65536) as u16, byte)
 }
 
 // The race that a number stands for.

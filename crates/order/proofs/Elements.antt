@@ -1,39 +1,30 @@
 -- The lowest element of a range that covers a byte: the definition meets the relation, the relation leaves one answer, and one division finds it.
 use Prim.Native.Nat.{ℕ, _+_, _*_, _-_, _/_, _<_, _≤_}
-use mathlib.Core.Path.{_≡_, sym, ap, _∙_}
+use mathlib.Core.Path.{_≡_, refl, sym, ap, _∙_}
 use mathlib.Core.Logic.{⊎-elim}
-use mathlib.Core.Bool.{Bool, true, false, _||_}
+use mathlib.Core.Bool.{Bool, true, false, cond, _||_}
 use mathlib.Core.List.{List, List·Memᴰ}
 use mathlib.Core.Option.{Option, none, some}
 use native.Mathlib.Nat.{div-add-mod', div-le-self, mod-lt, mul-zero, mul-le-mul-right, lt-of-mul-lt-mul-right}
 use native.Mathlib.Omega.{arith}
 use lib.Dec.{eqb, leb, ltb}
-use borrow.Author.Tests.{le-leb, lt-ltb, leb-true, ltb-true, ltb-false, eqb-true, eqb-false}
+use borrow.Author.Tests.{le-leb, lt-ltb, le-ltb, leb-true, ltb-true, ltb-false, eqb-true, eqb-false}
 use Rattle.bundle.specs.Lists.{upTo, passing, fromOption}
 use Rattle.bundle.specs.declared.command.Range.{Range}
 use Rattle.bundle.proofs.Tests.{both, and-left, and-right, or-cases, or-false, cond-elim}
 use Rattle.bundle.proofs.ListLaws.{passing-elim, passing-intro, upTo-elim, upTo-intro}
 use Rattle.order.specs.Ranges.{Touches, LeastShared, Covers, LowestElement}
 use Rattle.order.specs.SharedBytes.{least, sharedByte, covers, lowestElement, overlapAt, overlapOf}
-use Rattle.order.specs.Pairs.{elementBy, overlapBy}
+use Rattle.order.specs.Pairs.{elementFrom, elementBy, overlapBy}
 use Rattle.order.proofs.SharedByte.{LeastIs, least-is}
 
--- the test for element 0, and what holds where it fails
-abbrev inFirst : ℕ → ℕ → ℕ → ℕ → Bool
-inFirst base stride size byte = ltb byte (base + size) || (eqb stride 0 || eqb size 0)
-
-pub record NotFirst (base stride size byte : ℕ) : Type 0 where
-  pub past : base + size ≤ byte
-  pub strided : 1 ≤ stride
-  pub sized : 1 ≤ size
-
-not-first : (base stride size byte : ℕ) → inFirst base stride size byte ≡ false → NotFirst base stride size byte
-not-first base stride size byte e =
-    let p = or-false (ltb byte (base + size)) (eqb stride 0 || eqb size 0) e in
-    let q = or-false (eqb stride 0) (eqb size 0) (p .1) in
-    let no-stride : stride ≡ 0 → ⊥ = eqb-false stride 0 (q .0) in
-    let no-size : size ≡ 0 → ⊥ = eqb-false size 0 (q .1) in
-    record { past = ltb-false byte (base + size) (p .0); strided = omega arith; sized = omega arith }
+-- where there are more elements than element 0
+more-elements : (end stride : ℕ) {t : Bool} → t ≡ (eqb stride 0 || eqb end 0) → t ≡ false → (1 ≤ stride) × (1 ≤ end)
+more-elements end stride e h =
+    let p = or-false (eqb stride 0) (eqb end 0) (sym e ∙ h) in
+    let no-stride : stride ≡ 0 → ⊥ = eqb-false stride 0 (p .0) in
+    let no-end : end ≡ 0 → ⊥ = eqb-false end 0 (p .1) in
+    (omega arith, omega arith)
 
 module _ (r : Range) (byte : ℕ) where
   abbrev covering : List ℕ
@@ -108,44 +99,53 @@ module _ (r : Range) (byte : ℕ) where
       }
 
   -- the lowest element by one division
-  pub element-by : Touches r byte → elementBy (r .base) (r .stride) (r .size) byte ≡ lowestElement r byte
-  unfolding elementBy
+  pub element-by : Touches r byte → elementBy r byte ≡ lowestElement r byte
+  unfolding elementFrom
   element-by t =
       element-unique
-      (cond-elim (LowestElement r byte) (inFirst (r .base) (r .stride) (r .size) byte) 0
-      ((byte - (r .base + r .size)) / r .stride + 1) first later)
+      (cond-elim (LowestElement r byte) (ltb byte end) 0 (cond (eqb (r .stride) 0 || eqb end 0) 0 ((byte - end) / r .stride + 1))
+      (λ e. at-first t (ltb-true byte end e))
+      (λ e. cond-elim (LowestElement r byte) (eqb (r .stride) 0 || eqb end 0) 0 ((byte - end) / r .stride + 1) (only e) (later e)))
       (element-lowest t)
     where
-      first : inFirst (r .base) (r .stride) (r .size) byte ≡ true → LowestElement r byte 0
-      first e =
+      end : ℕ
+      end = r .base + r .size
+
+      only : ltb byte (r .base + r .size) ≡ false → (eqb (r .stride) 0 || eqb (r .base + r .size) 0) ≡ true → LowestElement r byte 0
+      only e f =
           at-first t
-          (⊎-elim (ltb-true byte (r .base + r .size))
-          (λ f.
-          ⊎-elim
+          (⊎-elim
           (λ (h : eqb (r .stride) 0 ≡ true).
           omega (arith, t .at, t .within-below, ap (λ (s : ℕ). t .element * s) (eqb-true (r .stride) 0 h) ∙ mul-zero (t .element)))
-          (λ (h : eqb (r .size) 0 ≡ true). omega (arith, t .within-below, eqb-true (r .size) 0 h))
-          (or-cases (eqb (r .stride) 0) (eqb (r .size) 0) f))
-          (or-cases (ltb byte (r .base + r .size)) (eqb (r .stride) 0 || eqb (r .size) 0) e))
+          (λ (h : eqb (r .base + r .size) 0 ≡ true). omega (arith, t .within-below, eqb-true (r .base + r .size) 0 h))
+          (or-cases (eqb (r .stride) 0) (eqb (r .base + r .size) 0) f))
 
-      later : inFirst (r .base) (r .stride) (r .size) byte ≡ false → LowestElement r byte ((byte - (r .base + r .size)) / r .stride + 1)
-      later e = let p = not-first (r .base) (r .stride) (r .size) byte e in at-later t (p .past) (p .strided)
+      later :
+          ltb byte (r .base + r .size) ≡ false
+          → (eqb (r .stride) 0 || eqb (r .base + r .size) 0) ≡ false
+          → LowestElement r byte ((byte - (r .base + r .size)) / r .stride + 1)
+      later e f = at-later t (ltb-false byte (r .base + r .size) e) (more-elements (r .base + r .size) (r .stride) refl f .0)
 
--- the code's two cases
-module _ (base stride size byte : ℕ) {t : Bool} (e : t ≡ inFirst base stride size byte) where
-  pub first-told : t ≡ true → 0 ≡ elementBy base stride size byte
-  unfolding elementBy
-  first-told h = sym (rw (sym e ∙ h))
+-- the code's cases
+module _ (end stride byte : ℕ) where
+  pub first-told : byte < end → 0 ≡ elementFrom end stride byte
+  unfolding elementFrom
+  first-told h = sym (rw (lt-ltb byte end h))
 
-  pub later-parts : t ≡ false → NotFirst base stride size byte
-  later-parts h = not-first base stride size byte (sym e ∙ h)
+  module _ (past : end ≤ byte) {t : Bool} (e : t ≡ (eqb stride 0 || eqb end 0)) where
+    pub only-told : t ≡ true → 0 ≡ elementFrom end stride byte
+    unfolding elementFrom
+    only-told h = sym (rw (le-ltb byte end past, sym e ∙ h))
 
-  pub later-fits : t ≡ false → byte < 4294967296 → (byte - (base + size)) / stride + 1 < 4294967296
-  later-fits h l = omega (arith, later-parts h .past, later-parts h .sized, div-le-self (byte - (base + size)) stride)
+    pub later-strided : t ≡ false → 1 ≤ stride
+    later-strided h = more-elements end stride e h .0
 
-  pub later-told : t ≡ false → (byte - (base + size)) / stride + 1 ≡ elementBy base stride size byte
-  unfolding elementBy
-  later-told h = sym (rw (sym e ∙ h))
+    pub later-fits : t ≡ false → byte < 4294967296 → (byte - end) / stride + 1 < 4294967296
+    later-fits h l = omega (arith, past, more-elements end stride e h .1, div-le-self (byte - end) stride)
+
+    pub later-told : t ≡ false → (byte - end) / stride + 1 ≡ elementFrom end stride byte
+    unfolding elementFrom
+    later-told h = sym (rw (le-ltb byte end past, sym e ∙ h))
 
 -- the lowest shared byte with its elements
 module _ (a b : Range) where

@@ -91,17 +91,13 @@ abbrev pub lowestOf : Lowest → Option ℕ
 lowestOf (Lo.Byte n) = some n
 lowestOf Lo.Nothing = none
 
--- the lowest element that covers a byte which the range touches, by one division: the first whose end lies past the byte. A range without
--- a stride or a size has no other element than 0
-unfoldable pub elementBy : ℕ → ℕ → ℕ → ℕ → ℕ
-elementBy base stride size byte =
-    cond (ltb byte (base + size) || (eqb stride 0 || eqb size 0)) 0 ((byte - (base + size)) / stride + 1)
+-- the lowest element that covers a byte which a range touches: the first whose end lies past the byte, by the end of element 0 and the stride
+unfoldable pub elementFrom : ℕ → ℕ → ℕ → ℕ
+elementFrom end stride byte = cond (ltb byte end) 0 (cond (eqb stride 0 || eqb end 0) 0 ((byte - end) / stride + 1))
 
--- the same for both of two ranges
+-- the same for a range, and for both of two
+abbrev pub elementBy : Range → ℕ → ℕ
+elementBy r byte = elementFrom (r .base + r .size) (r .stride) byte
+
 abbrev pub overlapBy : Range → Range → ℕ → Overlap
-overlapBy a b byte =
-    record {
-      byte = byte;
-      «first_element» = elementBy (a .base) (a .stride) (a .size) byte;
-      «second_element» = elementBy (b .base) (b .stride) (b .size) byte;
-    }
+overlapBy a b byte = record { byte = byte; «first_element» = elementBy a byte; «second_element» = elementBy b byte }

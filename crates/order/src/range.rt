@@ -4,7 +4,7 @@ use bundle::command::range_ok;
 use bundle::refusal::Cause;
 ghost use mathlib.Core.Path.{_≡_};
 ghost use mathlib.Core.Bool.{true, _||_};
-ghost use lib.Dec.{eqb, ltb};
+ghost use lib.Dec.{eqb};
 ghost use Prim.Native.Nat.{_+_, _-_, _*_, _≤_, _<_, max};
 ghost use Rattle.bundle.specs.Commands.{rangeOk};
 ghost use Rattle.order.specs.Ranges.{sharedByte, sharedOf, sharingOf};
@@ -19,6 +19,7 @@ ghost use Rattle.order.specs.Pairs.{
   outerOf,
   pairByte,
   lowestOf,
+  elementFrom,
   elementBy,
   overlapBy,
 };
@@ -193,22 +194,31 @@ pub fn shared_byte(first: Range, second: Range) -> Lowest
     shared_in_order(second, first)
 }
 
-// Whether an element of a range is 0 without a division: the byte lies before the end of element 0, or there is no other element.
-fn in_first(end: u64, stride: u16, size: u8, byte: u32) -> bool
-    ensures { λ r. ⌜ r ≡ (ltb byte end || (eqb stride 0 || eqb size 0)) ⌝ }
+// Whether a range has no element but element 0, or none at all.
+fn only_first(end: u64, stride: u16) -> bool
+    ensures { λ r. ⌜ r ≡ (eqb stride 0 || eqb end 0) ⌝ }
 {
-    ((byte as u64) < end) | ((stride == 0) | (size == 0))
+    (stride == 0) | (end == 0)
 }
 
-// The lowest element that covers a byte which a range of this base, stride and size touches.
-pub fn element_at(base: u32, stride: u16, size: u8, byte: u32) -> u32
-    ensures { λ r. ⌜ r ≡ elementBy base stride size byte ⌝ }
+// The lowest element that covers a byte which a range touches, by the end of its element 0 and its stride.
+pub fn element_from(end: u64, stride: u16, byte: u32) -> u32
+    ensures { λ r. ⌜ r ≡ elementFrom end stride byte ⌝ }
 {
-    let end = base as u64 + size as u64;
-    if in_first(end, stride, size, byte) {
+    if (byte as u64) < end {
+        return 0;
+    }
+    if only_first(end, stride) {
         return 0;
     }
     (byte as u64 - end) as u32 / (stride as u32) + 1
+}
+
+// The lowest element of a range that covers a byte which it touches.
+pub fn element_at(range: Range, byte: u32) -> u32
+    ensures { λ r. ⌜ r ≡ elementBy range byte ⌝ }
+{
+    element_from(range.base as u64 + range.size as u64, range.stride, byte)
 }
 
 fn overlap_at(first: Range, second: Range, byte: u32) -> Overlap
@@ -216,8 +226,8 @@ fn overlap_at(first: Range, second: Range, byte: u32) -> Overlap
 {
     Overlap {
         byte,
-        first_element: element_at(first.base, first.stride, first.size, byte),
-        second_element: element_at(second.base, second.stride, second.size, byte),
+        first_element: element_at(first, byte),
+        second_element: element_at(second, byte),
     }
 }
 

@@ -103,16 +103,15 @@ key-packed w p q =
     record { is = λ i. record { witness = w; first = p .is i; second = q .is i }; first-fits = p .fits; second-fits = q .fits }
 
 pub key-order :
-    {w : ℕ} {a b : Name} (r : Race) {k l : Packed} {t : Bool}
+    {w v : ℕ} {a b c d : Name} {k l : Packed} {t : Bool}
     → KeyPackedAs w a b k
-    → KeyPackedAs (r .witness) (r .first) (r .second) l
+    → KeyPackedAs v c d l
     → t ≡ packedLess k l
-    → t ≡ lexLess (keyOf w a b) (raceKey r)
-unfolding raceKey
-key-order {w} {a} {b} r p q e =
+    → t ≡ lexLess (keyOf w a b) (keyOf v c d)
+key-order {w} {v} {a} {b} {c} {d} p q e =
     e
     ∙ ap₂ packedLess (p .is) (q .is)
-    ∙ packed-key w (r .witness) a b (r .first) (r .second) (p .first-fits) (p .second-fits) (q .first-fits) (q .second-fits)
+    ∙ packed-key w v a b c d (p .first-fits) (p .second-fits) (q .first-fits) (q .second-fits)
 
 -- a name and a site as one number
 abbrev side : ℕ → ℕ → ℕ → ℕ → ℕ
@@ -141,5 +140,5 @@ side-packed {a} {m} {s} p h =
             member = side-member (a .team) (a .member) (a .number) s (f .team) (f .member) (f .number) h i;
             number = side-number (a .team) (a .member) (a .number) s (f .team) (f .member) (f .number) h i;
           };
-      site-in = side-site (a .team) (a .member) (a .number) s h;
+      rest-in = side-site (a .team) (a .member) (a .number) s h;
     }

@@ -164,7 +164,7 @@ module _ (m rows : List ℕ) (key : Key) (one : AccessRow) where
     pub passed : first ≤ j
     pub left-is : left ≡ word / 2 ^ (j - first)
     pub few : sum .count + first ≤ before .count + j
-    pub tallied : BlockTallied m rows key one first j (tallyIn before) (tallyIn sum)
+    pub tallied : BlockTallied m rows key one first j (tallyIn rows before) (tallyIn rows sum)
 
   pub block-none : (first word : ℕ) (s : Sum) → BlockTo first word s s word first
   block-none first word s =
@@ -179,18 +179,18 @@ module _ (m rows : List ℕ) (key : Key) (one : AccessRow) where
   module _ {first word : ℕ} {before sum : Sum} {left j : ℕ} (b : BlockTo first word before sum left j) where
     pub block-more :
         (sum′ : Sum)
-        → tallyIn sum′ ≡ addPair key (tallyIn sum) (pairRace m one (accessRowAt rows j))
+        → tallyIn rows sum′ ≡ addPair key (tallyIn rows sum) (pairRace m one (accessRowAt rows j))
         → BlockTo first word before sum′ (left / 2) (j + 1)
     block-more sum′ e =
         let bits : j - first + 1 ≡ j + 1 - first = omega (arith, b .passed) in
-        let count : sum′ .count ≡ addPair key (tallyIn sum) (pairRace m one (accessRowAt rows j)) .count = ap (λ (t : Tally). t .count) e in
+        let count : sum′ .count ≡ addPair key (tallyIn rows sum) (pairRace m one (accessRowAt rows j)) .count = ap (λ (t : Tally). t .count) e in
         record {
           passed = omega (arith, b .passed);
           left-is =
               ap (λ (n : ℕ). n / 2) (b .left-is)
               ∙ shr-shr word (j - first) 1
               ∙ ap (λ (k : ℕ). word / 2 ^ k) bits;
-          few = omega (arith, b .few, pair-count key (tallyIn sum) (pairRace m one (accessRowAt rows j)));
+          few = omega (arith, b .few, pair-count key (tallyIn rows sum) (pairRace m one (accessRowAt rows j)));
           tallied = record { more = λ t q. row-more m rows key one t j (b .tallied .more t q) e };
         }
 
@@ -218,24 +218,25 @@ module _ (m rows : List ℕ) (key : Key) (one : AccessRow) where
           e ∙ ap (λ (x : Bool). x && unordered m (one .segment) (accessRowAt rows j .segment)) bit ∙ pass-clash m one (accessRowAt rows j)
 
       -- no bit is left
-      pub block-stops : j ≤ end → left ≡ 0 → BlockTallied m rows key one first end (tallyIn before) (tallyIn sum)
+      pub block-stops : j ≤ end → left ≡ 0 → BlockTallied m rows key one first end (tallyIn rows before) (tallyIn rows sum)
       block-stops h z =
           skipped (b .tallied) h
           (λ l a. failed-none m one (accessRowAt rows (j + l)) (sym (bit-passes l a) ∙ ap (λ (n : ℕ). eqb (n / 2 ^ l % 2) 1) z ∙ rw (zero-div)))
 
-    pub block-ends : (end : ℕ) → j ≤ end → end ≤ j → BlockTallied m rows key one first end (tallyIn before) (tallyIn sum)
+    pub block-ends : (end : ℕ) → j ≤ end → end ≤ j → BlockTallied m rows key one first end (tallyIn rows before) (tallyIn rows sum)
     block-ends end h l = let q : j ≡ end = omega arith in rw (sym q) (b .tallied)
 
     -- what is asked for the j-th access
-    module _ {end : ℕ} (f : BlockFits m rows one first end (before .count)) (h : j < end) where
+    module _ {i end : ℕ} (f : BlockFits m rows one i first end (before .count)) (h : j < end) where
       pub row-in : RowIn rows j
       row-in = record { below = omega (arith, f .tables .few); whole = f .tables .rows-whole }
 
       pub row-within : Within m (one .segment) (accessRowAt rows j .segment)
       row-within = record { whole = f .tables .whole; row = f .row .segment; column = f .tables .fit j h .segment }
 
-      pub rows-fit : {other : AccessRow} → other ≡ accessRowAt rows j → RowFits one × RowFits other × (sum .count < 4294967295)
-      rows-fit e = (f .row, rw e (f .tables .fit j h), omega (arith, f .few, b .few))
+      pub rows-fit :
+          {other : AccessRow} → other ≡ accessRowAt rows j → RowFits one × RowFits other × (i < 1024) × (j < 1024) × (sum .count < 4294967295)
+      rows-fit e = (f .row, rw e (f .tables .fit j h), f .below, omega (arith, f .tables .few), omega (arith, f .few, b .few))
 
   -- the blocks of a row
   pub blocks-none : (t : Tally) (i : ℕ) → t ≡ tallyRow m rows key one t (min (32 * 0) i)
@@ -243,41 +244,45 @@ module _ (m rows : List ℕ) (key : Key) (one : AccessRow) where
       let none-yet : min (32 * 0) i ≡ 0 = omega arith in
       sym (ap (tallyRow m rows key one t) none-yet ∙ (unfold tallyRow in refl))
 
-  module _ (t : Tally) (i : ℕ) (sum : Sum) (block : ℕ) (e : tallyIn sum ≡ tallyRow m rows key one t (min (32 * block) i)) where
+  module _ (t : Tally) (i : ℕ) (sum : Sum) (block : ℕ) (e : tallyIn rows sum ≡ tallyRow m rows key one t (min (32 * block) i)) where
     pub block-fits :
-        TablesFit m rows i × RowFits one × (t .count + i ≤ 4294967295)
+        TablesFit m rows (i + 1)
+        → one ≡ accessRowAt rows i
+        → t .count + i ≤ 4294967295
         → 32 * block < i
         → {end : ℕ}
         → end ≡ min (32 * block + 32) i
-        → BlockFits m rows one (32 * block) end (sum .count)
-    block-fits g h q =
+        → BlockFits m rows one i (32 * block) end (sum .count)
+    block-fits g o few h q =
         let count : sum .count ≡ tallyRow m rows key one t (min (32 * block) i) .count = ap (λ (x : Tally). x .count) e in
         record {
-          tables = fewer-rows (g .0) (omega arith);
-          row = g .1;
+          tables = fewer-rows g (omega arith);
+          row = rw o (g .fit i (omega arith));
+          row-is = o;
+          below = omega (arith, g .few);
           ordered = omega arith;
           short = omega arith;
-          few = omega (arith, row-count m rows key one t (min (32 * block) i), g .2);
+          few = omega (arith, row-count m rows key one t (min (32 * block) i));
         }
 
-    pub block-in : TablesFit m rows i → 32 * block < i → BlockIn rows (32 * block)
+    pub block-in : TablesFit m rows (i + 1) → 32 * block < i → BlockIn rows (32 * block)
     block-in g h = record { below = omega (arith, g .few); whole = g .rows-whole }
 
     pub blocks-more :
         32 * block < i
         → {end : ℕ} (sum′ : Sum)
         → end ≡ min (32 * block + 32) i
-        → BlockTallied m rows key one (32 * block) end (tallyIn sum) (tallyIn sum′)
-        → tallyIn sum′ ≡ tallyRow m rows key one t (min (32 * (block + 1)) i)
+        → BlockTallied m rows key one (32 * block) end (tallyIn rows sum) (tallyIn rows sum′)
+        → tallyIn rows sum′ ≡ tallyRow m rows key one t (min (32 * (block + 1)) i)
     blocks-more h sum′ q b =
         let here : min (32 * block) i ≡ 32 * block = omega arith in
         let there : min (32 * block + 32) i ≡ min (32 * (block + 1)) i = omega arith in
         b .more t (e ∙ ap (tallyRow m rows key one t) here) ∙ ap (tallyRow m rows key one t) (q ∙ there)
 
-    pub blocks-all : i ≤ 32 * block → {u t′ : Tally} → u ≡ tallyIn sum → t ≡ t′ → u ≡ tallyRow m rows key one t′ i
-    blocks-all h q f =
+    pub blocks-all : i ≤ 32 * block → {r : AccessRow} → one ≡ r → tallyIn rows sum ≡ tallyRow m rows key r t i
+    blocks-all h o =
         let whole : min (32 * block) i ≡ i = omega arith in
-        q ∙ e ∙ ap₂ (tallyRow m rows key one) f whole
+        e ∙ ap₂ (λ (x : AccessRow) (k : ℕ). tallyRow m rows key x t k) o whole
 
 -- the bounds of some of the accesses of a block
 module _ (one : AccessRow) (rows : List ℕ) (first : ℕ) where

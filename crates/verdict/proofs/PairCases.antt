@@ -1,5 +1,5 @@
 -- The functions over pairs of rows, case by case.
-use Prim.Native.Nat.{ℕ, zero, suc, _+_, _*_, _≤_, _<_}
+use Prim.Native.Nat.{ℕ, zero, suc, _+_, _*_, _%_, _≤_, _<_}
 use mathlib.Core.Path.{_≡_, refl, sym, _∙_, ap, ap₂, subst}
 use mathlib.Core.Logic.{⊎-elim}
 use mathlib.Core.Bool.{Bool, true, false, cond, not, _&&_, _||_}
@@ -19,7 +19,7 @@ use Rattle.order.proofs.SharedByte.{shared-some}
 use Rattle.order.proofs.PairBytes.{base-shared, touch-fits}
 use Rattle.verdict.specs.Accesses.{lexLess, nameKey, nameBelow, keyOf, raceKey, raceBelow}
 use Rattle.verdict.specs.Working.{accessRowAt}
-use Rattle.verdict.specs.Tallying.{rowRange, rowName, rowsMeet, rowsClash, raceFrom, raceBetween, raceAtByte, aboveKey, clashRace, pairRace, replaces, comesLater, SideOf, tallyIn, keeping, counting, addRace, addPair, tallyRow, tallyAll, RowFits, TablesFit}
+use Rattle.verdict.specs.Tallying.{rowRange, rowName, rowsMeet, rowsClash, rowElement, raceFrom, raceBetween, raceAtByte, aboveAt, aboveKey, clashRace, pairRace, replaces, comesLater, nameIn, SideOf, rowIn, tallyIn, countedIn, beforeLeast, Adds, keeping, counting, addRace, addPair, tallyRow, tallyAll, RowFits, TablesFit}
 use Rattle.verdict.specs.declared.race.Name.{Name}
 use Rattle.verdict.specs.declared.race.Race.{Race}
 use Rattle.verdict.specs.declared.rows.AccessRow.{AccessRow}
@@ -37,20 +37,6 @@ module _ (key : Key) (t : Tally) (r : Race) {b : Bool} (e : b ≡ replaces key t
   pub race-counted : b ≡ false → counting t ≡ addRace key t r
   unfolding addRace
   race-counted h = sym (ap (λ (x : Bool). cond x (keeping t r) (counting t)) (sym e ∙ h))
-
--- the lower name first
-module _ (one other : AccessRow) (w : ℕ) {a b : Name} {t : Bool}
-    (p : a ≡ rowName one) (q : b ≡ rowName other) (e : t ≡ nameBelow a b) where
-  below-rows : t ≡ nameBelow (rowName one) (rowName other)
-  below-rows = e ∙ ap₂ nameBelow p q
-
-  pub one-first : t ≡ true → {r : Race} → r ≡ raceFrom one other w → r ≡ raceBetween one other w
-  unfolding raceBetween
-  one-first h f = f ∙ sym (ap (λ (x : Bool). cond x (raceFrom one other w) (raceFrom other one w)) (sym below-rows ∙ h))
-
-  pub other-first : t ≡ false → {r : Race} → r ≡ raceFrom other one w → r ≡ raceBetween one other w
-  unfolding raceBetween
-  other-first h f = f ∙ sym (ap (λ (x : Bool). cond x (raceFrom one other w) (raceFrom other one w)) (sym below-rows ∙ h))
 
 -- a lower name comes first, whatever stands behind the names
 name-first : (a b : Name) (c d : List ℕ) → nameBelow a b ≡ true → lexLess (nameKey a ++ c) (nameKey b ++ d) ≡ true
@@ -94,7 +80,7 @@ module _ (t : Tally) (one other : AccessRow) (w : ℕ) where
       (name-first lf rf (nameKey (least .second)) (nameKey (r .second)) (and-right (eqb lw rw′) (nameBelow lf rf) h)))
       (or-cases (ltb lw rw′) (eqb lw rw′ && nameBelow lf rf) e)
 
-  later-below : comesLater t (rowName one) (rowName other) w ≡ true → raceBelow least (raceBetween one other w) ≡ true
+  later-below : comesLater (t .found) (least .witness) (least .first) (rowName one) (rowName other) w ≡ true → raceBelow least (raceBetween one other w) ≡ true
   unfolding comesLater raceBetween
   later-below e =
       let above : Bool = ltb (least .witness) w in
@@ -106,11 +92,11 @@ module _ (t : Tally) (one other : AccessRow) (w : ℕ) where
       (λ i. after-least (raceFrom one other w) (pick-one above same one-above other-above h))
       (λ i. after-least (raceFrom other one w) (pick-other above same one-above other-above h))
 
-  later-found : comesLater t (rowName one) (rowName other) w ≡ true → t .found ≡ true
+  later-found : comesLater (t .found) (least .witness) (least .first) (rowName one) (rowName other) w ≡ true → t .found ≡ true
   unfolding comesLater
   later-found e = and-left _ _ e
 
-  not-replaced : (key : Key) → comesLater t (rowName one) (rowName other) w ≡ true → replaces key t (raceBetween one other w) ≡ false
+  not-replaced : (key : Key) → comesLater (t .found) (least .witness) (least .first) (rowName one) (rowName other) w ≡ true → replaces key t (raceBetween one other w) ≡ false
   unfolding raceBelow
   not-replaced key e =
       let r : Race = raceBetween one other w in
@@ -121,71 +107,104 @@ module _ (t : Tally) (one other : AccessRow) (w : ℕ) where
       (or-cases (not (t .found)) (raceBelow r least) (and-right (aboveKey key r) (not (t .found) || raceBelow r least) q)))
 
   pub later-counted :
-      (key : Key) {b : Bool} → b ≡ comesLater t (rowName one) (rowName other) w → b ≡ true → counting t ≡ addRace key t (raceBetween one other w)
+      (key : Key) {b : Bool} → b ≡ comesLater (t .found) (least .witness) (least .first) (rowName one) (rowName other) w → b ≡ true → counting t ≡ addRace key t (raceBetween one other w)
   later-counted key p h = race-counted key t (raceBetween one other w) (sym (not-replaced key (sym p ∙ h))) refl
 
-  pub later-told :
-      {a b : Name} {p q : Bool}
-      → a ≡ rowName one
-      → p ≡ nameBelow (least .first) a
-      → b ≡ rowName other
-      → q ≡ nameBelow (least .first) b
-      → (t .found && (ltb (least .witness) w || eqb (least .witness) w && (p && q))) ≡ comesLater t (rowName one) (rowName other) w
-  unfolding comesLater
-  later-told f h g i =
-      ap₂ (λ (x y : Bool). t .found && (ltb (least .witness) w || eqb (least .witness) w && (x && y)))
-      (h ∙ ap (nameBelow (least .first)) f)
-      (i ∙ ap (nameBelow (least .first)) g)
+-- the code's test for a race that comes later
+pub later-told :
+    (one other : AccessRow) (found : Bool) (witness w : ℕ) {first l a b : Name} {p q : Bool}
+    → l ≡ first
+    → a ≡ rowName one
+    → p ≡ nameBelow l a
+    → b ≡ rowName other
+    → q ≡ nameBelow l b
+    → (found && (ltb witness w || eqb witness w && (p && q))) ≡ comesLater found witness first (rowName one) (rowName other) w
+unfolding comesLater
+later-told one other found witness w d f h g i =
+    ap₂ (λ (x y : Bool). found && (ltb witness w || eqb witness w && (x && y)))
+    (h ∙ ap₂ nameBelow d f)
+    (i ∙ ap₂ nameBelow d g)
 
--- a tally in seven numbers
-pub sum-whole :
-    (t : Tally) {a b : ℕ}
-    → SideOf (t .race .first) (t .race .«first_site») a
-    → SideOf (t .race .second) (t .race .«second_site») b
-    → tallyIn
-    (record {
-      count = t .count;
-      found = t .found;
-      witness = t .race .witness;
-      first = a;
-      «first_element» = t .race .«first_element»;
-      second = b;
-      «second_element» = t .race .«second_element»;
-    })
-    ≡ t
-sum-whole t p q i =
-    record {
-      count = t .count;
-      found = t .found;
-      race =
+-- a race added to a tally in five numbers
+module _ (key : Key) (sum : Sum) (one other : AccessRow) (i j w : ℕ) where
+  -- the lower name first
+  module _ {a b : Name} (p : a ≡ rowName one) (q : b ≡ rowName other) where
+    replaced : (rows : List ℕ) → (aboveAt key w a b && beforeLeast sum w a b) ≡ replaces key (tallyIn rows sum) (raceFrom one other w)
+    unfolding aboveKey raceBelow raceKey
+    replaced rows = ap₂ (λ (x y : Name). aboveAt key w x y && beforeLeast sum w x y) p q
+
+    module _ {t : Bool} (e : t ≡ (aboveAt key w a b && beforeLeast sum w a b)) where
+      pub sum-kept :
+          i < 1024 → j < 1024 → t ≡ true → {c d : ℕ} → SideOf a i c → SideOf b j d
+          → Adds key one i other j (some (raceFrom one other w)) sum (record { count = sum .count + 1; found = true; witness = w; first = c; second = d })
+      unfolding addPair
+      sum-kept hi hj h {c} {d} s u =
           record {
-            witness = t .race .witness;
-            first = p .name-in i;
-            «first_site» = p .site-in i;
-            «first_element» = t .race .«first_element»;
-            second = q .name-in i;
-            «second_site» = q .site-in i;
-            «second_element» = t .race .«second_element»;
-          };
-    }
+            added = λ rows o v. kept-race rows o v ∙ race-kept key (tallyIn rows sum) (raceFrom one other w) (e ∙ replaced rows) h;
+          }
+        where
+          at : (side place : ℕ) → place < 1024 → side % 65536 ≡ place → side % 1024 ≡ place
+          at side place l r = omega arith
 
--- the same of a tally that stands in seven numbers
-module _ (s : Sum) (one other : AccessRow) (w : ℕ) (key : Key) {t : Tally} (e : t ≡ tallyIn s) where
+          kept-race :
+              (rows : List ℕ) → one ≡ accessRowAt rows i → other ≡ accessRowAt rows j
+              → tallyIn rows (record { count = sum .count + 1; found = true; witness = w; first = c; second = d })
+              ≡ keeping (tallyIn rows sum) (raceFrom one other w)
+          kept-race rows o v =
+              let row : rowIn rows c ≡ one = ap (accessRowAt rows) (at c i hi (s .rest-in)) ∙ sym o in
+              let row′ : rowIn rows d ≡ other = ap (accessRowAt rows) (at d j hj (u .rest-in)) ∙ sym v in
+              let name : nameIn c ≡ rowName one = s .name-in ∙ p in
+              let name′ : nameIn d ≡ rowName other = u .name-in ∙ q in
+              λ k.
+              record {
+                count = sum .count + 1;
+                found = true;
+                race =
+                    record {
+                      witness = w;
+                      first = name k;
+                      «first_site» = row k .site;
+                      «first_element» = rowElement (row k) w;
+                      second = name′ k;
+                      «second_site» = row′ k .site;
+                      «second_element» = rowElement (row′ k) w;
+                    };
+              }
+
+      pub sum-counted : t ≡ false → {after : Sum} → after ≡ countedIn sum → Adds key one i other j (some (raceFrom one other w)) sum after
+      unfolding addPair
+      sum-counted h f =
+          record {
+            added = λ rows o v. ap (tallyIn rows) f ∙ race-counted key (tallyIn rows sum) (raceFrom one other w) (e ∙ replaced rows) h;
+          }
+
+    -- which of the two names is lower
+    module _ {t : Bool} (e : t ≡ nameBelow a b) where
+      below-rows : t ≡ nameBelow (rowName one) (rowName other)
+      below-rows = e ∙ ap₂ nameBelow p q
+
+      pub one-first : t ≡ true → {after : Sum} → Adds key one i other j (some (raceFrom one other w)) sum after → Adds key one i other j (some (raceBetween one other w)) sum after
+      unfolding raceBetween
+      one-first h {after} f =
+          subst (λ (x : Bool). Adds key one i other j (some (cond x (raceFrom one other w) (raceFrom other one w))) sum after)
+          (sym (sym below-rows ∙ h)) f
+
+      pub other-first : t ≡ false → {after : Sum} → Adds key other j one i (some (raceFrom other one w)) sum after → Adds key one i other j (some (raceBetween one other w)) sum after
+      unfolding raceBetween
+      other-first h {after} f =
+          subst (λ (x : Bool). Adds key one i other j (some (cond x (raceFrom one other w) (raceFrom other one w))) sum after)
+          (sym (sym below-rows ∙ h)) (record { added = λ rows o v. f .added rows v o })
+
   pub later-summed :
-      {b : Bool}
-      → b ≡ comesLater t (rowName one) (rowName other) w
-      → b ≡ true
-      → counting (tallyIn s) ≡ addRace key (tallyIn s) (raceBetween one other w)
-  later-summed p h =
-      later-counted (tallyIn s) one other w key (p ∙ ap (λ (u : Tally). comesLater u (rowName one) (rowName other) w) e) h
-
-  pub made-summed :
-      {r : Race} {u : Tally} (s′ : Sum)
-      → r ≡ raceBetween one other w
-      → u ≡ addRace key t r
-      → tallyIn s′ ≡ u
-      → tallyIn s′ ≡ addRace key (tallyIn s) (raceBetween one other w)
-  made-summed s′ p q f = f ∙ q ∙ ap₂ (addRace key) e p
+      {t : Bool}
+      → t ≡ comesLater (sum .found) (sum .witness) (nameIn (sum .first)) (rowName one) (rowName other) w
+      → t ≡ true
+      → {after : Sum}
+      → after ≡ countedIn sum
+      → Adds key one i other j (some (raceBetween one other w)) sum after
+  unfolding addPair
+  later-summed p h f =
+      record { added = λ rows o v. ap (tallyIn rows) f ∙ later-counted (tallyIn rows sum) one other w key p h }
 
 -- the lowest shared byte of two rows
 module _ (one other : AccessRow) (fits : RowFits one) (fits′ : RowFits other) where
@@ -219,24 +238,21 @@ module _ (one other : AccessRow) (l : Lowest) (s : lowestOf l ≡ sharedByte (ro
       touch-fits (rowRange one) w (fits .range) (shared-some (rowRange one) (rowRange other) w (sym s ∙ ap lowestOf h) .one)
 
   -- two rows that clash
-  module _ (key : Key) (t : Tally) where
-    clashing :
-        {k : Lowest}
-        → l ≡ k
-        → addPair key t (raceAtByte one other (sharedByte (rowRange one) (rowRange other))) ≡ addPair key t (raceAtByte one other (lowestOf k))
-    clashing h = ap (λ (o : Option ℕ). addPair key t (raceAtByte one other o)) (sym s ∙ ap lowestOf h)
+  module _ (key : Key) (i j : ℕ) (sum : Sum) where
+    clashing : {k : Lowest} → l ≡ k → raceAtByte one other (lowestOf k) ≡ raceAtByte one other (sharedByte (rowRange one) (rowRange other))
+    clashing h = ap (raceAtByte one other) (sym (ap lowestOf h) ∙ s)
 
     pub clash-added :
-        {w : ℕ} {u : Tally}
+        {w : ℕ} {after : Sum}
         → l ≡ Lo.Byte w
-        → u ≡ addRace key t (raceBetween one other w)
-        → u ≡ addPair key t (raceAtByte one other (sharedByte (rowRange one) (rowRange other)))
-    unfolding addPair
-    clash-added h j = j ∙ sym (clashing h)
+        → Adds key one i other j (some (raceBetween one other w)) sum after
+        → Adds key one i other j (raceAtByte one other (sharedByte (rowRange one) (rowRange other))) sum after
+    clash-added {after = after} h a = subst (λ (o : Option Race). Adds key one i other j o sum after) (clashing h) a
 
-    pub clash-apart : l ≡ Lo.Nothing → t ≡ addPair key t (raceAtByte one other (sharedByte (rowRange one) (rowRange other)))
+    pub clash-apart : l ≡ Lo.Nothing → Adds key one i other j (raceAtByte one other (sharedByte (rowRange one) (rowRange other))) sum sum
     unfolding addPair
-    clash-apart h = sym (clashing h)
+    clash-apart h =
+        subst (λ (o : Option Race). Adds key one i other j o sum sum) (clashing h) (record { added = λ rows p q. refl })
 
 -- a row and the j-th
 module _ (m rows : List ℕ) (one : AccessRow) (j : ℕ) (key : Key) (t : Tally) {c : Bool}
@@ -308,13 +324,12 @@ module _ (m rows : List ℕ) (key : Key) where
       rw add-one (unfold tallyRow in (q ∙ ap (λ (x : Tally). addPair key x (pairRace m one (accessRowAt rows j))) p))
 
   pub all-more :
-      (i : ℕ) {u v : Tally} {one : AccessRow}
+      (i : ℕ) {u v : Tally}
       → u ≡ tallyAll m rows key i
-      → one ≡ accessRowAt rows i
-      → v ≡ tallyRow m rows key one u i
+      → v ≡ tallyRow m rows key (accessRowAt rows i) u i
       → v ≡ tallyAll m rows key (i + 1)
-  all-more i p o q =
-      rw add-one (unfold tallyAll in (q ∙ ap₂ (λ (x : AccessRow) (y : Tally). tallyRow m rows key x y i) o p))
+  all-more i p q =
+      rw add-one (unfold tallyAll in (q ∙ ap (λ (y : Tally). tallyRow m rows key (accessRowAt rows i) y i) p))
 
   -- and the last
   pub all-all : (n i : ℕ) {u : Tally} → i ≤ n → n ≤ i → u ≡ tallyAll m rows key i → u ≡ tallyAll m rows key n
@@ -322,14 +337,8 @@ module _ (m rows : List ℕ) (key : Key) where
 
   -- what a turn wants
   pub all-fit :
-      (n i : ℕ) {u : Tally} {one : AccessRow}
-      → TablesFit m rows n
-      → i < n
-      → u ≡ tallyAll m rows key i
-      → one ≡ accessRowAt rows i
-      → TablesFit m rows i × RowFits one × (u .count + i ≤ 4294967295)
-  all-fit n i {u} {one} g h e o = (
+      (n i : ℕ) {u : Tally} → TablesFit m rows n → i < n → u ≡ tallyAll m rows key i → TablesFit m rows (i + 1) × (u .count + i ≤ 4294967295)
+  all-fit n i g h e = (
     fewer-rows g (omega arith),
-    subst RowFits (sym o) (g .fit i h),
     omega (arith, g .few, ap (λ (x : Tally). x .count) e, all-count i (omega (arith, g .few))),
   )

@@ -39,7 +39,7 @@ use Rattle.verdict.specs.Accesses.{NamedAccess, nameKey, nameBelow, race
 use Rattle.verdict.specs.RaceLists.{clashes, raceOf, racesAmong, racesOf}
 use Rattle.verdict.specs.Matrix.{PathBits}
 use Rattle.verdict.specs.Working.{accessRowAt, AccessTable}
-use Rattle.verdict.specs.Tallying.{aboveKey, replaces, keeping, counting, addRace, addPair, pairRace, tallyRow, noTally, tallyAll}
+use Rattle.verdict.specs.Tallying.{aboveKey, replaces, keeping, counting, addRace, addPair, pairRace, tallyIn, noSum, tallyRow, tallyAll}
 use Rattle.verdict.specs.Demand.{Ascending}
 use Rattle.verdict.specs.Census.{Tallies}
 use Rattle.verdict.specs.declared.race.Race.{Race}
@@ -114,8 +114,8 @@ module _ (p : Race → Bool) (rs : List Race) (r : Race) where
       later q o h = is-false (raceBelow q best) (λ s. not-both (both (rw o at h) (rw o at s)) e)
 
 module _ (key : Key) where
-  pub tallied-none : Tallied key [] noTally
-  tallied-none = record { counted = refl; kept = λ q m h. List·Memᴰ·not-nil m }
+  pub tallied-none : (rows : List ℕ) → Tallied key [] (tallyIn rows noSum)
+  tallied-none rows = record { counted = refl; kept = λ q m h. List·Memᴰ·not-nil m }
 
   least-perm : {rs qs : List Race} (found : Bool) (r : Race) → List·Permᴰ rs qs → Least (aboveKey key) rs found r → Least (aboveKey key) qs found r
   least-perm true r d k = (perm-mem d (k .0), k .1, λ q m h. k .2 q (perm-mem (Permᴰ·symm d) m) h)
@@ -215,7 +215,7 @@ module _
 
   all-tallied : (i : ℕ) → i ≤ length xs → Tallied key (racesAmong (closureOf ss) (take i xs)) (tallyAll matrix rows key i)
   unfolding tallyAll racesAmong
-  all-tallied zero h = tallied-none key
+  all-tallied zero h = tallied-none key rows
   all-tallied (suc i) h = go (below-at xs i h) (all-tallied i (omega arith))
     where
       go :

@@ -90,7 +90,7 @@ rowsPass one other = rowsMeet one other && (locksApart (one .locks) (other .lock
 
 -- the lowest element of a row that covers a byte
 abbrev pub rowElement : AccessRow → ℕ → ℕ
-rowElement r byte = elementBy (r .base) (r .stride) (r .size) byte
+rowElement r byte = elementBy (rowRange r) byte
 
 -- what a race carries
 abbrev pub raceFrom : AccessRow → AccessRow → ℕ → Race
@@ -121,7 +121,11 @@ clashRace matrix one other =
 unfoldable pub pairRace : List ℕ → AccessRow → AccessRow → Option Race
 pairRace matrix one other = cond (rowsMeet one other) (clashRace matrix one other) none
 
--- whether a race is above the key; all are where none is given
+-- whether a race, or that of a witness and two names, is above the key; all are where none is given
+abbrev pub aboveAt : Key → ℕ → Name → Name → Bool
+aboveAt key witness first second =
+    not (key .given) || lexLess (keyOf (key .witness) (key .first) (key .second)) (keyOf witness first second)
+
 unfoldable pub aboveKey : Key → Race → Bool
 aboveKey key r = not (key .given) || lexLess (keyOf (key .witness) (key .first) (key .second)) (raceKey r)
 
@@ -129,13 +133,11 @@ aboveKey key r = not (key .given) || lexLess (keyOf (key .witness) (key .first) 
 abbrev pub replaces : Key → Tally → Race → Bool
 replaces key t r = aboveKey key r && (not (t .found) || raceBelow r (t .race))
 
--- whether the race of two accesses comes after the least so far: it does where the witness is above the least's, or is the same and both
--- names are above the least's first
-unfoldable pub comesLater : Tally → Name → Name → ℕ → Bool
-comesLater t one other witness =
-    t .found
-    && (ltb (t .race .witness) witness
-    || eqb (t .race .witness) witness && (nameBelow (t .race .first) one && nameBelow (t .race .first) other))
+-- whether the race of two accesses comes after the least so far, if one was found: it does where the witness is above the least's, or is the
+-- same and both names are above the least's first
+unfoldable pub comesLater : Bool → ℕ → Name → Name → Name → ℕ → Bool
+comesLater found least first one other witness =
+    found && (ltb least witness || eqb least witness && (nameBelow first one && nameBelow first other))
 
 -- one more race counted, and kept or not
 abbrev pub keeping : Tally → Race → Tally
@@ -158,55 +160,58 @@ tallyRow matrix rows key one t zero = t
 tallyRow matrix rows key one t (suc j) =
     addPair key (tallyRow matrix rows key one t j) (pairRace matrix one (accessRowAt rows j))
 
--- nothing counted yet
-abbrev pub noTally : Tally
-noTally =
-    let nobody : Name = record { team = 0; member = 0; number = 0 } in
-    record {
-      count = 0;
-      found = false;
-      race =
-          record {
-            witness = 0;
-            first = nobody;
-            «first_site» = 0;
-            «first_element» = 0;
-            second = nobody;
-            «second_site» = 0;
-            «second_element» = 0;
-          };
-    }
-
--- each of the first n accesses with those before it
-unfoldable pub tallyAll : List ℕ → List ℕ → Key → ℕ → Tally
-tallyAll matrix rows key zero = noTally
-tallyAll matrix rows key (suc i) = tallyRow matrix rows key (accessRowAt rows i) (tallyAll matrix rows key i) i
-
--- the name that stands in a number, and an access's name and site as a number
+-- the name that stands in a number; a name and another number below 65,536 as one number
 abbrev pub nameIn : ℕ → Name
 nameIn side = record { team = side / 1099511627776 % 65536; member = side / 4294967296 % 256; number = side / 65536 % 65536 }
 
-pub record SideOf (name : Name) (site side : ℕ) : Type 0 where
+pub record SideOf (name : Name) (rest side : ℕ) : Type 0 where
   pub name-in : nameIn side ≡ name
-  pub site-in : side % 65536 ≡ site
+  pub rest-in : side % 65536 ≡ rest
 
--- the tally that stands in seven numbers
-abbrev pub tallyIn : Sum → Tally
-tallyIn s =
+-- the tally that stands in five numbers: of each access of its race the name and the place of its row
+abbrev pub rowIn : List ℕ → ℕ → AccessRow
+rowIn rows side = accessRowAt rows (side % 1024)
+
+abbrev pub raceInSum : List ℕ → Sum → Race
+raceInSum rows s =
     record {
-      count = s .count;
-      found = s .found;
-      race =
-          record {
-            witness = s .witness;
-            first = nameIn (s .first);
-            «first_site» = s .first % 65536;
-            «first_element» = s .«first_element»;
-            second = nameIn (s .second);
-            «second_site» = s .second % 65536;
-            «second_element» = s .«second_element»;
-          };
+      witness = s .witness;
+      first = nameIn (s .first);
+      «first_site» = rowIn rows (s .first) .site;
+      «first_element» = rowElement (rowIn rows (s .first)) (s .witness);
+      second = nameIn (s .second);
+      «second_site» = rowIn rows (s .second) .site;
+      «second_element» = rowElement (rowIn rows (s .second)) (s .witness);
     }
+
+abbrev pub tallyIn : List ℕ → Sum → Tally
+tallyIn rows s = record { count = s .count; found = s .found; race = raceInSum rows s }
+
+-- one more race, counted and not kept
+abbrev pub countedIn : Sum → Sum
+countedIn s = record { count = s .count + 1; found = s .found; witness = s .witness; first = s .first; second = s .second }
+
+-- whether a race comes before the least so far, if one was found
+abbrev pub beforeLeast : Sum → ℕ → Name → Name → Bool
+beforeLeast s witness first second =
+    not (s .found) || lexLess (keyOf witness first second) (keyOf (s .witness) (nameIn (s .first)) (nameIn (s .second)))
+
+-- the race of the i-th and the j-th access, or none, is added
+pub record Adds (key : Key) (one : AccessRow) (i : ℕ) (other : AccessRow) (j : ℕ) (race : Option Race) (before after : Sum) : Type 0 where
+  pub added :
+      (rows : List ℕ)
+      → one ≡ accessRowAt rows i
+      → other ≡ accessRowAt rows j
+      → tallyIn rows after ≡ addPair key (tallyIn rows before) race
+
+-- nothing counted yet
+abbrev pub noSum : Sum
+noSum = record { count = 0; found = false; witness = 0; first = 0; second = 0 }
+
+-- each of the first n accesses with those before it
+unfoldable pub tallyAll : List ℕ → List ℕ → Key → ℕ → Tally
+tallyAll matrix rows key zero = tallyIn rows noSum
+tallyAll matrix rows key (suc i) = tallyRow matrix rows key (accessRowAt rows i) (tallyAll matrix rows key i) i
 
 -- a row that the loops can use
 pub record RowFits (r : AccessRow) : Type 0 where
@@ -229,10 +234,12 @@ pub record BlockIn (rows : List ℕ) (first : ℕ) : Type 0 where
 pub record NoneMeet (one : AccessRow) (rows : List ℕ) (first k : ℕ) : Type 0 where
   pub apart : (l : ℕ) → l < k → rowsMeet one (accessRowAt rows (first + l)) ≡ false
 
--- an access and those from `first` to `end`, at most 32, after so many races
-pub record BlockFits (matrix rows : List ℕ) (one : AccessRow) (first end count : ℕ) : Type 0 where
+-- the i-th access and those from `first` to `end`, at most 32, after so many races
+pub record BlockFits (matrix rows : List ℕ) (one : AccessRow) (i first end count : ℕ) : Type 0 where
   pub tables : TablesFit matrix rows end
   pub row : RowFits one
+  pub row-is : one ≡ accessRowAt rows i
+  pub below : i < 1024
   pub ordered : first ≤ end
   pub short : end ≤ first + 32
   pub few : count + end ≤ 4294967295 + first

@@ -11,11 +11,13 @@ use order::range::element_at;
 use order::range::shared_byte;
 ghost use mathlib.Core.Path.{_≡_};
 ghost use mathlib.Core.Bool.{false, _&&_};
+ghost use mathlib.Core.Option.{some};
 ghost use lib.Dec.{eqb, ltb, leb};
 ghost use Prim.Native.Nat.{_+_, _%_, _≤_, _<_, min};
+ghost use lib.ListN.{length};
 ghost use Rattle.order.specs.Ranges.{sharedByte};
 ghost use Rattle.order.specs.Pairs.{lowestOf};
-ghost use Rattle.verdict.specs.Accesses.{lexLess, nameBelow, keyOf, raceKey, raceBelow};
+ghost use Rattle.verdict.specs.Accesses.{lexLess, nameBelow, keyOf};
 ghost use Rattle.verdict.specs.Matrix.{Within, TestWord};
 ghost use Rattle.verdict.specs.Working.{accessRowAt, RowIn};
 ghost use Rattle.verdict.specs.Tallying.{
@@ -29,19 +31,22 @@ ghost use Rattle.verdict.specs.Tallying.{
   unordered,
   rowRange,
   rowName,
+  rowElement,
+  rowIn,
   raceFrom,
   raceBetween,
   raceAtByte,
   nameIn,
   SideOf,
+  raceInSum,
   tallyIn,
-  aboveKey,
-  replaces,
+  countedIn,
+  noSum,
+  aboveAt,
+  beforeLeast,
   comesLater,
-  addRace,
-  addPair,
+  Adds,
   tallyRow,
-  noTally,
   tallyAll,
   RowFits,
   TablesFit,
@@ -73,15 +78,14 @@ pub struct Packed {
     pub second: u64,
 }
 
-// A tally in seven numbers: of each access of its race, name and site are one number.
+// A tally in five numbers, which stay in registers: of each access of its race the name and the place of its row are one number. What else a
+// race carries is read from the rows at the end.
 struct Sum {
     count: u32,
     found: bool,
     witness: u32,
     first: u64,
-    first_element: u32,
     second: u64,
-    second_element: u32,
 }
 
 // A name as one number: the order of the numbers is that of the names.
@@ -120,69 +124,66 @@ fn pack_key(witness: u32, first: Name, second: Name) -> Packed
     }
 }
 
-// Whether a witness and two names come before those of a race.
-fn key_below(witness: u32, first: Name, second: Name, race: Race) -> bool
-    ensures { λ r. ⌜ r ≡ lexLess (keyOf witness first second) (raceKey race) ⌝ }
+// Whether a witness and two names come before others.
+fn key_below(
+    witness: u32,
+    first: Name,
+    second: Name,
+    other_witness: u32,
+    other_first: Name,
+    other_second: Name,
+) -> bool
+    ensures { λ r. ⌜ r ≡ lexLess (keyOf witness first second) (keyOf «other_witness» «other_first» «other_second») ⌝ }
 {
     packed_less(
         pack_key(witness, first, second),
-        pack_key(race.witness, race.first, race.second),
+        pack_key(other_witness, other_first, other_second),
     )
 }
 
-fn race_below(one: Race, other: Race) -> bool
-    ensures { λ r. ⌜ r ≡ raceBelow one other ⌝ }
-{
-    key_below(one.witness, one.first, one.second, other)
-}
-
-// Whether a race is above the key.
-fn above(key: Key, race: Race) -> bool
-    ensures { λ r. ⌜ r ≡ aboveKey key race ⌝ }
+// Whether the race of a witness and two names is above the key.
+fn above(key: Key, witness: u32, first: Name, second: Name) -> bool
+    ensures { λ r. ⌜ r ≡ aboveAt key witness first second ⌝ }
 {
     let given = key.given;
-    !given | key_below(key.witness, key.first, key.second, race)
+    !given | key_below(key.witness, key.first, key.second, witness, first, second)
 }
 
-// Whether a race takes the place of the least so far.
-fn takes_place(key: Key, tally: Tally, race: Race) -> bool
-    ensures { λ r. ⌜ r ≡ replaces key tally race ⌝ }
+// Whether it comes before the least so far, if one was found.
+fn before_least(sum: Sum, witness: u32, first: Name, second: Name) -> bool
+    ensures { λ r. ⌜ r ≡ beforeLeast sum witness first second ⌝ }
 {
-    let found = tally.found;
-    let least = tally.race;
-    above(key, race) & (!found | race_below(race, least))
+    let found = sum.found;
+    !found
+        | key_below(
+            witness,
+            first,
+            second,
+            sum.witness,
+            name_in(sum.first),
+            name_in(sum.second),
+        )
 }
 
-// Counts a race, and keeps the least above the key.
-fn add_race(key: Key, tally: Tally, race: Race) -> Tally
-    requires { ⌜ tally .count < 4294967295 ⌝ }
-    ensures { λ r. ⌜ r ≡ addRace key tally race ⌝ }
+// Whether it takes the place of the least so far.
+fn takes_place(key: Key, sum: Sum, witness: u32, first: Name, second: Name) -> bool
+    ensures { λ r. ⌜ r ≡ (aboveAt key witness first second && beforeLeast sum witness first second) ⌝ }
 {
-    let count = tally.count + 1;
-    if takes_place(key, tally, race) {
-        return Tally {
-            count,
-            found: true,
-            race,
-        };
-    }
-    let found = tally.found;
-    let race = tally.race;
-    Tally { count, found, race }
+    above(key, witness, first, second) & before_least(sum, witness, first, second)
 }
 
-// What a race carries.
-fn race_from(one: AccessRow, other: AccessRow, witness: u32) -> Race
-    ensures { λ r. ⌜ r ≡ raceFrom one other witness ⌝ }
+// One race more, which is not kept.
+fn counted(sum: Sum) -> Sum
+    requires { ⌜ sum .count < 4294967295 ⌝ }
+    ensures { λ r. ⌜ r ≡ countedIn sum ⌝ }
 {
-    Race {
-        witness,
-        first: name_of(one),
-        first_site: one.site,
-        first_element: element_at(one.base, one.stride, one.size, witness),
-        second: name_of(other),
-        second_site: other.site,
-        second_element: element_at(other.base, other.stride, other.size, witness),
+    let found = sum.found;
+    Sum {
+        count: sum.count + 1,
+        found,
+        witness: sum.witness,
+        first: sum.first,
+        second: sum.second,
     }
 }
 
@@ -194,16 +195,6 @@ fn name_of(row: AccessRow) -> Name
         member: row.member,
         number: row.number,
     }
-}
-
-// The access with the lower name comes first.
-fn race_between(one: AccessRow, other: AccessRow, witness: u32) -> Race
-    ensures { λ r. ⌜ r ≡ raceBetween one other witness ⌝ }
-{
-    if name_below(name_of(one), name_of(other)) {
-        return race_from(one, other, witness);
-    }
-    race_from(other, one, witness)
 }
 
 fn range_of(row: AccessRow) -> Range
@@ -230,11 +221,12 @@ fn no_path(matrix: &[u32], one: u16, other: u16) -> bool
     !bit(matrix, b, a)
 }
 
-// An access's name and site as one number.
-fn side_of(name: Name, site: u16) -> u64
-    ensures { λ r. ⌜ SideOf name site r ⌝ }
+// An access's name and the place of its row as one number.
+fn side_of(name: Name, place: u32) -> u64
+    requires { ⌜ place < 1024 ⌝ }
+    ensures { λ r. ⌜ SideOf name place r ⌝ }
 {
-    pack(name) * 65536 + site as u64
+    pack(name) * 65536 + place as u64
 }
 
 pub fn name_in(side: u64) -> Name
@@ -247,73 +239,57 @@ pub fn name_in(side: u64) -> Name
     }
 }
 
-fn sum_of(tally: Tally) -> Sum
-    ensures { λ r. ⌜ tallyIn r ≡ tally ⌝ }
-{
-    let found = tally.found;
-    let race = tally.race;
-    Sum {
-        count: tally.count,
-        found,
-        witness: race.witness,
-        first: side_of(race.first, race.first_site),
-        first_element: race.first_element,
-        second: side_of(race.second, race.second_site),
-        second_element: race.second_element,
-    }
-}
-
-fn tally_of(sum: Sum) -> Tally
-    ensures { λ r. ⌜ r ≡ tallyIn sum ⌝ }
+// Whether the race of two accesses comes after the least so far: told by the witness and the names, before anything is made of it.
+fn comes_later(sum: Sum, one: AccessRow, other: AccessRow, witness: u32) -> bool
+    ensures { λ r. ⌜ r ≡ comesLater (sum .found) (sum .witness) (nameIn (sum .first)) (rowName one) (rowName other) witness ⌝ }
 {
     let found = sum.found;
-    Tally {
-        count: sum.count,
-        found,
-        race: Race {
-            witness: sum.witness,
-            first: name_in(sum.first),
-            first_site: (sum.first % 65536) as u16,
-            first_element: sum.first_element,
-            second: name_in(sum.second),
-            second_site: (sum.second % 65536) as u16,
-            second_element: sum.second_element,
-        },
-    }
+    let least = name_in(sum.first);
+    found
+        & ((sum.witness < witness)
+            | ((sum.witness == witness)
+                & (name_below(least, name_of(one)) & name_below(least, name_of(other)))))
 }
 
-// Whether the race of two accesses comes after the least so far: told by the witness and the names, before the race is made.
-fn comes_later(tally: Tally, one: AccessRow, other: AccessRow, witness: u32) -> bool
-    ensures { λ r. ⌜ r ≡ comesLater tally (rowName one) (rowName other) witness ⌝ }
+// The race of two accesses, the i-th and the j-th, of which the first has the lower name: counted, and kept if it is the least above the key.
+fn add_ordered(
+    one: AccessRow,
+    i: u32,
+    other: AccessRow,
+    j: u32,
+    witness: u32,
+    key: Key,
+    sum: Sum,
+) -> Sum
+    requires { ⌜ (i < 1024) × (j < 1024) × (sum .count < 4294967295) ⌝ }
+    ensures { λ r. ⌜ Adds key one i other j (some (raceFrom one other witness)) sum r ⌝ }
 {
-    let found = tally.found;
-    let least = tally.race;
-    found
-        & ((least.witness < witness)
-            | ((least.witness == witness)
-                & (name_below(least.first, name_of(one))
-                    & name_below(least.first, name_of(other)))))
+    let first = name_of(one);
+    let second = name_of(other);
+    if takes_place(key, sum, witness, first, second) {
+        return Sum {
+            count: sum.count + 1,
+            found: true,
+            witness,
+            first: side_of(first, i),
+            second: side_of(second, j),
+        };
+    }
+    counted(sum)
 }
 
 // The race of two accesses that share a byte. Most races come later than the least, and are only counted.
-fn add_at(one: AccessRow, other: AccessRow, witness: u32, key: Key, sum: Sum) -> Sum
-    requires { ⌜ sum .count < 4294967295 ⌝ }
-    ensures { λ r. ⌜ tallyIn r ≡ addRace key (tallyIn sum) (raceBetween one other witness) ⌝ }
+fn add_at(one: AccessRow, i: u32, other: AccessRow, j: u32, witness: u32, key: Key, sum: Sum) -> Sum
+    requires { ⌜ (i < 1024) × (j < 1024) × (sum .count < 4294967295) ⌝ }
+    ensures { λ r. ⌜ Adds key one i other j (some (raceBetween one other witness)) sum r ⌝ }
 {
-    let tally = tally_of(sum);
-    if comes_later(tally, one, other, witness) {
-        let found = sum.found;
-        return Sum {
-            count: sum.count + 1,
-            found,
-            witness: sum.witness,
-            first: sum.first,
-            first_element: sum.first_element,
-            second: sum.second,
-            second_element: sum.second_element,
-        };
+    if comes_later(sum, one, other, witness) {
+        return counted(sum);
     }
-    sum_of(add_race(key, tally, race_between(one, other, witness)))
+    if name_below(name_of(one), name_of(other)) {
+        return add_ordered(one, i, other, j, witness, key, sum);
+    }
+    add_ordered(other, j, one, i, witness, key, sum)
 }
 
 // Whether a base lies in the first element of a range.
@@ -340,12 +316,12 @@ pub fn lowest(one: AccessRow, other: AccessRow) -> Lowest
 }
 
 // The race of two accesses that clash, if they share a byte.
-fn add_clash(one: AccessRow, other: AccessRow, key: Key, sum: Sum) -> Sum
-    requires { ⌜ RowFits one × RowFits other × (sum .count < 4294967295) ⌝ }
-    ensures { λ r. ⌜ tallyIn r ≡ addPair key (tallyIn sum) (raceAtByte one other (sharedByte (rowRange one) (rowRange other))) ⌝ }
+fn add_clash(one: AccessRow, i: u32, other: AccessRow, j: u32, key: Key, sum: Sum) -> Sum
+    requires { ⌜ RowFits one × RowFits other × (i < 1024) × (j < 1024) × (sum .count < 4294967295) ⌝ }
+    ensures { λ r. ⌜ Adds key one i other j (raceAtByte one other (sharedByte (rowRange one) (rowRange other))) sum r ⌝ }
 {
     match lowest(one, other) {
-        Lowest::Byte(byte) => add_at(one, other, byte as u32, key, sum),
+        Lowest::Byte(byte) => add_at(one, i, other, j, byte as u32, key, sum),
         Lowest::Nothing => sum,
     }
 }
@@ -432,19 +408,20 @@ pub fn clash(matrix: &[u32], rows: &[u32], one: AccessRow, left: u32, j: u32) ->
     no_path(matrix, one.segment, segment_at(rows, j))
 }
 
-// Adds the races of an access with those from `first` to `end` that pass with it.
+// Adds the races of the i-th access with those from `first` to `end` that pass with it.
 fn add_passing(
     matrix: &[u32],
     rows: &[u32],
     one: AccessRow,
+    i: u32,
     word: u32,
     first: u32,
     end: u32,
     key: Key,
     before: Sum,
 ) -> Sum
-    requires { ⌜ BlockFits (now matrix) (now rows) one first end (before .count) × TestWord (λ j. rowsPass one (accessRowAt (now rows) j)) first word ⌝ }
-    ensures { λ r. ⌜ BlockTallied (now (matrix .entry)) (now (rows .entry)) key one first end (tallyIn before) (tallyIn r) ⌝ }
+    requires { ⌜ BlockFits (now matrix) (now rows) one i first end (before .count) × TestWord (λ j. rowsPass one (accessRowAt (now rows) j)) first word ⌝ }
+    ensures { λ r. ⌜ BlockTallied (now (matrix .entry)) (now (rows .entry)) key one first end (tallyIn (now (rows .entry)) before) (tallyIn (now (rows .entry)) r) ⌝ }
 {
     let mut sum = before;
     let mut left = word;
@@ -454,7 +431,7 @@ fn add_passing(
             return sum;
         }
         if clash(matrix, rows, one, left, j) {
-            sum = add_clash(one, access_at(rows, j), key, sum);
+            sum = add_clash(one, i, access_at(rows, j), j, key, sum);
         }
         left = left / 2;
         j += 1;
@@ -462,24 +439,25 @@ fn add_passing(
     sum
 }
 
-// Adds the races of an access with those from `first` to `end`, at most 32. Most often no bounds meet, and that is quick to tell.
+// Adds the races of the i-th access with those from `first` to `end`, at most 32. Most often no bounds meet, and that is quick to tell.
 fn add_block(
     matrix: &[u32],
     rows: &[u32],
     one: AccessRow,
+    i: u32,
     first: u32,
     end: u32,
     key: Key,
     sum: Sum,
 ) -> Sum
-    requires { ⌜ BlockFits (now matrix) (now rows) one first end (sum .count) × BlockIn (now rows) first ⌝ }
-    ensures { λ r. ⌜ BlockTallied (now (matrix .entry)) (now (rows .entry)) key one first end (tallyIn sum) (tallyIn r) ⌝ }
+    requires { ⌜ BlockFits (now matrix) (now rows) one i first end (sum .count) × BlockIn (now rows) first ⌝ }
+    ensures { λ r. ⌜ BlockTallied (now (matrix .entry)) (now (rows .entry)) key one first end (tallyIn (now (rows .entry)) sum) (tallyIn (now (rows .entry)) r) ⌝ }
 {
     if !some_meet(rows, first as usize, one) {
         return sum;
     }
     let word = passing(rows, first as usize, one);
-    add_passing(matrix, rows, one, word, first, end, key, sum)
+    add_passing(matrix, rows, one, i, word, first, end, key, sum)
 }
 
 // The end of the block of 32 that begins at `first`, of i accesses.
@@ -491,41 +469,65 @@ pub fn block_end(first: u32, i: u32) -> u32
     if end <= i { end } else { i }
 }
 
-// Adds the races of an access with the i before it, in blocks of 32.
-fn add_row(matrix: &[u32], rows: &[u32], one: AccessRow, i: u32, key: Key, tally: Tally) -> Tally
-    requires { ⌜ TablesFit (now matrix) (now rows) i × RowFits one × (tally .count + i ≤ 4294967295) ⌝ }
-    ensures { λ r. ⌜ r ≡ tallyRow (now (matrix .entry)) (now (rows .entry)) key one tally i ⌝ }
+// Adds the races of the i-th access with those before it, in blocks of 32.
+fn add_row(matrix: &[u32], rows: &[u32], i: u32, key: Key, before: Sum) -> Sum
+    requires { ⌜ TablesFit (now matrix) (now rows) (i + 1) × (before .count + i ≤ 4294967295) ⌝ }
+    ensures { λ r. ⌜ tallyIn (now (rows .entry)) r ≡ tallyRow (now (matrix .entry)) (now (rows .entry)) key (accessRowAt (now (rows .entry)) i) (tallyIn (now (rows .entry)) before) i ⌝ }
 {
-    let mut sum = sum_of(tally);
+    let one = access_at(rows, i);
+    let mut sum = before;
     let mut block = 0;
     while 32 * block < i {
         let first = 32 * block;
-        sum = add_block(matrix, rows, one, first, block_end(first, i), key, sum);
+        sum = add_block(matrix, rows, one, i, first, block_end(first, i), key, sum);
         block += 1;
     }
-    tally_of(sum)
+    sum
 }
 
-fn no_tally() -> Tally
-    ensures { λ r. ⌜ r ≡ noTally ⌝ }
+fn no_sum() -> Sum
+    ensures { λ r. ⌜ r ≡ noSum ⌝ }
 {
-    let nobody = Name {
-        team: 0,
-        member: 0,
-        number: 0,
-    };
-    Tally {
+    Sum {
         count: 0,
         found: false,
-        race: Race {
-            witness: 0,
-            first: nobody,
-            first_site: 0,
-            first_element: 0,
-            second: nobody,
-            second_site: 0,
-            second_element: 0,
-        },
+        witness: 0,
+        first: 0,
+        second: 0,
+    }
+}
+
+// The lowest element of an access that covers a byte.
+fn row_element(row: AccessRow, byte: u32) -> u32
+    ensures { λ r. ⌜ r ≡ rowElement row byte ⌝ }
+{
+    element_at(range_of(row), byte)
+}
+
+// The row that a number of a sum names.
+fn row_in(rows: &[u32], side: u64) -> AccessRow
+    requires { ⌜ 8192 ≤ length (now rows) ⌝ }
+    ensures { λ r. ⌜ r ≡ rowIn (now (rows .entry)) side ⌝ }
+{
+    access_at(rows, (side % 1024) as u32)
+}
+
+// What the race of a sum carries.
+fn race_of(rows: &[u32], sum: Sum) -> Race
+    requires { ⌜ 8192 ≤ length (now rows) ⌝ }
+    ensures { λ r. ⌜ r ≡ raceInSum (now (rows .entry)) sum ⌝ }
+{
+    let witness = sum.witness;
+    let one = row_in(rows, sum.first);
+    let other = row_in(rows, sum.second);
+    Race {
+        witness,
+        first: name_in(sum.first),
+        first_site: one.site,
+        first_element: row_element(one, witness),
+        second: name_in(sum.second),
+        second_site: other.site,
+        second_element: row_element(other, witness),
     }
 }
 
@@ -534,11 +536,16 @@ pub fn all_pairs(matrix: &[u32], rows: &[u32], n: u32, key: Key) -> Tally
     requires { ⌜ TablesFit (now matrix) (now rows) n ⌝ }
     ensures { λ r. ⌜ r ≡ tallyAll (now (matrix .entry)) (now (rows .entry)) key n ⌝ }
 {
-    let mut tally = no_tally();
+    let mut sum = no_sum();
     let mut i = 0;
     while i < n {
-        tally = add_row(matrix, rows, access_at(rows, i), i, key, tally);
+        sum = add_row(matrix, rows, i, key, sum);
         i += 1;
     }
-    tally
+    let found = sum.found;
+    Tally {
+        count: sum.count,
+        found,
+        race: race_of(rows, sum),
+    }
 }

@@ -11,10 +11,10 @@ cast-add-at c =
 
 returns : tie.Need-returns
 returns c =
-    clash-added _ _ _ (c .before .before .before .before .lowest .ensures) _ _ (c .before .before .byte .given .1) (c .add-at .ensures)
+    clash-added _ _ _ (c .before .before .before .before .lowest .ensures) _ _ _ _ (c .before .before .byte .given .1) (c .add-at .ensures)
 
 returns-2 : tie.Need-returns-2
-returns-2 c = clash-apart _ _ _ (c .before .before .lowest .ensures) _ _ (c .enum-told .given .1)
+returns-2 c = clash-apart _ _ _ (c .before .before .lowest .ensures) _ _ _ _ (c .enum-told .given .1)
 
 pub add-clash-spec : {M : Type 1} → statement M
 add-clash-spec =

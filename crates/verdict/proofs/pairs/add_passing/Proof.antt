@@ -10,10 +10,10 @@ use Rattle.verdict.proofs.pairs.add_passing.Statement.{statement}
 use Rattle.verdict.proofs.pairs.add_passing.Tie as tie
 
 abbrev Inv-loop : tie.InvT-loop
-Inv-loop matrix rows one word first end key sum₀ left₀ j₀ sum left j = (j ≤ end) × BlockTo matrix rows key one first word sum₀ sum left j
+Inv-loop matrix rows one i word first end key sum₀ left₀ j₀ sum left j = (j ≤ end) × BlockTo matrix rows key one first word sum₀ sum left j
 
 abbrev μ-loop : tie.MeasureT-loop
-μ-loop matrix rows one word first end key sum₀ left₀ j₀ sum left j = end - j
+μ-loop matrix rows one i word first end key sum₀ left₀ j₀ sum left j = end - j
 
 loop-holds : tie.Need-loop-holds Inv-loop μ-loop
 loop-holds c = (c .before .before .pre .0 .ordered, block-none _ _ _ _ _ _ _)
@@ -50,8 +50,8 @@ loop-again c =
       search needs,
       block-more _ _ _ _ (turn .inv .1) (c .if2 .sum)
           (⊎-elim
-          (λ w. clash-passes _ _ _ _ _ _ told (w .0 .taken) (w .1 .ensures) (ap tallyIn (w .3) ∙ w .2 .ensures))
-          (λ w. clash-fails _ _ _ _ _ _ told (w .0 .left) (ap tallyIn (w .1)))
+          (λ w. clash-passes _ _ _ _ _ _ told (w .0 .taken) (w .1 .ensures) (ap (tallyIn _) (w .3) ∙ w .2 .ensures .added _ (start .pre .0 .row-is) (w .1 .ensures)))
+          (λ w. clash-fails _ _ _ _ _ _ told (w .0 .left) (ap (tallyIn _) (w .1)))
           (c .if2 .came)),
     )
 

@@ -1,20 +1,24 @@
 -- `verdict::pairs::add_row` meets its contract. The invariant: the accesses of the blocks passed are compared. The measure: the blocks left. Assumes nothing.
 use native.Mathlib.Omega.{arith}
-use mathlib.Core.Path.{_≡_, ap}
+use mathlib.Core.Path.{_≡_}
 use Prim.Native.Nat.{_*_, _≤_, _-_, min}
 use borrow.Author.Needs.{needs}
 use Rattle.verdict.specs.Tallying.{tallyIn, tallyRow}
-use Rattle.verdict.specs.declared.pairs.Tally.{Tally}
 use Rattle.verdict.proofs.PairBlocks.{blocks-none, block-fits, block-in, blocks-more, blocks-all}
 use Rattle.verdict.proofs.pairs.add_row.Statement.{statement}
 use Rattle.verdict.proofs.pairs.add_row.Tie as tie
 
 abbrev Inv-loop : tie.InvT-loop
-Inv-loop matrix rows one i key sum₀ block₀ sum block =
-    (block ≤ 32) × (tallyIn sum ≡ tallyRow matrix rows key one (tallyIn sum₀) (min (32 * block) i))
+Inv-loop matrix rows i key one sum₀ block₀ sum block =
+    (block ≤ 32) × (tallyIn rows sum ≡ tallyRow matrix rows key one (tallyIn rows sum₀) (min (32 * block) i))
 
 abbrev μ-loop : tie.MeasureT-loop
-μ-loop matrix rows one i key sum₀ block₀ sum block = 32 - block
+μ-loop matrix rows i key one sum₀ block₀ sum block = 32 - block
+
+access-at-requires : tie.Need-access-at-requires Inv-loop μ-loop
+access-at-requires c κs =
+    let tables = c .before .before .pre .0 in
+    record { below = omega (arith, tables .few); whole = tables .rows-whole }
 
 loop-holds : tie.Need-loop-holds Inv-loop μ-loop
 loop-holds c = (search needs, blocks-none _ _ _ _ _ _)
@@ -25,14 +29,10 @@ block-end-requires c κs = omega (arith, c .before .before .before .before .befo
 add-block-requires : tie.Need-add-block-requires Inv-loop μ-loop
 add-block-requires c κs =
     let start = c .before .before .before .before .before .before in
-    let turn = c .before .before .loop in
-    let count = ap (λ (t : Tally). t .count) (c .before .before .before .sum-of .ensures) in (
-      block-fits _ _ _ _ _ _ (turn .sum) (turn .block) (turn .inv .1) (start .pre .0, start .pre .1, omega (arith, start .pre .2)) (c .before .loop-test .taken) (c .block-end .ensures),
+    let turn = c .before .before .loop in (
+      block-fits _ _ _ _ _ _ (turn .sum) (turn .block) (turn .inv .1) (start .pre .0) (c .before .before .before .access-at .ensures) (start .pre .1) (c .before .loop-test .taken) (c .block-end .ensures),
       block-in _ _ _ _ _ _ (turn .sum) (turn .block) (turn .inv .1) (start .pre .0) (c .before .loop-test .taken),
     )
-
-add-block : tie.Need-add-block Inv-loop μ-loop
-add-block c = search needs
 
 loop-less : tie.Need-loop-less Inv-loop μ-loop
 loop-less c = omega (arith, c .before .before .before .before .before .before .before .pre .0 .few, c .before .before .loop-test .taken)
@@ -47,8 +47,8 @@ loop-again c =
 
 returns : tie.Need-returns Inv-loop μ-loop
 returns c =
-    let turn = c .before .before .loop in
-    blocks-all _ _ _ _ _ _ (turn .sum) (turn .block) (turn .inv .1) (c .before .loop-test .left) (c .tally-of .ensures) (c .before .before .before .sum-of .ensures)
+    let turn = c .before .loop in
+    blocks-all _ _ _ _ _ _ (turn .sum) (turn .block) (turn .inv .1) (c .loop-test .left) (c .before .before .access-at .ensures)
 
 pub add-row-spec : {M : Type 1} → statement M
 add-row-spec =
@@ -56,14 +56,13 @@ add-row-spec =
     (tie.spec
     Inv-loop
     μ-loop
-    (λ c κs. tt)
+    access-at-requires
     loop-holds
     (λ c. search needs)
     (λ c. search needs)
     block-end-requires
     add-block-requires
-    add-block
+    (λ c. search needs)
     loop-less
     loop-again
-    (λ c κs. tt)
     returns)

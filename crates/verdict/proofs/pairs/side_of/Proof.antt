@@ -8,4 +8,10 @@ returns : tie.Need-returns
 returns c = side-packed (c .pack .ensures) (search needs)
 
 pub side-of-spec : {M : Type 1} → statement M
-side-of-spec = tie.close (tie.spec (λ c κs. tt) (λ c. search needs) (λ c. search needs) returns)
+side-of-spec =
+    tie.close
+    (tie.spec
+    (λ c κs. tt)
+    (λ c. search needs)
+    (λ c. search needs)
+    returns)
