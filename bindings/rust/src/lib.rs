@@ -388,8 +388,8 @@ pub fn compare_labels(first: &Label, second: &Label) -> Result<Order, Refusal> {
 #[derive(Clone, Copy, Debug, PartialEq, Eq, Hash)]
 pub struct Overlap {
     pub byte: u32,
-    pub first_element: u32,
-    pub second_element: u32,
+    pub first_element: u16,
+    pub second_element: u16,
 }
 
 /// The lowest byte that both ranges touch, if any, with its elements. Refused with 5 at 1 or 2, for the first range that no access can have.
@@ -414,7 +414,8 @@ pub fn lowest_shared_byte(first: Range, second: Range) -> Result<Option<Overlap>
         )
     };
     answer(refusal, place)?;
-    Ok((found != 0).then_some(Overlap { byte, first_element, second_element }))
+    let overlap = Overlap { byte, first_element: first_element as u16, second_element: second_element as u16 };
+    Ok((found != 0).then_some(overlap))
 }
 
 // -------------------------------------------------------------------- races
@@ -442,11 +443,11 @@ pub struct Race {
     pub first: Name,
     pub first_site: u32,
     /// The lowest element of the first access, numbered from 0, that covers the witness.
-    pub first_element: u32,
+    pub first_element: u16,
     pub second: Name,
     pub second_site: u32,
     /// The same of the second access.
-    pub second_element: u32,
+    pub second_element: u16,
 }
 
 impl Race {
@@ -460,10 +461,10 @@ impl Race {
             witness: record.witness,
             first: name(&record.first),
             first_site: record.first.site,
-            first_element: record.first.element,
+            first_element: record.first.element as u16, // below the count, which has 16 bits
             second: name(&record.second),
             second_site: record.second.site,
-            second_element: record.second.element,
+            second_element: record.second.element as u16,
         }
     }
 
@@ -623,6 +624,7 @@ pub struct Races<'a> {
 }
 
 impl Races<'_> {
+    #[inline]
     fn read(&self, number: u64) -> Race {
         let mut race = ffi::Race::default();
         unsafe { ffi::dezhakom_race_in(self.names.as_ptr(), self.names.len(), number, &mut race) };
@@ -633,11 +635,13 @@ impl Races<'_> {
 impl Iterator for Races<'_> {
     type Item = Race;
 
+    #[inline]
     fn next(&mut self) -> Option<Race> {
         let number = *self.numbers.next()?;
         Some(self.read(number))
     }
 
+    #[inline]
     fn size_hint(&self) -> (usize, Option<usize>) {
         self.numbers.size_hint()
     }
