@@ -1,6 +1,6 @@
 -- The lowest element of a range that covers a byte: the definition meets the relation, the relation leaves one answer, and one division finds it.
 use Prim.Native.Nat.{ℕ, _+_, _*_, _-_, _/_, _<_, _≤_}
-use mathlib.Core.Path.{_≡_, refl, sym, ap, _∙_}
+use mathlib.Core.Path.{_≡_, refl, sym, ap, ap₂, _∙_}
 use mathlib.Core.Logic.{⊎-elim}
 use mathlib.Core.Bool.{Bool, true, false, cond, _||_}
 use mathlib.Core.List.{List, List·Memᴰ}
@@ -9,14 +9,16 @@ use native.Mathlib.Nat.{div-add-mod', div-le-self, mod-lt, mul-zero, mul-le-mul-
 use native.Mathlib.Omega.{arith}
 use lib.Dec.{eqb, leb, ltb}
 use borrow.Author.Tests.{le-leb, lt-ltb, le-ltb, leb-true, ltb-true, ltb-false, eqb-true, eqb-false}
+use Rattle.bundle.specs.Answer.{gives}
 use Rattle.bundle.specs.Lists.{upTo, passing, fromOption}
 use Rattle.bundle.specs.declared.command.Range.{Range}
 use Rattle.bundle.proofs.Tests.{both, and-left, and-right, or-cases, or-false, cond-elim}
 use Rattle.bundle.proofs.ListLaws.{passing-elim, passing-intro, upTo-elim, upTo-intro}
 use Rattle.order.specs.Ranges.{Touches, LeastShared, Covers, LowestElement}
 use Rattle.order.specs.SharedBytes.{least, sharedByte, covers, lowestElement, overlapAt, overlapOf}
-use Rattle.order.specs.Pairs.{elementFrom, elementBy, overlapBy}
-use Rattle.order.proofs.SharedByte.{LeastIs, least-is}
+use Rattle.order.specs.Pairs.{elementFrom, elementBy, turnedOf}
+use Rattle.order.specs.declared.range.Overlap.{Overlap}
+use Rattle.order.proofs.SharedByte.{LeastIs, least-is, shared-is, shared-unique, shared-swap}
 
 -- where there are more elements than element 0
 more-elements : (end stride : ℕ) {t : Bool} → t ≡ (eqb stride 0 || eqb end 0) → t ≡ false → (1 ≤ stride) × (1 ≤ end)
@@ -49,7 +51,7 @@ module _ (r : Range) (byte : ℕ) where
       (both (le-leb (r .base + k * r .stride) byte (c .from)) (lt-ltb byte (r .base + k * r .stride + r .size) (c .to)))
 
   -- a touched byte is covered by an element, and the definition gives the lowest of them
-  touched-covers : (t : Touches r byte) → Covers r byte (t .element)
+  pub touched-covers : (t : Touches r byte) → Covers r byte (t .element)
   touched-covers t =
       record {
         element-below = t .element-below;
@@ -149,16 +151,6 @@ module _ (end stride byte : ℕ) where
 
 -- the lowest shared byte with its elements
 module _ (a b : Range) where
-  pub overlap-by : (byte : ℕ) → LeastShared a b byte → overlapBy a b byte ≡ overlapAt a b byte
-  unfolding overlapAt
-  overlap-by byte s =
-      λ i.
-      record {
-        byte = byte;
-        «first_element» = element-by a byte (s .one) i;
-        «second_element» = element-by b byte (s .other) i;
-      }
-
   pub overlap-some : {byte : ℕ} → sharedByte a b ≡ some byte → overlapOf a b ≡ some (overlapAt a b byte)
   unfolding overlapOf
   overlap-some e = ap (fromOption none (λ (n : ℕ). some (overlapAt a b n))) e
@@ -166,3 +158,28 @@ module _ (a b : Range) where
   pub overlap-none : sharedByte a b ≡ none → overlapOf a b ≡ none
   unfolding overlapOf
   overlap-none e = ap (fromOption none (λ (n : ℕ). some (overlapAt a b n))) e
+
+  -- what is found is the overlap
+  pub met-at :
+      {byte one other : ℕ} → LeastShared a b byte → LowestElement a byte one → LowestElement b byte other
+      → some (record { byte = byte; «first_element» = one; «second_element» = other }) ≡ overlapOf a b
+  unfolding overlapAt
+  met-at {byte} {one} {other} s l u =
+      let first : one ≡ lowestElement a byte = element-unique a byte l (element-lowest a byte (s .one)) in
+      let second : other ≡ lowestElement b byte = element-unique b byte u (element-lowest b byte (s .other)) in
+      ap₂ (λ (i j : ℕ). some (overlap byte i j)) first second ∙ sym (overlap-some (shared-is a b byte s))
+    where
+      overlap : ℕ → ℕ → ℕ → Overlap
+      overlap n i j = record { byte = n; «first_element» = i; «second_element» = j }
+
+  pub met-nowhere : ((byte : ℕ) → Touches a byte → Touches b byte → ⊥) → none ≡ overlapOf a b
+  met-nowhere h = sym (overlap-none (sym (shared-unique a b none h)))
+
+-- whichever range comes first
+pub overlap-swap : (a b : Range) → turnedOf (gives (overlapOf b a)) ≡ gives (overlapOf a b)
+unfolding turnedOf overlapOf overlapAt
+overlap-swap a b = rw (shared-swap b a) (go (sharedByte a b))
+  where
+    go : (o : Option ℕ) → turnedOf (gives (fromOption none (λ (n : ℕ). some (overlapAt b a n)) o)) ≡ gives (fromOption none (λ (n : ℕ). some (overlapAt a b n)) o)
+    go none = refl
+    go (some n) = refl

@@ -1,6 +1,6 @@
 -- The first pair of near elements of two ranges gives the lowest byte that both touch.
 use Prim.Native.Nat.{ℕ, _+_, _*_, _-_, _<_, _≤_, max}
-use mathlib.Core.Path.{_≡_, sym, ap, _∙_}
+use mathlib.Core.Path.{_≡_, sym, ap, subst, _∙_}
 use mathlib.Core.Bool.{true, false}
 use mathlib.Core.Option.{none, some}
 use native.Mathlib.Nat.{mul-le-mul-right}
@@ -11,16 +11,17 @@ use Rattle.bundle.specs.Answer.{gives}
 use Rattle.bundle.specs.Commands.{rangeOk, lastByte}
 use Rattle.bundle.specs.declared.command.Range.{Range}
 use Rattle.bundle.proofs.Tests.{both, and-left, and-right, not-both}
-use Rattle.bundle.proofs.Ranges.{range-parts}
-use Rattle.order.specs.Ranges.{Touches, sharedByte, overlapOf, sharedOf}
-use Rattle.order.specs.Pairs.{touchesSome, Near, PairFits, InOrder, PairOf, pairByte, lowestOf, overlapBy}
+use Rattle.bundle.proofs.Ranges.{range-parts, size-within}
+use Rattle.order.specs.Ranges.{Touches, Covers, sharedByte, overlapOf, sharedOf}
+use Rattle.order.specs.Pairs.{touchesSome, Near, PairFits, InOrder, PairOf, pairByte, lowestOf, pairMeeting, MeetingOf}
 use Rattle.order.specs.declared.range.ElementPair.{ElementPair}
 use Rattle.order.specs.declared.range.ElementPair.the-variants as Pr
 use Rattle.order.specs.declared.range.Lowest.{Lowest}
 use Rattle.order.specs.declared.range.Lowest.the-variants as Lo
-use Rattle.order.specs.declared.range.Overlap.{Overlap}
+use Rattle.order.specs.declared.range.Meeting.{Meeting}
+use Rattle.order.specs.declared.range.Meeting.the-variants as Mee
 use Rattle.order.proofs.SharedByte.{SharedIs, shared-unique, shared-some}
-use Rattle.order.proofs.Elements.{overlap-by, overlap-some, overlap-none}
+use Rattle.order.proofs.Elements.{touched-covers, met-at, met-nowhere}
 
 module _ (lower upper : Range) (o : InOrder lower upper) where
   -- the upper range's first byte lies in the lower range's first element
@@ -46,6 +47,20 @@ module _ (lower upper : Range) (o : InOrder lower upper) where
         lowest = λ byte below s t. omega (arith, t .at);
       })
 
+  -- and both first elements cover it
+  pub base-met : upper .base - lower .base < lower .size → MeetingOf lower upper (Mee.At (upper .base) 0 0)
+  base-met near = (
+    shared-some lower upper (upper .base) (sym (base-shared near)),
+    record {
+      covers = record { element-below = o .lower-counted; from = omega (arith, o .bases); to = omega arith };
+      lowest = λ k below c. omega arith;
+    },
+    record {
+      covers = record { element-below = o .upper-counted; from = omega arith; to = omega (arith, o .upper-sized) };
+      lowest = λ k below c. omega arith;
+    },
+  )
+
   module _ (apart : lower .size ≤ upper .base - lower .base) where
     abbrev NearElements : ℕ → ℕ → Type 0
     NearElements =
@@ -55,13 +70,16 @@ module _ (lower upper : Range) (o : InOrder lower upper) where
         (upper .base - lower .base - (lower .size - 1))
         (upper .base - lower .base + (upper .size - 1))
 
-    -- elements that share a byte are near
-    near-elements : (byte : ℕ) (s : Touches lower byte) (t : Touches upper byte) → NearElements (s .element) (t .element)
-    near-elements byte s t =
+    -- elements that cover one byte are near
+    near-covers : (byte : ℕ) {i j : ℕ} → Covers lower byte i → Covers upper byte j → NearElements i j
+    near-covers byte c d =
         record {
-          from = omega (arith, s .at, t .at, s .within-below, o .bases);
-          to = omega (arith, s .at, t .at, t .within-below, o .bases);
+          from = omega (arith, c .from, c .to, d .from, d .to, o .bases);
+          to = omega (arith, c .from, c .to, d .from, d .to, o .bases);
         }
+
+    near-elements : (byte : ℕ) (s : Touches lower byte) (t : Touches upper byte) → NearElements (s .element) (t .element)
+    near-elements byte s t = near-covers byte (touched-covers lower byte s) (touched-covers upper byte t)
 
     pair-least : (pair : ElementPair) → PairOf lower upper pair → SharedIs lower upper (lowestOf (pairByte pair lower upper))
     unfolding pairByte
@@ -97,6 +115,28 @@ module _ (lower upper : Range) (o : InOrder lower upper) where
     pair-least Pr.Nothing h =
         λ byte s t. h (s .element) (t .element) (s .element-below) (t .element-below) (near-elements byte s t)
 
+    -- a lower element that covered the byte would make a pair before the first
+    pub pair-met : {r : Meeting} (pair : ElementPair) → PairOf lower upper pair → r ≡ pairMeeting pair lower upper → MeetingOf lower upper r
+    unfolding pairMeeting pairByte
+    pair-met pair h e = subst (MeetingOf lower upper) (sym e) (go pair h (pair-least pair h))
+      where
+        go : (p : ElementPair) → PairOf lower upper p → SharedIs lower upper (lowestOf (pairByte p lower upper)) → MeetingOf lower upper (pairMeeting p lower upper)
+        go (Pr.Elements i j) l s =
+            let w : ℕ = max (lower .base + i * lower .stride) (upper .base + j * upper .stride) in
+            let one : Covers lower w i = record { element-below = l .one-below; from = omega arith; to = omega (arith, l .near .from, o .lower-sized, o .bases) } in
+            let other : Covers upper w j = record { element-below = l .other-below; from = omega arith; to = omega (arith, l .near .to, o .upper-sized, o .bases) } in (
+              s,
+              record {
+                covers = one;
+                lowest = λ k below c. omega (arith, l .least k j (c .element-below) (l .other-below) (near-covers w c other) .0);
+              },
+              record {
+                covers = other;
+                lowest = λ k below c. omega (arith, l .least i k (l .one-below) (c .element-below) (near-covers w one c) .1);
+              },
+            )
+        go Pr.Nothing l s = s
+
     pub pair-shared : {r : Lowest} (pair : ElementPair) → PairOf lower upper pair → r ≡ pairByte pair lower upper
         → lowestOf r ≡ sharedByte lower upper
     pair-shared pair h e =
@@ -121,6 +161,20 @@ module _ {pair : ElementPair} (lower upper : Range) where
   pub byte-nothing : pair ≡ Pr.Nothing → Lo.Nothing ≡ pairByte pair lower upper
   unfolding pairByte
   byte-nothing e = sym (ap (λ p. pairByte p lower upper) e)
+
+-- the meeting of a pair
+module _ {pair : ElementPair} (lower upper : Range) where
+  pub met-pair : {one other start upper-start byte : ℕ} → pair ≡ Pr.Elements one other
+      → start ≡ lower .base + one * lower .stride
+      → upper-start ≡ upper .base + other * upper .stride
+      → byte ≡ max start upper-start
+      → Mee.At byte one other ≡ pairMeeting pair lower upper
+  unfolding pairMeeting
+  met-pair e s t m = cc
+
+  pub met-nothing : pair ≡ Pr.Nothing → Mee.Nothing ≡ pairMeeting pair lower upper
+  unfolding pairMeeting
+  met-nothing e = sym (ap (λ p. pairMeeting p lower upper) e)
 
 -- a range that touches no byte
 touch-some : (r : Range) (byte : ℕ) → Touches r byte → touchesSome r ≡ true
@@ -161,18 +215,35 @@ module _ (a b : Range) (ok : (rangeOk a ≡ true) × (rangeOk b ≡ true)) where
   unfolding sharedOf
   shared-given = simp (ok .0, ok .1)
 
-  module _ {lowest : Lowest} (e : lowestOf lowest ≡ sharedByte a b) where
-    byte-shared : {byte : ℕ} → lowest ≡ Lo.Byte byte → sharedByte a b ≡ some byte
-    byte-shared h = sym e ∙ ap lowestOf h
+  pub valid-order : a .base ≤ b .base → InOrder a b
+  valid-order h =
+      let p = range-parts a (ok .0) in
+      let q = range-parts b (ok .1) in
+      record {
+        lower-counted = p .counted;
+        lower-sized = size-within (a .size) (p .sized) .0;
+        upper-counted = q .counted;
+        upper-sized = size-within (b .size) (q .sized) .0;
+        bases = h;
+      }
 
-    pub shared-fits : {byte : ℕ} → lowest ≡ Lo.Byte byte → byte < 4294967296
-    shared-fits {byte} h = touch-fits a byte (ok .0) (shared-some a b byte (byte-shared h) .one)
+-- what the code makes of a meeting
+pub count-fits : {element count : ℕ} → count < 65536 → element < count → element < 4294967296
+count-fits h l = omega arith
 
-    pub byte-answer : {byte : ℕ} {o : Overlap} → lowest ≡ Lo.Byte byte → o ≡ overlapBy a b byte → gives (some o) ≡ sharedOf a b
-    byte-answer {byte} {o} h f =
-        ap (λ (x : Overlap). gives (some x)) (f ∙ overlap-by a b byte (shared-some a b byte (byte-shared h)))
-        ∙ ap gives (sym (overlap-some a b (byte-shared h)))
-        ∙ sym shared-given
+module _ (a b : Range) {m : Meeting} (h : MeetingOf a b m) where
+  module _ {byte one other : ℕ} (e : m ≡ Mee.At byte one other) where
+    met : MeetingOf a b (Mee.At byte one other)
+    met = subst (MeetingOf a b) e h
 
-    pub nothing-answer : lowest ≡ Lo.Nothing → gives none ≡ sharedOf a b
-    nothing-answer h = ap gives (sym (overlap-none a b (sym e ∙ ap lowestOf h))) ∙ sym shared-given
+    pub byte-fits : rangeOk a ≡ true → byte < 4294967296
+    byte-fits ok = touch-fits a byte ok (met .0 .one)
+
+    pub elements-below : (one < a .count) × (other < b .count)
+    elements-below = (met .1 .covers .element-below, met .2 .covers .element-below)
+
+    pub meeting-told : gives (some (record { byte = byte; «first_element» = one; «second_element» = other })) ≡ gives (overlapOf a b)
+    meeting-told = ap gives (met-at a b (met .0) (met .1) (met .2))
+
+  pub nothing-told : m ≡ Mee.Nothing → gives none ≡ gives (overlapOf a b)
+  nothing-told e = ap gives (met-nowhere a b (subst (MeetingOf a b) e h))

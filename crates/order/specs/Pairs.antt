@@ -4,7 +4,11 @@ use mathlib.Core.Bool.{Bool, cond, _&&_, _||_}
 use mathlib.Core.Option.{Option, none, some}
 use lib.Dec.{eqb, leb, ltb}
 use Rattle.bundle.specs.declared.command.Range.{Range}
+use Rattle.bundle.specs.Answer.{Answer, gives, refuses}
+use Rattle.order.specs.Ranges.{Touches, LeastShared, LowestElement}
 use Rattle.order.specs.declared.range.Overlap.{Overlap}
+use Rattle.order.specs.declared.range.Meeting.{Meeting}
+use Rattle.order.specs.declared.range.Meeting.the-variants as Mee
 use Rattle.order.specs.declared.range.ElementPair.{ElementPair}
 use Rattle.order.specs.declared.range.ElementPair.the-variants as Pr
 use Rattle.order.specs.declared.range.Lowest.{Lowest}
@@ -95,9 +99,26 @@ lowestOf Lo.Nothing = none
 unfoldable pub elementFrom : ℕ → ℕ → ℕ → ℕ
 elementFrom end stride byte = cond (ltb byte end) 0 (cond (eqb stride 0 || eqb end 0) 0 ((byte - end) / stride + 1))
 
--- the same for a range, and for both of two
+-- the same for a range
 abbrev pub elementBy : Range → ℕ → ℕ
 elementBy r byte = elementFrom (r .base + r .size) (r .stride) byte
 
-abbrev pub overlapBy : Range → Range → ℕ → Overlap
-overlapBy a b byte = record { byte = byte; «first_element» = elementBy a byte; «second_element» = elementBy b byte }
+-- the first byte that both elements of a pair touch, and the pair
+unfoldable pub pairMeeting : ElementPair → Range → Range → Meeting
+pairMeeting (Pr.Elements one other) lower upper =
+    Mee.At (max (lower .base + one * lower .stride) (upper .base + other * upper .stride)) one other
+pairMeeting Pr.Nothing lower upper = Mee.Nothing
+
+-- the lowest byte that two ranges share and the lowest elements that cover it, or that there is none
+abbrev pub MeetingOf : Range → Range → Meeting → Type 0
+MeetingOf a b (Mee.At byte one other) = LeastShared a b byte × LowestElement a byte one × LowestElement b byte other
+MeetingOf a b Mee.Nothing = (byte : ℕ) → Touches a byte → Touches b byte → ⊥
+
+-- the answer for two ranges in the other order
+abbrev pub turnedOver : Overlap → Overlap
+turnedOver o = record { byte = o .byte; «first_element» = o .«second_element»; «second_element» = o .«first_element» }
+
+unfoldable pub turnedOf : Answer (Option Overlap) → Answer (Option Overlap)
+turnedOf (gives none) = gives none
+turnedOf (gives (some o)) = gives (some (turnedOver o))
+turnedOf (refuses number place) = refuses number place

@@ -7,7 +7,8 @@ ghost use mathlib.Core.Bool.{true, _||_};
 ghost use lib.Dec.{eqb};
 ghost use Prim.Native.Nat.{_+_, _-_, _*_, _≤_, _<_, max};
 ghost use Rattle.bundle.specs.Commands.{rangeOk};
-ghost use Rattle.order.specs.Ranges.{sharedByte, sharedOf, sharingOf};
+ghost use Rattle.bundle.specs.Answer.{gives};
+ghost use Rattle.order.specs.Ranges.{sharedByte, overlapOf, sharedOf, sharingOf};
 ghost use Rattle.order.specs.Pairs.{
   touchesSome,
   FirstFrom,
@@ -21,7 +22,9 @@ ghost use Rattle.order.specs.Pairs.{
   lowestOf,
   elementFrom,
   elementBy,
-  overlapBy,
+  pairMeeting,
+  MeetingOf,
+  turnedOf,
 };
 
 // The lowest byte that two ranges share, and the lowest element of each that covers it.
@@ -41,6 +44,12 @@ pub enum Shared {
 // The lowest byte that two ranges of any field values share.
 pub enum Lowest {
     Byte(u64),
+    Nothing,
+}
+
+// The lowest byte that two ranges share, and the lowest element of each that covers it.
+enum Meeting {
+    At { byte: u64, one: u64, other: u64 },
     Nothing,
 }
 
@@ -221,26 +230,80 @@ pub fn element_at(range: Range, byte: u32) -> u32
     element_from(range.base as u64 + range.size as u64, range.stride, byte)
 }
 
-fn overlap_at(first: Range, second: Range, byte: u32) -> Overlap
-    ensures { λ r. ⌜ r ≡ overlapBy first second byte ⌝ }
+// The first byte that both elements of a pair touch, and the pair.
+fn meeting_of_pair(pair: ElementPair, lower: Range, upper: Range) -> Meeting
+    requires { ⌜ PairFits pair ⌝ }
+    ensures { λ r. ⌜ r ≡ pairMeeting pair lower upper ⌝ }
 {
-    Overlap {
-        byte,
-        first_element: element_at(first, byte),
-        second_element: element_at(second, byte),
+    match pair {
+        ElementPair::Elements { one, other } => Meeting::At {
+            byte: larger(start_of(lower, one), start_of(upper, other)),
+            one,
+            other,
+        },
+        ElementPair::Nothing => Meeting::Nothing,
     }
 }
 
-// The lowest byte that two ranges that are in range share.
+// The lowest byte that both ranges touch, the one with the lower base first, with the lowest element of each that covers it: those of the first
+// pair, since a lower element that covered the byte would make a pair before it.
+fn meet_in_order(lower: Range, upper: Range) -> Meeting
+    requires { ⌜ InOrder lower upper ⌝ }
+    ensures { λ r. ⌜ MeetingOf lower upper r ⌝ }
+{
+    let distance = upper.base - lower.base;
+    if distance < lower.size as u32 {
+        return Meeting::At {
+            byte: upper.base as u64,
+            one: 0,
+            other: 0,
+        };
+    }
+    let pair = pair_of(lower, upper);
+    meeting_of_pair(pair, lower, upper)
+}
+
+// The answer for two ranges that are in range, the one with the lower base first.
+fn shared_upward(lower: Range, upper: Range) -> Shared
+    requires { ⌜ (rangeOk lower ≡ true) × (rangeOk upper ≡ true) × (lower .base ≤ upper .base) ⌝ }
+    ensures { λ r. ⌜ sharingOf r ≡ gives (overlapOf lower upper) ⌝ }
+{
+    match meet_in_order(lower, upper) {
+        Meeting::At { byte, one, other } => Shared::Byte(Overlap {
+            byte: byte as u32,
+            first_element: one as u32,
+            second_element: other as u32,
+        }),
+        Meeting::Nothing => Shared::Nothing,
+    }
+}
+
+// The answer for the two ranges in the other order.
+fn turned(shared: Shared) -> Shared
+    ensures { λ r. ⌜ sharingOf r ≡ turnedOf (sharingOf shared) ⌝ }
+{
+    match shared {
+        Shared::Byte(overlap) => Shared::Byte(Overlap {
+            byte: overlap.byte,
+            first_element: overlap.second_element,
+            second_element: overlap.first_element,
+        }),
+        Shared::Nothing => Shared::Nothing,
+        Shared::Refused { place, cause } => Shared::Refused { place, cause },
+    }
+}
+
+// The answer for two ranges that are in range.
 fn shared_of_valid(first: Range, second: Range) -> Shared
     requires { ⌜ (rangeOk first ≡ true) × (rangeOk second ≡ true) ⌝ }
     ensures { λ r. ⌜ sharingOf r ≡ sharedOf first second ⌝ }
 {
-    let lowest = shared_byte(first, second);
-    match lowest {
-        Lowest::Byte(byte) => Shared::Byte(overlap_at(first, second, byte as u32)),
-        Lowest::Nothing => Shared::Nothing,
+    let base = first.base;
+    let other = second.base;
+    if base <= other {
+        return shared_upward(first, second);
     }
+    turned(shared_upward(second, first))
 }
 
 // The lowest byte that both ranges touch, with the lowest element of each that covers it, or that there is none; 5 at 1 or 2 for the first bad

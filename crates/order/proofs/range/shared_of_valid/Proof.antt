@@ -1,34 +1,31 @@
 -- `order::range::shared_of_valid` meets its contract. Assumes nothing.
 use borrow.Author.Needs.{needs}
-use Rattle.order.proofs.PairBytes.{shared-fits, byte-answer, nothing-answer}
+use mathlib.Core.Path.{sym, ap, _∙_}
+use Rattle.order.specs.Pairs.{turnedOf}
+use Rattle.order.proofs.Elements.{overlap-swap}
+use Rattle.order.proofs.PairBytes.{shared-given}
 use Rattle.order.proofs.range.shared_of_valid.Statement.{statement}
 use Rattle.order.proofs.range.shared_of_valid.Tie as tie
 
-cast-overlap-at : tie.Need-cast-overlap-at
-cast-overlap-at c =
-    record {
-      fits =
-          shared-fits _ _ (c .before .before .before .before .pre) (c .before .before .before .shared-byte .ensures)
-          (c .before .lowest .given .1);
-    }
-
 returns : tie.Need-returns
-returns c =
-    byte-answer _ _ (c .before .before .before .before .before .pre) (c .before .before .before .before .shared-byte .ensures)
-    (c .before .before .lowest .given .1) (c .overlap-at .ensures)
+returns c = c .shared-upward .ensures ∙ sym (shared-given _ _ (c .before .before .pre))
+
+shared-upward-requires-2 : tie.Need-shared-upward-requires-2
+shared-upward-requires-2 c κs = (c .before .pre .1, c .before .pre .0, search needs)
 
 returns-2 : tie.Need-returns-2
 returns-2 c =
-    nothing-answer _ _ (c .before .before .before .pre) (c .before .before .shared-byte .ensures) (c .enum-told .given .1)
+    c .turned .ensures
+    ∙ ap turnedOf (c .before .shared-upward2 .ensures)
+    ∙ overlap-swap _ _
+    ∙ sym (shared-given _ _ (c .before .before .before .pre))
 
 pub shared-of-valid-spec : {M : Type 1} → statement M
 shared-of-valid-spec =
     tie.close
     (tie.spec
-    (λ c κs. search needs)
-    (λ c. search needs)
-    cast-overlap-at
-    (λ c κs. tt)
-    (λ c. search needs)
+    (λ c κs. (c .before .pre .0, c .before .pre .1, c .if1 .taken))
     returns
+    shared-upward-requires-2
+    (λ c κs. tt)
     returns-2)
