@@ -1,6 +1,6 @@
 -- The lowest element of a range that covers a byte: the definition meets the relation, the relation leaves one answer, and one division finds it.
 use Prim.Native.Nat.{ℕ, _+_, _*_, _-_, _/_, _<_, _≤_}
-use mathlib.Core.Path.{_≡_, refl, sym, ap, ap₂, _∙_}
+use mathlib.Core.Path.{_≡_, refl, sym, ap, ap₂, subst, _∙_}
 use mathlib.Core.Logic.{⊎-elim}
 use mathlib.Core.Bool.{Bool, true, false, cond, _||_}
 use mathlib.Core.List.{List, List·Memᴰ}
@@ -18,7 +18,7 @@ use Rattle.order.specs.Ranges.{Touches, LeastShared, Covers, LowestEleme
 use Rattle.order.specs.SharedBytes.{least, sharedByte, covers, lowestElement, overlapAt, overlapOf}
 use Rattle.order.specs.Pairs.{elementFrom, elementBy, turnedOf}
 use Rattle.order.specs.declared.range.Overlap.{Overlap}
-use Rattle.order.proofs.SharedByte.{LeastIs, least-is, shared-is, shared-unique, shared-swap}
+use Rattle.order.proofs.SharedByte.{LeastIs, least-is, shared-some, shared-is, shared-unique, shared-swap}
 
 -- where there are more elements than element 0
 more-elements : (end stride : ℕ) {t : Bool} → t ≡ (eqb stride 0 || eqb end 0) → t ≡ false → (1 ≤ stride) × (1 ≤ end)
@@ -158,6 +158,28 @@ module _ (a b : Range) where
   pub overlap-none : sharedByte a b ≡ none → overlapOf a b ≡ none
   unfolding overlapOf
   overlap-none e = ap (fromOption none (λ (n : ℕ). some (overlapAt a b n))) e
+
+  -- what the answer means
+  pub overlap-means :
+      {o : Overlap}
+      → overlapOf a b ≡ some o
+      → LeastShared a b (o .byte) × LowestElement a (o .byte) (o .«first_element») × LowestElement b (o .byte) (o .«second_element»)
+  unfolding overlapOf overlapAt
+  overlap-means {o} e = go (sharedByte a b) refl e
+    where
+      go :
+          (s : Option ℕ)
+          → sharedByte a b ≡ s
+          → fromOption none (λ (n : ℕ). some (overlapAt a b n)) s ≡ some o
+          → LeastShared a b (o .byte) × LowestElement a (o .byte) (o .«first_element») × LowestElement b (o .byte) (o .«second_element»)
+      go none q h = absurd (let z : _≡_ {A = ℕ} 0 1 = cc in omega arith)
+      go (some n) q h =
+          let same : overlapAt a b n ≡ o = cc in
+          let s = shared-some a b n q in
+          subst
+          (λ (x : Overlap). LeastShared a b (x .byte) × LowestElement a (x .byte) (x .«first_element») × LowestElement b (x .byte) (x .«second_element»))
+          same
+          (s, element-lowest a n (s .one), element-lowest b n (s .other))
 
   -- what is found is the overlap
   pub met-at :

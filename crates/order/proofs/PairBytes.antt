@@ -1,4 +1,4 @@
--- The first pair of near elements of two ranges gives the lowest byte that both touch.
+-- The first pair of near elements of two ranges gives the lowest byte that both touch, and is the lowest element of each that covers it.
 use Prim.Native.Nat.{ℕ, _+_, _*_, _-_, _<_, _≤_, max}
 use mathlib.Core.Path.{_≡_, sym, ap, subst, _∙_}
 use mathlib.Core.Bool.{true, false}

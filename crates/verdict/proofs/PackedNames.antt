@@ -7,10 +7,9 @@ use native.Mathlib.Omega.{arith}
 use lib.Dec.{eqb, ltb}
 use borrow.Author.Tests.{ltb-true, ltb-false, eqb-true, eqb-false, lt-ltb, le-ltb, eq-eqb, ne-eqb}
 use Rattle.bundle.proofs.Tests.{decide}
-use Rattle.verdict.specs.Accesses.{lexLess, nameKey, nameBelow, keyOf, raceKey}
+use Rattle.verdict.specs.Accesses.{lexLess, nameKey, nameBelow, keyOf}
 use Rattle.verdict.specs.Tallying.{packed, NameFits, PackedAs, packedLess, packedKey, KeyPackedAs, SideOf}
 use Rattle.verdict.specs.declared.race.Name.{Name}
-use Rattle.verdict.specs.declared.race.Race.{Race}
 use Rattle.verdict.specs.declared.pairs.Packed.{Packed}
 
 module _ (t m n t′ m′ n′ : ℕ) (rest : Bool) (hm : m < 256) (hn : n < 65536) (hm′ : m′ < 256) (hn′ : n′ < 65536) where

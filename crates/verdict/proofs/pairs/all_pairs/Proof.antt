@@ -3,7 +3,6 @@ use mathlib.Core.Path.{_≡_, ap, _∙_}
 use Prim.Native.Nat.{_≤_, _-_}
 use Rattle.verdict.specs.Tallying.{tallyIn, tallyAll}
 use Rattle.verdict.specs.declared.race.Race.{Race}
-use Rattle.verdict.specs.declared.pairs.Tally.{Tally}
 use Rattle.verdict.proofs.PairCases.{all-fit, all-more, all-all}
 use borrow.Author.Needs.{needs}
 use Rattle.verdict.proofs.pairs.all_pairs.Statement.{statement}
