@@ -12,15 +12,14 @@ use Rattle.bundle.specs.Commands.{rangeOk, lastByte}
 use Rattle.bundle.specs.declared.command.Range.{Range}
 use Rattle.bundle.proofs.Tests.{both, and-left, and-right, not-both}
 use Rattle.bundle.proofs.Ranges.{range-parts, size-within}
-use Rattle.order.specs.Ranges.{Touches, Covers, sharedByte, overlapOf, sharedOf}
-use Rattle.order.specs.Pairs.{touchesSome, Near, PairFits, InOrder, PairOf, pairByte, lowestOf, pairMeeting, MeetingOf}
+use Rattle.order.specs.Ranges.{Touches, LeastShared, Covers, sharedByte, overlapOf, sharedOf}
+use Rattle.order.specs.Pairs.{touchesSome, Near, PairFits, InOrder, PairOf, lowestOf, pairMeeting, meetingByte, MeetingOf}
 use Rattle.order.specs.declared.range.ElementPair.{ElementPair}
 use Rattle.order.specs.declared.range.ElementPair.the-variants as Pr
 use Rattle.order.specs.declared.range.Lowest.{Lowest}
-use Rattle.order.specs.declared.range.Lowest.the-variants as Lo
 use Rattle.order.specs.declared.range.Meeting.{Meeting}
 use Rattle.order.specs.declared.range.Meeting.the-variants as Mee
-use Rattle.order.proofs.SharedByte.{SharedIs, shared-unique, shared-some}
+use Rattle.order.proofs.SharedByte.{shared-unique, shared-some}
 use Rattle.order.proofs.Elements.{touched-covers, met-at, met-nowhere}
 
 module _ (lower upper : Range) (o : InOrder lower upper) where
@@ -81,9 +80,10 @@ module _ (lower upper : Range) (o : InOrder lower upper) where
     near-elements : (byte : ℕ) (s : Touches lower byte) (t : Touches upper byte) → NearElements (s .element) (t .element)
     near-elements byte s t = near-covers byte (touched-covers lower byte s) (touched-covers upper byte t)
 
-    pair-least : (pair : ElementPair) → PairOf lower upper pair → SharedIs lower upper (lowestOf (pairByte pair lower upper))
-    unfolding pairByte
-    pair-least (Pr.Elements i j) l =
+    pair-least :
+        (i j : ℕ) → PairOf lower upper (Pr.Elements i j)
+        → LeastShared lower upper (max (lower .base + i * lower .stride) (upper .base + j * upper .stride))
+    pair-least i j l =
         let start : ℕ = lower .base + i * lower .stride in
         let other-start : ℕ = upper .base + j * upper .stride in
         record {
@@ -112,20 +112,18 @@ module _ (lower upper : Range) (o : InOrder lower upper) where
             → (s : Touches lower byte) (t : Touches upper byte) → (i ≤ s .element) × (j ≤ t .element) → ⊥
         not-lower byte below s t h =
             omega (arith, s .at, t .at, mul-le-mul-right (lower .stride) (h .0), mul-le-mul-right (upper .stride) (h .1))
-    pair-least Pr.Nothing h =
-        λ byte s t. h (s .element) (t .element) (s .element-below) (t .element-below) (near-elements byte s t)
 
     -- a lower element that covered the byte would make a pair before the first
     pub pair-met : {r : Meeting} (pair : ElementPair) → PairOf lower upper pair → r ≡ pairMeeting pair lower upper → MeetingOf lower upper r
-    unfolding pairMeeting pairByte
-    pair-met pair h e = subst (MeetingOf lower upper) (sym e) (go pair h (pair-least pair h))
+    unfolding pairMeeting
+    pair-met pair h e = subst (MeetingOf lower upper) (sym e) (go pair h)
       where
-        go : (p : ElementPair) → PairOf lower upper p → SharedIs lower upper (lowestOf (pairByte p lower upper)) → MeetingOf lower upper (pairMeeting p lower upper)
-        go (Pr.Elements i j) l s =
+        go : (p : ElementPair) → PairOf lower upper p → MeetingOf lower upper (pairMeeting p lower upper)
+        go (Pr.Elements i j) l =
             let w : ℕ = max (lower .base + i * lower .stride) (upper .base + j * upper .stride) in
             let one : Covers lower w i = record { element-below = l .one-below; from = omega arith; to = omega (arith, l .near .from, o .lower-sized, o .bases) } in
             let other : Covers upper w j = record { element-below = l .other-below; from = omega arith; to = omega (arith, l .near .to, o .upper-sized, o .bases) } in (
-              s,
+              pair-least i j l,
               record {
                 covers = one;
                 lowest = λ k below c. omega (arith, l .least k j (c .element-below) (l .other-below) (near-covers w c other) .0);
@@ -135,32 +133,14 @@ module _ (lower upper : Range) (o : InOrder lower upper) where
                 lowest = λ k below c. omega (arith, l .least i k (l .one-below) (c .element-below) (near-covers w one c) .1);
               },
             )
-        go Pr.Nothing l s = s
-
-    pub pair-shared : {r : Lowest} (pair : ElementPair) → PairOf lower upper pair → r ≡ pairByte pair lower upper
-        → lowestOf r ≡ sharedByte lower upper
-    pair-shared pair h e =
-        ap lowestOf e ∙ shared-unique lower upper (lowestOf (pairByte pair lower upper)) (pair-least pair h)
+        go Pr.Nothing l =
+            λ byte s t. l (s .element) (t .element) (s .element-below) (t .element-below) (near-elements byte s t)
 
 -- the elements of a pair are below the counts
 pub pair-of-fits : (lower upper : Range) (pair : ElementPair) → PairOf lower upper pair → lower .count < 65536 → upper .count < 65536
     → PairFits pair
 pair-of-fits lower upper (Pr.Elements one other) l hl hu = (omega (arith, l .one-below), omega (arith, l .other-below))
 pair-of-fits lower upper Pr.Nothing h hl hu = tt
-
--- the byte of a pair
-module _ {pair : ElementPair} (lower upper : Range) where
-  pub byte-some : {one other start upper-start byte : ℕ} → pair ≡ Pr.Elements one other
-      → start ≡ lower .base + one * lower .stride
-      → upper-start ≡ upper .base + other * upper .stride
-      → byte ≡ max start upper-start
-      → Lo.Byte byte ≡ pairByte pair lower upper
-  unfolding pairByte
-  byte-some e s t m = cc
-
-  pub byte-nothing : pair ≡ Pr.Nothing → Lo.Nothing ≡ pairByte pair lower upper
-  unfolding pairByte
-  byte-nothing e = sym (ap (λ p. pairByte p lower upper) e)
 
 -- the meeting of a pair
 module _ {pair : ElementPair} (lower upper : Range) where
@@ -175,6 +155,14 @@ module _ {pair : ElementPair} (lower upper : Range) where
   pub met-nothing : pair ≡ Pr.Nothing → Mee.Nothing ≡ pairMeeting pair lower upper
   unfolding pairMeeting
   met-nothing e = sym (ap (λ p. pairMeeting p lower upper) e)
+
+-- its byte
+pub meeting-shared : (a b : Range) (m : Meeting) {l : Lowest} → MeetingOf a b m → l ≡ meetingByte m → lowestOf l ≡ sharedByte a b
+meeting-shared a b m h e = ap lowestOf e ∙ go m h
+  where
+    go : (n : Meeting) → MeetingOf a b n → lowestOf (meetingByte n) ≡ sharedByte a b
+    go (Mee.At byte one other) k = shared-unique a b (some byte) (k .0)
+    go Mee.Nothing k = shared-unique a b none k
 
 -- a range that touches no byte
 touch-some : (r : Range) (byte : ℕ) → Touches r byte → touchesSome r ≡ true

@@ -84,12 +84,6 @@ PairOf lower upper =
     (lower .count)
     (upper .count)
 
--- the lowest byte that both elements of a pair touch
-unfoldable pub pairByte : ElementPair → Range → Range → Lowest
-pairByte (Pr.Elements one other) lower upper =
-    Lo.Byte (max (lower .base + one * lower .stride) (upper .base + other * upper .stride))
-pairByte Pr.Nothing lower upper = Lo.Nothing
-
 -- what the code's answer says
 abbrev pub lowestOf : Lowest → Option ℕ
 lowestOf (Lo.Byte n) = some n
@@ -103,7 +97,7 @@ elementFrom end stride byte = cond (ltb byte end) 0 (cond (eqb stride 0 || eqb e
 abbrev pub elementBy : Range → ℕ → ℕ
 elementBy r byte = elementFrom (r .base + r .size) (r .stride) byte
 
--- the first byte that both elements of a pair touch, and the pair
+-- the lowest byte that both elements of a pair touch, and the pair
 unfoldable pub pairMeeting : ElementPair → Range → Range → Meeting
 pairMeeting (Pr.Elements one other) lower upper =
     Mee.At (max (lower .base + one * lower .stride) (upper .base + other * upper .stride)) one other
@@ -113,6 +107,11 @@ pairMeeting Pr.Nothing lower upper = Mee.Nothing
 abbrev pub MeetingOf : Range → Range → Meeting → Type 0
 MeetingOf a b (Mee.At byte one other) = LeastShared a b byte × LowestElement a byte one × LowestElement b byte other
 MeetingOf a b Mee.Nothing = (byte : ℕ) → Touches a byte → Touches b byte → ⊥
+
+-- the byte alone
+abbrev pub meetingByte : Meeting → Lowest
+meetingByte (Mee.At byte one other) = Lo.Byte byte
+meetingByte Mee.Nothing = Lo.Nothing
 
 -- the answer for two ranges in the other order
 abbrev pub turnedOver : Overlap → Overlap

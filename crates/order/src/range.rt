@@ -18,11 +18,11 @@ ghost use Rattle.order.specs.Pairs.{
   InOrder,
   PairOf,
   outerOf,
-  pairByte,
   lowestOf,
   elementFrom,
   elementBy,
   pairMeeting,
+  meetingByte,
   MeetingOf,
   turnedOf,
 };
@@ -132,17 +132,18 @@ fn larger(one: u64, other: u64) -> u64
     if one < other { other } else { one }
 }
 
-// The lowest byte that both elements of a pair touch.
-fn byte_of_pair(pair: ElementPair, lower: Range, upper: Range) -> Lowest
+// The lowest byte that both elements of a pair touch, and the pair.
+fn meeting_of_pair(pair: ElementPair, lower: Range, upper: Range) -> Meeting
     requires { ⌜ PairFits pair ⌝ }
-    ensures { λ r. ⌜ r ≡ pairByte pair lower upper ⌝ }
+    ensures { λ r. ⌜ r ≡ pairMeeting pair lower upper ⌝ }
 {
     match pair {
-        ElementPair::Elements { one, other } => Lowest::Byte(larger(
-            start_of(lower, one),
-            start_of(upper, other),
-        )),
-        ElementPair::Nothing => Lowest::Nothing,
+        ElementPair::Elements { one, other } => Meeting::At {
+            byte: larger(start_of(lower, one), start_of(upper, other)),
+            one,
+            other,
+        },
+        ElementPair::Nothing => Meeting::Nothing,
     }
 }
 
@@ -165,17 +166,36 @@ fn pair_of(lower: Range, upper: Range) -> ElementPair
     )
 }
 
-// The lowest byte that both ranges touch, the one with the lower base first.
-fn shared_in_order(lower: Range, upper: Range) -> Lowest
+// The lowest byte that both ranges touch, the one with the lower base first, with the lowest element of each that covers it: those of the first
+// pair, since a lower element that covered the byte would make a pair before it.
+fn meet_in_order(lower: Range, upper: Range) -> Meeting
     requires { ⌜ InOrder lower upper ⌝ }
-    ensures { λ r. ⌜ lowestOf r ≡ sharedByte lower upper ⌝ }
+    ensures { λ r. ⌜ MeetingOf lower upper r ⌝ }
 {
     let distance = upper.base - lower.base;
     if distance < lower.size as u32 {
-        return Lowest::Byte(upper.base as u64);
+        return Meeting::At {
+            byte: upper.base as u64,
+            one: 0,
+            other: 0,
+        };
     }
     let pair = pair_of(lower, upper);
-    byte_of_pair(pair, lower, upper)
+    meeting_of_pair(pair, lower, upper)
+}
+
+// The byte of a meeting.
+fn byte_of(meeting: Meeting) -> Lowest
+    ensures { λ r. ⌜ r ≡ meetingByte meeting ⌝ }
+{
+    match meeting {
+        Meeting::At {
+            byte,
+            one: _,
+            other: _,
+        } => Lowest::Byte(byte),
+        Meeting::Nothing => Lowest::Nothing,
+    }
 }
 
 // Whether a range touches any byte.
@@ -198,9 +218,9 @@ pub fn shared_byte(first: Range, second: Range) -> Lowest
     let base = first.base;
     let other = second.base;
     if base <= other {
-        return shared_in_order(first, second);
+        return byte_of(meet_in_order(first, second));
     }
-    shared_in_order(second, first)
+    byte_of(meet_in_order(second, first))
 }
 
 // Whether a range has no element but element 0, or none at all.
@@ -228,39 +248,6 @@ pub fn element_at(range: Range, byte: u32) -> u32
     ensures { λ r. ⌜ r ≡ elementBy range byte ⌝ }
 {
     element_from(range.base as u64 + range.size as u64, range.stride, byte)
-}
-
-// The first byte that both elements of a pair touch, and the pair.
-fn meeting_of_pair(pair: ElementPair, lower: Range, upper: Range) -> Meeting
-    requires { ⌜ PairFits pair ⌝ }
-    ensures { λ r. ⌜ r ≡ pairMeeting pair lower upper ⌝ }
-{
-    match pair {
-        ElementPair::Elements { one, other } => Meeting::At {
-            byte: larger(start_of(lower, one), start_of(upper, other)),
-            one,
-            other,
-        },
-        ElementPair::Nothing => Meeting::Nothing,
-    }
-}
-
-// The lowest byte that both ranges touch, the one with the lower base first, with the lowest element of each that covers it: those of the first
-// pair, since a lower element that covered the byte would make a pair before it.
-fn meet_in_order(lower: Range, upper: Range) -> Meeting
-    requires { ⌜ InOrder lower upper ⌝ }
-    ensures { λ r. ⌜ MeetingOf lower upper r ⌝ }
-{
-    let distance = upper.base - lower.base;
-    if distance < lower.size as u32 {
-        return Meeting::At {
-            byte: upper.base as u64,
-            one: 0,
-            other: 0,
-        };
-    }
-    let pair = pair_of(lower, upper);
-    meeting_of_pair(pair, lower, upper)
 }
 
 // The answer for two ranges that are in range, the one with the lower base first.
