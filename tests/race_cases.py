@@ -72,7 +72,7 @@ LOCKED = [
         member 1 0; acquire 3; region 2 1; write 1 64 0 1 4; release 3; end
         member 1 1; acquire 3; write 2 64 0 1 4; release 3; end
         member 2 0; write 7 64 0 1 1; end""",
-            listing("4 6 3", "00000040 1.1.0 2 2.0.0 7")),
+            listing("4 6 3")),
 ]
 
 ORDERED = [

@@ -6,7 +6,9 @@ from collections import namedtuple
 
 from second_reader import ACQUIRE, BARRIER, REGION, RELEASE
 
-Access = namedtuple("Access", "name site writes atomic touched locks label")
+# held: of each chunk of the lineage, by team and member, the locks that it holds on the way to the access: at the REGION that
+# leads on to it, and the access's own chunk at the access
+Access = namedtuple("Access", "name site writes atomic touched held label")
 
 READ, WRITE, ATOMIC_READ, ATOMIC_WRITE = 0x30, 0x31, 0x32, 0x33
 
@@ -29,9 +31,14 @@ def race(first, second):
         first.touched.keys() & second.touched.keys()
         and (first.writes or second.writes)
         and not (first.atomic and second.atomic)
-        and not first.locks & second.locks
         and concurrent(first.label, second.label)
+        and not locks_apart(first, second) & locks_apart(second, first)
     )
+
+
+def locks_apart(access, other):
+    """The locks of the chunks of its lineage that are not in the other's."""
+    return set().union(*(locks for chunk, locks in access.held.items() if chunk not in other.held))
 
 
 def concurrent(label, other):
@@ -44,18 +51,19 @@ def concurrent(label, other):
 
 def all_accesses(chunks):
     """Outer teams first, so that the label of a forking segment is there before its team's labels."""
-    forks, found = {0: ((), 1)}, []  # of a team: the label of its forking segment, and its size
+    forks, found = {0: ((), 1, {})}, []  # of a team: the label of its forking segment, its size, and what is held around it
     for chunk in sorted(chunks, key=lambda chunk: chunk[0].operands[0]):
         team, member = chunk[0].operands
-        before, span = forks[team]
+        before, span, above = forks[team]
         barriers = regions = number = 0
         locks = frozenset()
         for code, operands in chunk[1:]:
             label = (*before, (member + span * regions, span, barriers))
+            held = {**above, (team, member): locks}
             if code == BARRIER:
                 barriers += 1
             elif code == REGION:
-                forks[operands[0]] = label, operands[1]
+                forks[operands[0]] = label, operands[1], held
                 regions += 1
             elif code == ACQUIRE:
                 locks |= {operands[0]}
@@ -64,7 +72,7 @@ def all_accesses(chunks):
             elif code in (READ, WRITE, ATOMIC_READ, ATOMIC_WRITE):
                 site, *touched = operands
                 kind = code in (WRITE, ATOMIC_WRITE), code in (ATOMIC_READ, ATOMIC_WRITE)
-                found.append(Access((team, member, number), site, *kind, elements_by_byte(*touched), locks, label))
+                found.append(Access((team, member, number), site, *kind, elements_by_byte(*touched), held, label))
                 number += 1
     return found
 

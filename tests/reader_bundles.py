@@ -10,7 +10,7 @@ from reader_commands import (
 MOST_BYTES, MOST_SEGMENTS, MOST_ACCESSES, MOST_DEPTH = 65536, 512, 1024, 4
 
 Segment = namedtuple("Segment", "regions barriers")  # joined and passed before it
-Fork = namedtuple("Fork", "offset team size chunk segment")  # a REGION; segment is the one it ends
+Fork = namedtuple("Fork", "offset team size chunk segment locks")  # a REGION; segment is the one it ends, locks are those held at it
 Access = namedtuple("Access", "name kind site range locks chunk segment")
 
 
@@ -124,7 +124,7 @@ def apply_command(chunk, command, offset):
     code, operands = command
     last = chunk.segments[-1]
     if code == REGION:
-        chunk.forks.append(Fork(offset, *operands, chunk, len(chunk.segments) - 1))
+        chunk.forks.append(Fork(offset, *operands, chunk, len(chunk.segments) - 1, frozenset(chunk.locks)))
         chunk.segments.append(Segment(last.regions + 1, last.barriers))
     elif code == BARRIER:
         chunk.segments.append(Segment(last.regions, last.barriers + 1))

@@ -1,4 +1,4 @@
-"""The fork-join graph, races, judge, next race and the text of racelist."""
+"""The fork-join graph, lineages with the locks held around regions, races, judge, next race and the text of racelist."""
 
 from collections import namedtuple
 from functools import lru_cache
@@ -55,11 +55,43 @@ def reached_from(edges, start):
     return reached
 
 
+# ---------------------------------------------------------------- lineages
+
+
+def lineage(bundle, chunk):
+    """The chunks above it from the root down, then itself."""
+    if chunk.team == 0:
+        return [chunk]
+    return [*lineage(bundle, bundle.fork_of[chunk.team].chunk), chunk]
+
+
+def parting(first, second):
+    """Where two lineages part into different members of one team: the place of that team in both, the root's being 0."""
+    pairs = enumerate(zip(first, second))
+    return next(place for place, (one, other) in pairs if one.team == other.team and one.member != other.member)
+
+
+def locks_counted(bundle, access, chunks, place):
+    """The access's own locks, and those that each chunk above it, down from this place of its lineage, held at the REGION
+    that leads on to the access."""
+    locks = set(access.locks)
+    for below in chunks[place + 1 :]:
+        locks |= bundle.fork_of[below.team].locks
+    return locks
+
+
+def common_locks(bundle, lineages, first, second):
+    """The locks that two unordered accesses both count."""
+    here, there = lineages[first.chunk], lineages[second.chunk]
+    place = parting(here, there)
+    return locks_counted(bundle, first, here, place) & locks_counted(bundle, second, there, place)
+
+
 # ------------------------------------------------------------------- races
 
 LEAST_WORDS = 16384
 
-Pair = namedtuple("Pair", "witness first second")  # two accesses that race, the lower name first
+Pair = namedtuple("Pair", "witness first second")  # two accesses that race or clash, the lower name first
 Race = namedtuple("Race", "witness first second first_site second_site first_element second_element")
 Judgement = namedtuple("Judgement", "chunks segments accesses races least")
 
@@ -91,12 +123,18 @@ def race_of(pair):
 
 def racing_pairs(bundle):
     """The pairs of all races, in the order of races."""
+    lineages = {chunk: lineage(bundle, chunk) for chunk in bundle.chunks}
+    return [pair for pair in clashing_pairs(bundle) if not common_locks(bundle, lineages, pair.first, pair.second)]
+
+
+def clashing_pairs(bundle):
+    """The pairs that meet every condition of a race but the one on locks, in the order of races."""
     edges = graph_edges(bundle)
     accesses = sorted(bundle.accesses(), key=lambda a: a.name)
     reach = {s: reached_from(edges, s) for s in {segment_of(a) for a in accesses}}
     pairs = []
     for first, second in combinations(accesses, 2):
-        witness = race_witness(reach, first, second)
+        witness = clash_witness(reach, first, second)
         if witness is not None:
             pairs.append(Pair(witness, first, second))
     return sorted(pairs, key=pair_key)
@@ -110,13 +148,11 @@ def race_key(race):
     return (race.witness, race.first, race.second)
 
 
-def race_witness(reach, first, second):
-    """The witness if the two accesses race, else None."""
+def clash_witness(reach, first, second):
+    """The witness if the two accesses race unless they count a common lock, else None."""
     if not (writes(first) or writes(second)):
         return None
     if is_atomic(first) and is_atomic(second):
-        return None
-    if first.locks & second.locks:
         return None
     here, there = segment_of(first), segment_of(second)
     if there in reach[here] or here in reach[there]:

@@ -4,8 +4,9 @@ Written from documents 00 and 01 alone. It is slow and plain on purpose.
 Every operation either returns its answer or raises Refused(number, place).
 The parts stand in reader_commands, reader_bundles, reader_order,
 reader_verdicts and reader_builds; this module gives all of their names.
-Of document 02's requests, rewriting (A.1) stands in reader_rewriting, and
-elements (A.2) in reader_order, carried by the races of reader_verdicts.
+Of document 02's requests, rewriting (A.1) stands in reader_rewriting,
+elements (A.2) in reader_order, carried by the races of reader_verdicts, and
+the locks held around a region (A.3) in reader_verdicts.
 """
 
 from reader_commands import *
