@@ -24,12 +24,16 @@ def short_aimed_bundles():
     return [data for data in aimed_bundles() if len(data) <= SHORT]
 
 
-def listed_bundles():
-    return [bundle(case.text) for case in race_cases.ALL]
+def listed_bundles(cases=race_cases.ALL):
+    return [bundle(case.text) for case in cases]
 
 
 def small_good(rng, count):
     return [generators.random_bundle(rng, generators.SMALL) for _ in range(count)]
+
+
+def locked_nests(rng, count):
+    return [generators.locked_nest_bundle(rng) for _ in range(count)]
 
 
 def small_damaged(rng, count):

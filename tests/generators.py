@@ -15,8 +15,10 @@ from second_reader import Command
 # most in a chunk; actions: most accesses and lock commands between two
 # segment openings; locks: how many are in use; addresses: how many bases;
 # far: whether some ranges are long or at the end of memory; dense: whether
-# ranges have many elements, most of which overlap each other.
-Style = namedtuple("Style", "depth sizes regions barriers actions locks addresses far segments accesses dense", defaults=[False])
+# ranges have many elements, most of which overlap each other; around:
+# whether locks are acquired just before a REGION and released behind it.
+Style = namedtuple(
+    "Style", "depth sizes regions barriers actions locks addresses far segments accesses dense around", defaults=[False, False])
 
 SMALL = Style(2, (1, 2, 2), 1, 1, 2, 2, 6, False, 14, 8)
 MIDDLE = Style(4, (1, 2, 2, 3), 2, 2, 3, 3, 12, False, 60, 80)
@@ -26,7 +28,8 @@ LOCKED = Style(2, (2, 3), 1, 2, 6, 2, 6, False, 40, 60)
 FAR = Style(3, (2, 3), 2, 2, 3, 2, 6, True, 60, 60)
 LARGE = Style(4, (2, 4, 8, 16), 3, 3, 4, 4, 64, False, 400, 800)
 QUIET = Style(4, (1, 2, 2, 3), 2, 2, 2, 2, 1500, False, 60, 60)
-STYLES = (SMALL, MIDDLE, NESTED, WIDE, LOCKED, FAR, QUIET)
+AROUND = Style(4, (1, 2, 2), 2, 1, 2, 2, 3, False, 48, 40, around=True)
+STYLES = (SMALL, MIDDLE, NESTED, WIDE, LOCKED, FAR, QUIET, AROUND)
 DENSE = Style(2, (2, 3), 1, 1, 3, 1, 100, False, 24, 16, dense=True)
 MANY_DENSE = DENSE._replace(actions=20, accesses=100)
 
@@ -68,7 +71,7 @@ class Maker:
         for code in openings:
             if code == sr.BARRIER:
                 chunk.append(Command(sr.BARRIER, ()))
-            elif not self.add_region(chunk, team, depth):
+            elif not self.add_region(chunk, held, team, depth):
                 continue
             self.add_actions(chunk, held)
         for lock in rng.sample(sorted(held), len(held)):
@@ -76,7 +79,7 @@ class Maker:
         chunk.append(Command(sr.END, ()))
         self.chunks.append(chunk)
 
-    def add_region(self, chunk, team, depth):
+    def add_region(self, chunk, held, team, depth):
         """Adds a REGION and its team if depth and segments allow it."""
         size = self.rng.choice(self.style.sizes)
         barriers = self.rng.randint(0, self.style.barriers)
@@ -86,9 +89,23 @@ class Maker:
             return False
         self.segments -= need
         self.teams.add(inner)
+        self.acquire_some(chunk, held)
         chunk.append(Command(sr.REGION, (inner, size)))
+        self.release_some(chunk, held)
         self.add_team(inner, size, barriers, depth + 1)
         return True
+
+    def acquire_some(self, chunk, held):
+        for lock in range(self.style.locks if self.style.around else 0):
+            if lock not in held and self.rng.randrange(3) == 0:
+                held.add(lock)
+                chunk.append(Command(sr.ACQUIRE, (lock,)))
+
+    def release_some(self, chunk, held):
+        for lock in sorted(held) if self.style.around else ():
+            if self.rng.randrange(3):
+                held.remove(lock)
+                chunk.append(Command(sr.RELEASE, (lock,)))
 
     def new_team(self, team):
         """A team number above the given one that is not in use."""
@@ -198,6 +215,75 @@ def inner_members(rng, team):
         if member == 0:
             body.insert(rng.randint(0, barriers), Command(sr.READ, (90, BASE, 0, 1, 1)))
         yield [Command(sr.MEMBER, (team, member)), *body, Command(sr.END, ())]
+
+
+# --------------------------------------------- locks held around regions
+
+
+class LockedNest:
+    """Makes one bundle: a team of two or three below up to three teams of one, whose members fork teams of one or two, down to
+    the same depth. Two locks are acquired and released between all REGIONs and accesses; most accesses share a byte."""
+
+    MOST_CHUNKS = 14
+
+    def __init__(self, rng):
+        self.rng = rng
+        self.depth = rng.choice((1, 2, 2, 3, 3, 4, 4))
+        self.parting = rng.randint(1, self.depth)  # the depth of the team of two or three
+        self.locks = rng.choice(((0, 1), (31, 32), (3, 63)))
+        self.last_team = 0
+        self.chunks = []
+
+    def make(self):
+        self.add_chunk(0, 0, 0)
+        return self.chunks
+
+    def add_chunk(self, team, member, depth):
+        chunk, held = [Command(sr.MEMBER, (team, member))], set()
+        self.chunks.append(chunk)
+        for size in self.forked_sizes(depth):
+            self.add_access(chunk, held, chance=4)
+            self.change_locks(chunk, held)
+            self.last_team += 1
+            inner = self.last_team
+            chunk.append(Command(sr.REGION, (inner, size)))
+            for number in range(size):
+                self.add_chunk(inner, number, depth + 1)
+        self.add_access(chunk, held, chance=1 if len(chunk) == 1 else 4)
+        chunk += [Command(sr.RELEASE, (lock,)) for lock in held]
+        chunk.append(Command(sr.END, ()))
+
+    def forked_sizes(self, depth):
+        """The sizes of the teams that a chunk forks."""
+        rng = self.rng
+        if depth < self.parting:
+            return [rng.choice((2, 2, 3)) if depth + 1 == self.parting else 1]
+        if depth == self.depth or len(self.chunks) > self.MOST_CHUNKS:
+            return []
+        return rng.choice(((1,), (1,), (2,), (1, 1), (1, 1)))
+
+    def change_locks(self, chunk, held):
+        for lock in self.locks:
+            if self.rng.randrange(3) == 0:
+                chunk.append(Command(sr.RELEASE if lock in held else sr.ACQUIRE, (lock,)))
+                held ^= {lock}
+
+    def add_access(self, chunk, held, chance):
+        """With a chance of one in so many."""
+        rng = self.rng
+        if rng.randrange(chance) == 0:
+            self.change_locks(chunk, held)
+            code = rng.choice((sr.READ, sr.WRITE, sr.WRITE, sr.WRITE, sr.ATOMIC_WRITE))
+            chunk.append(Command(code, (rng.randrange(100), BASE + rng.randrange(2), 0, 1, rng.choice((1, 2)))))
+
+
+def locked_nest(rng):
+    return LockedNest(rng).make()
+
+
+def locked_nest_bundle(rng):
+    """In a random order of its chunks."""
+    return bundle_bytes(shuffled(rng, locked_nest(rng)))
 
 
 # ------------------------------------------------- limits exactly reached

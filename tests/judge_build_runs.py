@@ -93,9 +93,12 @@ ODD_NAMES = (
 def random_data(rng):
     """The bytes of a file."""
     kind = rng.randrange(10)
-    style = rng.choice((generators.SMALL, generators.SMALL, generators.MIDDLE, generators.QUIET, generators.LOCKED, generators.NESTED))
-    if kind < 4:
+    style = rng.choice((
+        generators.SMALL, generators.SMALL, generators.MIDDLE, generators.QUIET, generators.LOCKED, generators.NESTED, generators.AROUND))
+    if kind < 3:
         return generators.random_bundle(rng, style)
+    if kind == 3:
+        return generators.locked_nest_bundle(rng)
     if kind < 6:
         return generators.damaged_bundle(rng, style)
     if kind == 6:

@@ -9,7 +9,7 @@ import aimed_cases
 import generators
 import second_reader as sr
 import verdict_cases
-from bundle_cases import listed_bundles, short_aimed_bundles, small_damaged, small_good
+from bundle_cases import listed_bundles, locked_nests, short_aimed_bundles, small_damaged, small_good
 from bundle_text import bundle
 from command_cases import limit_commands, random_command
 from second_reader import Command
@@ -172,7 +172,7 @@ def list_frames(seed):
     for area in verdict_cases.all_areas():
         for data in (e, late, *verdict_cases.refused_bundles()):
             yield list_frame(area, 0xFFFFFFFF, needed(data), 1, data)
-    bundles = [e, late, verdict_cases.ALIKE] + listed_bundles() + small_good(rng, 40) + short_aimed_bundles()
+    bundles = [e, late, verdict_cases.ALIKE] + listed_bundles() + small_good(rng, 40) + locked_nests(rng, 20) + short_aimed_bundles()
     styles = (*generators.STYLES, generators.DENSE, generators.MANY_DENSE)
     bundles += [generators.random_bundle(rng, style) for style in styles] + small_damaged(rng, 30)
     for data in bundles:

@@ -82,6 +82,29 @@ def one_lock_each(size):
         Command(sr.ACQUIRE, (member,)), access(sr.WRITE, WORD, member), Command(sr.RELEASE, (member,))])
 
 
+def all_locks_around(size):
+    """Every member forks a team of one under all locks but one, so that no two inner writes race, and then reads without a lock:
+    each write races with all reads but that of the member that forked its team."""
+    def commands(member):
+        locks = [lock for lock in range(LOCK_COUNT) if lock != member]
+        yield from (Command(sr.ACQUIRE, (lock,)) for lock in locks)
+        yield Command(sr.REGION, (100 + member, 1))
+        yield from (Command(sr.RELEASE, (lock,)) for lock in locks)
+        yield access(sr.READ, WORD)
+    return one_team(size, commands) + inner_writes(size)
+
+
+def one_lock_around(size):
+    """Member m holds lock m alone around its region: every pair of inner members races."""
+    return one_team(size, lambda member: [
+        Command(sr.ACQUIRE, (member,)), Command(sr.REGION, (100 + member, 1)), Command(sr.RELEASE, (member,))]) + inner_writes(size)
+
+
+def inner_writes(size):
+    """Teams of one, 100 and up, that write one word."""
+    return [[Command(sr.MEMBER, (100 + n, 0)), access(sr.WRITE, WORD, n), END] for n in range(size)]
+
+
 def intervals(size, barriers, accesses):
     """A team that passes so many barriers, all writing one word so many times in each interval."""
     def commands(member):
@@ -91,8 +114,9 @@ def intervals(size, barriers, accesses):
     return one_team(size, commands)
 
 
-def nested(rng, size, accesses):
-    """Teams of a size, each of whose members forks another, four deep; so many accesses in each chunk."""
+def nested(rng, size, accesses, locks=0):
+    """Teams of a size, each of whose members forks another, four deep; so many accesses in each chunk. With locks, each chunk
+    holds one of so many, around the region or not, or none."""
     chunks, last = [], 0
 
     def add(team, member, depth):
@@ -106,10 +130,19 @@ def nested(rng, size, accesses):
             chunk.insert(rng.randint(1, len(chunk)), Command(sr.REGION, (inner, size)))
             for number in range(size):
                 add(inner, number, depth + 1)
+        if locks and rng.randrange(4):
+            hold(rng, chunk, rng.randrange(locks))
         chunk.append(END)
 
     add(0, 0, 0)
     return chunks
+
+
+def hold(rng, chunk, lock):
+    """Held from some place of the chunk to a later one."""
+    first, last = sorted(rng.choices(range(1, len(chunk) + 1), k=2))
+    chunk.insert(last, Command(sr.RELEASE, (lock,)))
+    chunk.insert(first, Command(sr.ACQUIRE, (lock,)))
 
 
 def widest(last=55):
@@ -173,6 +206,10 @@ def limit_bundles():
         ("many locks", many_locks(rng, 64, 16)),
         ("all locks but one", all_locks(16)),
         ("one lock each", one_lock_each(64)),
+        ("all locks but one around a region", all_locks_around(16)),
+        ("one lock each around a region", one_lock_around(64)),
+        ("teams of 4 four deep with locks", nested(rng, 4, 2, 2)),
+        ("teams of 2 four deep with locks", nested(rng, 2, 12, 3)),
         ("coprime strides", coprime_strides(rng, 16, 12)),
         ("one byte too many", with_barrier(full)),
     )
@@ -205,6 +242,8 @@ def random_bundles(seed):
                 yield maker.__name__, made[0]
     for _ in range(6):
         yield "races of one interval", generators.bundle_bytes(generators.shuffled(rng, generators.one_interval(rng)))
+    for _ in range(12):
+        yield "locks around regions", generators.locked_nest_bundle(rng)
     yield "any bytes", rng.randbytes(rng.randrange(200))
     yield "any commands", b"".join(bytes([rng.choice(list(sr.WIDTHS)), *rng.choices((0, 1, 2, 4), k=rng.randrange(12))])
                                    for _ in range(rng.randrange(30)))
@@ -224,6 +263,7 @@ def large_chunks(rng):
         ("all clash", lambda: all_clash(rng.randint(2, 40), rng.randint(1, 12), rng.choice((1, 255, 256, 65535)))),
         ("many locks", lambda: many_locks(rng, rng.randint(2, 40), rng.randint(1, 10))),
         ("nested", lambda: nested(rng, rng.choice((1, 2, 3, 4)), rng.randint(1, 3))),
+        ("nested with locks", lambda: nested(rng, rng.choice((2, 3, 4)), rng.randint(1, 3), rng.randint(1, 4))),
         ("barriers", lambda: intervals(rng.randint(2, 20), rng.randint(0, 20), rng.randint(1, 2))),
         ("coprime", lambda: coprime_strides(rng, rng.randint(2, 8), rng.randint(1, 8))),
     ]

@@ -1,4 +1,4 @@
-"""Small bundles with the listing that document 01 gives them, and the elements that document 02 gives their races, by hand."""
+"""Small bundles with the listing that documents 01 and 02 give them, and the elements of their races, by hand."""
 
 from collections import namedtuple
 
@@ -73,6 +73,49 @@ LOCKED = [
         member 1 1; acquire 3; write 2 64 0 1 4; release 3; end
         member 2 0; write 7 64 0 1 1; end""",
             listing("4 6 3")),
+]
+
+
+def sides(first, second, *inner, before="", after=""):
+    """As pair, and chunks of inner teams below the two members, each given by its team, member and commands."""
+    return pair(first, second, before, after) + "".join(f"\n        member {chunk}; end" for chunk in inner)
+
+
+def write(site):
+    return f"write {site} 64 0 1 4"
+
+
+def races_of(counts, *pairs):
+    """All of byte 64; the two accesses are given by name and site."""
+    return listing(counts, *(f"00000040 {pair}" for pair in pairs))
+
+
+def held(lock, commands):
+    return f"acquire {lock}; {commands}; release {lock}"
+
+
+IN_2, IN_3 = f"2 0; {W1}", f"3 0; {W2}"  # one access in each inner team
+BOTH_INNER = races_of("5 8 2", "2.0.0 1 3.0.0 2")
+NEITHER = races_of("5 8 2")
+
+# Locks held around a region. These are computed too.
+AROUND = [
+    Listing("held around the regions of both", sides(held(3, "region 2 1"), held(3, "region 3 1"), IN_2, IN_3), NEITHER),
+    Listing("held around the region of one", sides(held(3, "region 2 1"), "region 3 1", IN_2, IN_3), BOTH_INNER),
+    Listing("held above the parting team", f"""
+        member 0 0; region 1 1; end
+        member 1 0; acquire 3; region 2 2; release 3; end
+        member 2 0; region 3 1; end
+        member 2 1; {W2}; end
+        member 3 0; {W1}; end""", races_of("5 8 2", "2.1.0 2 3.0.0 1")),
+    Listing("released between two regions",
+            sides("acquire 3; region 2 1; release 3; region 4 1", held(3, W2), f"2 0; {W1}", f"4 0; {write(4)}"),
+            races_of("5 8 3", "1.1.0 2 4.0.0 4")),
+    Listing("acquired between two regions",
+            sides("region 2 1; acquire 3; region 4 1; release 3", held(3, W2), f"2 0; {W1}", f"4 0; {write(4)}"),
+            races_of("5 8 3", "1.1.0 2 2.0.0 1")),
+    Listing("held around the chunk's own region, not at the access",
+            sides(f"{W1}; {held(3, 'region 2 1')}", held(3, W2), "2 0"), races_of("4 6 2", "1.0.0 1 1.1.0 2")),
 ]
 
 ORDERED = [
@@ -204,7 +247,7 @@ COVERED = [
             [(0, 0), (1, 0), (7, 0)]),
 ]
 
-LISTINGS = ORDERED + KINDS + LOCKED + SHARED + SORTED + COVERED
+LISTINGS = ORDERED + KINDS + LOCKED + AROUND + SHARED + SORTED + COVERED
 
 # The same with long ranges, which the computed examples leave out.
 LONG = [
@@ -221,4 +264,159 @@ LONG = [
             one_race(4294967289), [(0, 65534)]),
 ]
 
-ALL = LISTINGS + LONG
+
+# More of them, which the computed examples leave out.
+
+# Which locks, and at which REGION of a chunk.
+AT_REGIONS = [
+    *[Listing(f"lock {lock} around both regions", sides(held(lock, "region 2 1"), held(lock, "region 3 1"), IN_2, IN_3), NEITHER)
+      for lock in (0, 31, 32, 63)],
+    *[Listing(f"locks {lock} and {other} around the regions",
+              sides(held(lock, "region 2 1"), held(other, "region 3 1"), IN_2, IN_3), BOTH_INNER)
+      for lock, other in ((3, 4), (0, 32), (31, 63), (0, 63))],
+    Listing("one of several locks around both regions",
+            sides("acquire 0; acquire 63; acquire 5; release 0; region 2 1; release 63; release 5",
+                  "acquire 1; acquire 63; region 3 1; release 1; release 63", IN_2, IN_3), NEITHER),
+    Listing("acquired behind the REGION", sides("region 2 1; acquire 3; release 3", held(3, "region 3 1"), IN_2, IN_3), BOTH_INNER),
+    Listing("released before the REGION", sides("acquire 3; release 3; region 2 1", held(3, "region 3 1"), IN_2, IN_3), BOTH_INNER),
+    Listing("released and acquired again before the REGION",
+            sides("acquire 3; release 3; acquire 3; region 2 1; release 3", held(3, "region 3 1"), IN_2, IN_3), NEITHER),
+    Listing("held over a barrier and then a region",
+            sides("acquire 3; barrier; region 2 1; release 3", f"barrier; {held(3, 'region 3 1')}", IN_2, IN_3), races_of("5 10 2")),
+    Listing("held before two regions and between them",
+            sides("acquire 3; region 2 1; region 4 1; release 3", held(3, "region 3 1"), IN_2, IN_3, f"4 0; {write(4)}"),
+            races_of("6 10 3")),
+    Listing("held between two regions only",
+            sides("region 2 1; acquire 3; release 3; region 4 1", held(3, "region 3 1"), IN_2, IN_3, f"4 0; {write(4)}"),
+            races_of("6 10 3", "2.0.0 1 3.0.0 2", "3.0.0 2 4.0.0 4")),
+    Listing("another lock at each of two regions",
+            sides(f"{held(3, 'region 2 1')}; {held(4, 'region 4 1')}", held(4, "region 3 1"), IN_2, IN_3, f"4 0; {write(4)}"),
+            races_of("6 10 3", "2.0.0 1 3.0.0 2")),
+    Listing("the middle one of three regions",
+            sides(f"region 2 1; {held(3, 'region 4 1')}; region 6 1", held(3, "region 3 1"),
+                  IN_2, IN_3, f"4 0; {write(4)}", f"6 0; {write(6)}"),
+            races_of("7 12 4", "2.0.0 1 3.0.0 2", "3.0.0 2 6.0.0 6")),
+]
+
+# An access in the parting member's own chunk counts its own locks alone.
+IN_MEMBERS = [
+    Listing("own lock against the lock around a region", sides(held(3, W1), held(3, "region 2 1"), f"2 0; {W2}"), races_of("4 6 2")),
+    Listing("another own lock against the lock around a region",
+            sides(held(4, W1), held(3, "region 2 1"), f"2 0; {W2}"), races_of("4 6 2", "1.0.0 1 2.0.0 2")),
+    Listing("no own lock, one around the chunk's own region",
+            sides(f"{W1}; {held(3, f'{write(4)}; region 3 1; {write(5)}')}; {write(6)}", held(3, "region 2 1"), f"2 0; {W2}", "3 0"),
+            races_of("5 8 5", "1.0.0 1 2.0.0 2", "1.0.3 6 2.0.0 2")),
+    Listing("own lock, none around the chunk's own region",
+            sides(f"{held(3, W1)}; region 3 1; {held(3, write(4))}", held(3, "region 2 1"), f"2 0; {W2}", "3 0"), races_of("5 8 3")),
+    Listing("own locks alone, one access in an inner chunk", sides(held(3, W1), "region 2 1", f"2 0; {held(3, W2)}"),
+            races_of("4 6 2")),
+    Listing("own lock behind the region", sides(f"region 2 1; {held(3, W1)}", held(3, W2), f"2 0; {write(4)}"),
+            races_of("4 6 3", "1.1.0 2 2.0.0 4")),
+]
+
+# Which chunks count: those of the lineage, from the parting member down.
+OF_THE_LINEAGE = [
+    Listing("siblings of one inner team", sides(
+        held(3, "region 2 2"), held(3, "region 3 2"), f"2 0; {W1}", f"2 1; {W2}", f"3 0; {write(4)}", f"3 1; {write(5)}"),
+            races_of("7 10 4", "2.0.0 1 2.1.0 2", "3.0.0 4 3.1.0 5")),
+    Listing("siblings of one inner team, back to front", f"""
+        member 3 1; {write(5)}; end; member 3 0; {write(4)}; end
+        member 2 1; {W2}; end; member 2 0; {W1}; end
+        member 1 1; acquire 3; region 3 2; release 3; end
+        member 1 0; acquire 3; region 2 2; release 3; end
+        member 0 0; region 1 2; end""", races_of("7 10 4", "2.0.0 1 2.1.0 2", "3.0.0 4 3.1.0 5")),
+    Listing("by the root", sides("region 2 1", "region 3 1", IN_2, IN_3, before="acquire 3", after="release 3"), BOTH_INNER),
+    Listing("by the root and by one member",
+            sides(held(3, "region 2 1"), "region 3 1", IN_2, IN_3, before="acquire 3", after="release 3"), BOTH_INNER),
+    Listing("by the root and by both members",
+            sides(held(3, "region 2 1"), held(3, "region 3 1"), IN_2, IN_3, before="acquire 3", after="release 3"), NEITHER),
+    Listing("by the root, against an own lock",
+            sides("region 2 1", held(3, W2), f"2 0; {W1}", before="acquire 3", after="release 3"),
+            races_of("4 6 2", "1.1.0 2 2.0.0 1")),
+    Listing("by a third member", f"""
+        member 0 0; region 1 3; end
+        member 1 0; acquire 3; region 2 1; release 3; end
+        member 1 1; region 3 1; end
+        member 1 2; acquire 3; {write(4)}; release 3; end
+        member 2 0; {W1}; end
+        member 3 0; {W2}; end""", races_of("6 9 3", "1.2.0 4 3.0.0 2", "2.0.0 1 3.0.0 2")),
+    Listing("by a sibling of the inner team", sides(
+        "region 2 2", held(3, "region 3 1"), f"2 0; {held(3, 'region 4 1')}", f"2 1; {W1}", IN_3, "4 0"),
+            races_of("7 11 2", "2.1.0 1 3.0.0 2")),
+    Listing("at a region that leads elsewhere", sides(
+        f"{held(3, 'region 4 1')}; region 2 1", held(3, "region 3 1"), IN_2, IN_3, "4 0"), races_of("6 10 2", "2.0.0 1 3.0.0 2")),
+]
+
+# Own locks and those of several regions together.
+TOGETHER = [
+    Listing("own lock against a lock two regions up",
+            sides(held(3, W1), held(3, "region 2 1"), "2 0; region 3 1", IN_3), races_of("5 8 2")),
+    Listing("own lock against a lock one region up, below the member",
+            sides(held(3, W1), "region 2 1", f"2 0; {held(3, 'region 3 1')}", IN_3), races_of("5 8 2")),
+    Listing("inner own lock against a lock two regions up",
+            sides(held(3, "region 2 1"), "region 3 1", "2 0; region 4 1", f"3 0; {held(3, W2)}", f"4 0; {W1}"), races_of("6 10 2")),
+    Listing("crossed: own against the region's, both ways",
+            sides(held(1, "region 2 1"), held(2, "region 3 1"), f"2 0; {held(2, W1)}", f"3 0; {held(1, W2)}"), NEITHER),
+    Listing("four locks, none in common",
+            sides(held(1, "region 2 1"), held(2, "region 3 1"), f"2 0; {held(3, W1)}", f"3 0; {held(4, W2)}"), BOTH_INNER),
+    Listing("the lock of the region is not that of the next one down",
+            sides(held(1, "region 2 1"), held(2, "region 3 1"), f"2 0; {held(3, 'region 4 1')}", f"3 0; {held(4, 'region 5 1')}",
+                  f"4 0; {W1}", f"5 0; {W2}"), races_of("7 12 2", "4.0.0 1 5.0.0 2")),
+    Listing("the region's lock acquired again inside", sides(
+        held(3, "region 2 2"), "", f"2 0; {held(3, W1)}", f"2 1; {W2}"), races_of("5 7 2", "2.0.0 1 2.1.0 2")),
+    Listing("a lower witness that is guarded",
+            sides(f"{write(6)}; {held(3, 'region 2 1')}", f"{write(4)}; {held(3, 'region 3 1')}",
+                  "2 0; write 1 16 0 1 4", f"3 0; write 2 16 0 1 4; {write(5)}"),
+            races_of("5 8 5", "1.0.0 6 1.1.0 4", "1.0.0 6 3.0.1 5")),
+]
+
+# Ordered accesses do not race, whatever the locks.
+WITH_ORDER = [
+    Listing("a barrier between inner teams, one lock",
+            sides(f"{held(3, 'region 2 1')}; barrier", f"barrier; {held(3, 'region 3 1')}", IN_2, IN_3), races_of("5 10 2")),
+    Listing("a barrier between inner teams, no common lock",
+            sides(f"{held(3, 'region 2 1')}; barrier", f"barrier; {held(4, 'region 3 1')}", IN_2, IN_3), races_of("5 10 2")),
+    Listing("before, in and behind a region", sides(f"{W1}; {held(3, 'region 2 1')}; {write(4)}", "", f"2 0; {W2}"),
+            races_of("4 6 3")),
+    Listing("two regions one after the other", sides(f"{held(3, 'region 2 1')}; region 3 1", "", IN_2, IN_3), races_of("5 8 2")),
+]
+
+
+def deep(parting, first, second):
+    """Two lineages of five chunks, 0 to 4, that part in the team of this place; each ends in an access of one word. Lock 3 is
+    held by chunk first of the first lineage and by chunk second of the second: at the REGION, and by chunk 4 at the access."""
+    lines = []
+    for place in range(parting):  # the chunks of both
+        fork = f"region {place + 1} {2 if place + 1 == parting else 1}"
+        lines.append(f"member {place} 0; {held(3, fork) if place in (first, second) else fork}; end")
+    for side, holder in ((0, first), (1, second)):
+        for place in range(parting, 5):
+            name = f"{place} {side}" if place == parting else f"{10 * side + 10 + place} 0"
+            fork = f"region {10 * side + 10 + place + 1} 1" if place < 4 else write(1 + side)
+            lines.append(f"member {name}; {held(3, fork) if place == holder else fork}; end")
+    return "\n".join(lines)
+
+
+def deep_listing(parting, guarded):
+    chunks = 5 + 5 - parting  # 2 of them have one segment, the others 2
+    first, second = ("4.0.0", "4.1.0") if parting == 4 else ("14.0.0", "24.0.0")
+    return races_of(f"{chunks} {2 * chunks - 2} 2", *[] if guarded else [f"{first} 1 {second} 2"])
+
+
+# Each holder in turn: from the parting member down on both sides there is no race. What holds above it is one chunk of both.
+DEEP = [
+    *[Listing(f"parting {parting} deep, held by chunk {holder} of both", deep(parting, holder, holder),
+              deep_listing(parting, holder >= parting))
+      for parting in (1, 2, 3, 4) for holder in range(5)],
+    *[Listing(f"parting {parting} deep, held by chunks {first} and {second}", deep(parting, first, second),
+              deep_listing(parting, True))
+      for parting, first, second in (
+          (1, 1, 2), (1, 1, 4), (1, 3, 2), (1, 4, 3), (2, 2, 4), (2, 4, 3), (2, 3, 2), (3, 3, 4), (3, 4, 3))],
+    *[Listing(f"parting {parting} deep, held by chunk {first} of the first and above both", deep(parting, first, parting - 1),
+              deep_listing(parting, False))
+      for parting, first in ((1, 1), (1, 4), (2, 2), (2, 3), (3, 3), (3, 4), (4, 4))],
+]
+
+LOCKED_AROUND = AT_REGIONS + IN_MEMBERS + OF_THE_LINEAGE + TOGETHER + WITH_ORDER + DEEP
+
+ALL = LISTINGS + LONG + LOCKED_AROUND

@@ -4,8 +4,9 @@ import random
 
 import aimed_cases
 import generators
+import race_cases
 import second_reader as sr
-from bundle_cases import listed_bundles, short_aimed_bundles, small_damaged, small_good
+from bundle_cases import listed_bundles, locked_nests, short_aimed_bundles, small_damaged, small_good
 from bundle_text import bundle
 from second_reader import Command
 from vector_frames import judge_frame, next_frame
@@ -53,6 +54,8 @@ def key_of(parts):
 
 # ------------------------------------------------------------------- judge
 
+JUDGE_SEED = 108  # of the stored frames
+
 
 def judge_frames(seed):
     rng = random.Random(seed)
@@ -70,6 +73,7 @@ def judge_frames(seed):
     for _ in range(20):
         yield from judge_some_orders(rng, generators.one_interval(rng))
         yield from judge_some_orders(rng, generators.random_chunks(rng, generators.DENSE))
+        yield from judge_some_orders(rng, generators.locked_nest(rng))
     for _ in range(4):
         yield from judge_all_orders(rng)
         yield from judge_some_orders(rng, generators.random_chunks(rng, generators.MANY_DENSE))
@@ -110,9 +114,11 @@ def next_frames(seed):
     for area in all_areas():
         for data in (E, bundle(aimed_cases.E_LATE_READ), *refused_bundles()):
             yield next_frame(area, *BELOW_ALL, data)
-    for data in [E, ALIKE] + listed_bundles() + small_good(rng, 25):
+    for data in [E, ALIKE] + listed_bundles(race_cases.LISTINGS + race_cases.LONG) + small_good(rng, 25):
         yield from walk(rng, data)
         yield from outside_of_all(rng, data)
+    for data in listed_bundles(race_cases.LOCKED_AROUND) + locked_nests(rng, 12):
+        yield from walk(rng, data)
     for style in (generators.MIDDLE, generators.NESTED, generators.LOCKED, generators.FAR, generators.QUIET):
         yield from walk(rng, generators.random_bundle(rng, style))
     for _ in range(5):
