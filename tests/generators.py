@@ -250,7 +250,7 @@ class LockedNest:
             for number in range(size):
                 self.add_chunk(inner, number, depth + 1)
         self.add_access(chunk, held, chance=1 if len(chunk) == 1 else 4)
-        chunk += [Command(sr.RELEASE, (lock,)) for lock in held]
+        chunk += [Command(sr.RELEASE, (lock,)) for lock in sorted(held)]
         chunk.append(Command(sr.END, ()))
 
     def forked_sizes(self, depth):

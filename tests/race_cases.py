@@ -264,10 +264,7 @@ LONG = [
             one_race(4294967289), [(0, 65534)]),
 ]
 
-
-# More of them, which the computed examples leave out.
-
-# Which locks, and at which REGION of a chunk.
+# More locks held around regions, which the computed examples leave out. First: which locks, and at which REGION of a chunk.
 AT_REGIONS = [
     *[Listing(f"lock {lock} around both regions", sides(held(lock, "region 2 1"), held(lock, "region 3 1"), IN_2, IN_3), NEITHER)
       for lock in (0, 31, 32, 63)],
@@ -325,6 +322,18 @@ OF_THE_LINEAGE = [
         member 1 1; acquire 3; region 3 2; release 3; end
         member 1 0; acquire 3; region 2 2; release 3; end
         member 0 0; region 1 2; end""", races_of("7 10 4", "2.0.0 1 2.1.0 2", "3.0.0 4 3.1.0 5")),
+    Listing("the lower member forks the higher team",
+            sides(held(3, "region 3 1"), held(3, "region 2 1"), IN_2, IN_3), NEITHER),
+    Listing("the lower member forks the higher team, and holds no lock",
+            sides("region 3 1", held(3, "region 2 1"), IN_2, IN_3), BOTH_INNER),
+    Listing("teams of two bytes", f"""
+        member 0 0; region 255 2; end
+        member 255 0; acquire 3; region 256 2; release 3; end
+        member 255 1; acquire 3; region 512 1; release 3; end
+        member 256 0; {W1}; end
+        member 256 1; region 65535 1; end
+        member 512 0; {W2}; end
+        member 65535 0; {write(4)}; end""", races_of("7 11 3", "256.0.0 1 65535.0.0 4")),
     Listing("by the root", sides("region 2 1", "region 3 1", IN_2, IN_3, before="acquire 3", after="release 3"), BOTH_INNER),
     Listing("by the root and by one member",
             sides(held(3, "region 2 1"), "region 3 1", IN_2, IN_3, before="acquire 3", after="release 3"), BOTH_INNER),
@@ -382,28 +391,30 @@ WITH_ORDER = [
 ]
 
 
-def deep(parting, first, second):
-    """Two lineages of five chunks, 0 to 4, that part in the team of this place; each ends in an access of one word. Lock 3 is
-    held by chunk first of the first lineage and by chunk second of the second: at the REGION, and by chunk 4 at the access."""
+def deep(parting, first, second, last=4):
+    """Two lineages that part in the team of this place, of the chunks 0 to last and 0 to 4; each ends in an access of one word.
+    Lock 3 is held by chunk first of the first lineage and by chunk second of the second: at the REGION that leads on, or, by
+    the last chunk, at the access."""
     lines = []
     for place in range(parting):  # the chunks of both
         fork = f"region {place + 1} {2 if place + 1 == parting else 1}"
         lines.append(f"member {place} 0; {held(3, fork) if place in (first, second) else fork}; end")
-    for side, holder in ((0, first), (1, second)):
-        for place in range(parting, 5):
+    for side, holder, end in ((0, first, last), (1, second, 4)):
+        for place in range(parting, end + 1):
             name = f"{place} {side}" if place == parting else f"{10 * side + 10 + place} 0"
-            fork = f"region {10 * side + 10 + place + 1} 1" if place < 4 else write(1 + side)
+            fork = f"region {10 * side + 10 + place + 1} 1" if place < end else write(1 + side)
             lines.append(f"member {name}; {held(3, fork) if place == holder else fork}; end")
     return "\n".join(lines)
 
 
-def deep_listing(parting, guarded):
-    chunks = 5 + 5 - parting  # 2 of them have one segment, the others 2
-    first, second = ("4.0.0", "4.1.0") if parting == 4 else ("14.0.0", "24.0.0")
+def deep_listing(parting, guarded, last=4):
+    chunks = parting + (last + 1 - parting) + (5 - parting)  # 2 of them have one segment, the others 2
+    first = f"{parting}.0.0" if last == parting else f"{10 + last}.0.0"
+    second = "4.1.0" if parting == 4 else "24.0.0"
     return races_of(f"{chunks} {2 * chunks - 2} 2", *[] if guarded else [f"{first} 1 {second} 2"])
 
 
-# Each holder in turn: from the parting member down on both sides there is no race. What holds above it is one chunk of both.
+# Each holder in turn. From the parting member down, on both sides, there is no race; what holds above it is one chunk of both.
 DEEP = [
     *[Listing(f"parting {parting} deep, held by chunk {holder} of both", deep(parting, holder, holder),
               deep_listing(parting, holder >= parting))
@@ -415,6 +426,12 @@ DEEP = [
     *[Listing(f"parting {parting} deep, held by chunk {first} of the first and above both", deep(parting, first, parting - 1),
               deep_listing(parting, False))
       for parting, first in ((1, 1), (1, 4), (2, 2), (2, 3), (3, 3), (3, 4), (4, 4))],
+    *[Listing(f"parting {parting} deep, the first ends in chunk {last}, held by chunks {first} and {second}",
+              deep(parting, first, second, last), deep_listing(parting, guarded, last))
+      for parting, last, first, second, guarded in (
+          (1, 1, 1, 1, True), (1, 1, 1, 2, True), (1, 1, 1, 3, True), (1, 1, 1, 4, True), (1, 2, 1, 4, True), (1, 3, 2, 1, True),
+          (2, 2, 2, 2, True), (2, 2, 2, 4, True), (2, 3, 2, 3, True), (3, 3, 3, 3, True), (3, 3, 3, 4, True),
+          (1, 1, 1, 0, False), (2, 2, 2, 1, False), (2, 3, 3, 0, False), (3, 3, 2, 4, False), (2, 2, 0, 0, False))],
 ]
 
 LOCKED_AROUND = AT_REGIONS + IN_MEMBERS + OF_THE_LINEAGE + TOGETHER + WITH_ORDER + DEEP
