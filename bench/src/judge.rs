@@ -133,14 +133,24 @@ fn hexadecimal(number: u32) -> [u8; 8] {
 struct Contents {
     /// The team of the REGION that opens a segment, or 0.
     openings: Vec<u16>,
+    /// The team and the locks of each REGION that is met with a lock held.
+    held: Vec<(u16, u64)>,
     /// Rows without names, in the order of the bytes.
     accesses: Vec<TableRow>,
 }
 
 impl Log for Contents {
     #[inline]
-    fn segment(&mut self, team: u16) {
+    fn segment(&mut self) {
+        self.openings.push(0);
+    }
+
+    #[inline]
+    fn region(&mut self, team: u16, locks: u64) {
         self.openings.push(team);
+        if locks != 0 {
+            self.held.push((team, locks));
+        }
     }
 
     #[inline]
@@ -153,6 +163,7 @@ struct Bundle {
     chunks: Vec<Chunk>,
     forks: Vec<Fork>,
     openings: Vec<u16>,
+    held: Vec<(u16, u64)>,
 }
 
 /// Reads the bundle, fills the work area, asks, and clears all of the area.
@@ -167,8 +178,8 @@ fn over<T>(
     }
     let mut contents = Contents::default();
     let answer = reader::read(bytes, &mut contents).map(|(chunks, forks)| {
-        let Contents { openings, accesses } = contents;
-        let bundle = Bundle { chunks, forks, openings };
+        let Contents { openings, held, accesses } = contents;
+        let bundle = Bundle { chunks, forks, openings, held };
         let (matrix, table) = work[..LEAST_WORDS].split_at_mut(LEAST_WORDS / 2);
         let rows = &mut matrix.as_chunks_mut().0[..bundle.openings.len()];
         let table = &mut table.as_chunks_mut().0[..accesses.len()];
@@ -377,8 +388,25 @@ fn sorted_keys(bundle: &Bundle, rows: &[MatrixRow], table: &[TableRow]) -> Vec<u
     keys
 }
 
-/// Calls `found` with the key of each race. All pairs, but for those of one chunk, whose segments are ordered.
-fn each_race(bundle: &Bundle, rows: &[MatrixRow], table: &[TableRow], mut found: impl FnMut(u64)) {
+/// Calls `found` with the key of each race. Lineages are climbed only where some REGION is met with a lock held: the loop for all
+/// other bundles is compiled without it.
+fn each_race(bundle: &Bundle, rows: &[MatrixRow], table: &[TableRow], found: impl FnMut(u64)) {
+    match Lineages::of(bundle, table) {
+        None => each_pair(bundle, rows, table, |_, _| false, found),
+        Some(lineages) => each_pair(bundle, rows, table, |one, other| lineages.keep_apart(table, one, other), found),
+    }
+}
+
+/// All pairs, but for those of one chunk, whose segments are ordered. `apart` says whether locks held around regions keep two
+/// accesses apart; it is asked last before the bytes.
+#[inline(always)]
+fn each_pair(
+    bundle: &Bundle,
+    rows: &[MatrixRow],
+    table: &[TableRow],
+    apart: impl Fn(usize, usize) -> bool,
+    mut found: impl FnMut(u64),
+) {
     let mut next = 0;
     for chunk in &bundle.chunks {
         let (start, end) = (next, next + range_of(chunk.accesses).len());
@@ -397,7 +425,7 @@ fn each_race(bundle: &Bundle, rows: &[MatrixRow], table: &[TableRow], mut found:
                     continue;
                 }
                 let to = other[4] as usize % 512;
-                if bit(&row, to) || bit(&rows[to], segment) {
+                if bit(&row, to) || bit(&rows[to], segment) || apart(first, second) {
                     continue;
                 }
                 if let Some(overlap) = ranges::by_euclid(range_in(&one), range_in(other)) {
@@ -406,5 +434,63 @@ fn each_race(bundle: &Bundle, rows: &[MatrixRow], table: &[TableRow], mut found:
             }
         }
         next = end;
+    }
+}
+
+// Lineages: the locks held at the REGIONs above two accesses, up to the team where their lineages part.
+
+/// By numbers of REGIONs in the order of their teams: for each access the REGION that forks its team, and the REGIONs.
+struct Lineages {
+    forked: Vec<u16>,
+    regions: Vec<Region>,
+}
+
+/// Of a REGION the team that it stands in, the REGION that forks this team, and the locks held.
+struct Region {
+    by_team: u16,
+    above: u16,
+    locks: u64,
+}
+
+/// Of an access on its way up: a team, the REGION that forks it, and the locks counted so far.
+struct Climber {
+    team: u16,
+    above: u16,
+    locks: u64,
+}
+
+impl Lineages {
+    /// None where no REGION is met with a lock held: then the accesses' own locks decide.
+    fn of(bundle: &Bundle, table: &[TableRow]) -> Option<Lineages> {
+        if bundle.held.is_empty() {
+            return None;
+        }
+        // Team 0 has no REGION; the number past the last stands for it.
+        let forking = |team: u16| bundle.forks.partition_point(|fork| fork.team < team);
+        let region_of = |team: u16| if team == 0 { bundle.forks.len() } else { forking(team) } as u16;
+        let region = |fork: &Fork| Region { by_team: fork.by_team, above: region_of(fork.by_team), locks: 0 };
+        let mut regions: Vec<Region> = bundle.forks.iter().map(region).collect();
+        for &(team, locks) in &bundle.held {
+            regions[forking(team)].locks = locks;
+        }
+        Some(Lineages { forked: table.iter().map(|row| region_of((row[7] >> 16) as u16)).collect(), regions })
+    }
+
+    /// Whether two accesses without a path between them have a lock in common: their own, and those held at the REGIONs
+    /// that lead down to them from the team where they part. A team's number is above that of the team that forks it.
+    fn keep_apart(&self, table: &[TableRow], first: usize, second: usize) -> bool {
+        let (mut one, mut other) = (self.start(table, first), self.start(table, second));
+        while one.team != other.team {
+            let lower = if one.team > other.team { &mut one } else { &mut other };
+            let region = &self.regions[lower.above as usize];
+            *lower = Climber { team: region.by_team, above: region.above, locks: lower.locks | region.locks };
+        }
+        one.locks & other.locks != 0
+    }
+
+    fn start(&self, table: &[TableRow], access: usize) -> Climber {
+        let row = &table[access];
+        let locks = row[2] as u64 | (row[3] as u64) << 32;
+        Climber { team: (row[7] >> 16) as u16, above: self.forked[access], locks }
     }
 }

@@ -40,9 +40,12 @@ pub fn cases(random: &mut Random) -> Vec<Case> {
         }),
     );
     add("8 members, 62 barriers", intervals(|| access(WRITE, WORD)));
-    add("nested four deep", nested(|| access(any_kind(random), near(random))));
+    add("nested four deep", nested(|| access(any_kind(random), near(random)), region));
     add("10 accesses", small(random));
     add("E", example_e());
+    add("locks around regions", around_regions(random));
+    let bytes = without_locks(&cases[cases.len() - 1].bytes);
+    cases.push(Case { name: "the same without locks", bytes });
     cases
 }
 
@@ -162,7 +165,8 @@ fn intervals(mut commands: impl FnMut() -> Vec<u8>) -> Vec<Chunk> {
 }
 
 /// Teams of 4, each of whose members forks a team of 4, down to depth 4; 3 accesses in each member, and 4 in the root.
-fn nested(mut commands: impl FnMut() -> Vec<u8>) -> Vec<Chunk> {
+/// `fork` is the REGION of a team with what stands around it.
+fn nested(mut commands: impl FnMut() -> Vec<u8>, fork: impl Fn(u16) -> Vec<u8>) -> Vec<Chunk> {
     let mut chunks = vec![bundles::member(0, 0)];
     chunks[0].extend(commands());
     let (mut outer, mut team) = (0..1, 0);
@@ -178,13 +182,45 @@ fn nested(mut commands: impl FnMut() -> Vec<u8>) -> Vec<Chunk> {
             for turn in 0..3 {
                 chunks[at].extend(commands());
                 if turn == 1 && depth <= 4 {
-                    chunks[at].extend(bundles::region(team, 4));
+                    chunks[at].extend(fork(team));
                 }
             }
         }
         outer = start..chunks.len();
     }
     ended(chunks, 2 + 8 + 32 + 128 + 256)
+}
+
+/// The REGION of a team of 4.
+fn region(team: u16) -> Vec<u8> {
+    bundles::region(team, 4).to_vec()
+}
+
+/// The same teams, all writing one word: each REGION stands in one lock of 12, and one access of four does.
+fn around_regions(random: &mut Random) -> Vec<Chunk> {
+    let own = || match random.from(0, 47) {
+        lock @ 0..12 => locked(&[lock as u8], access(WRITE, WORD)),
+        _ => access(WRITE, WORD),
+    };
+    nested(own, |team| locked(&[(team % 12) as u8], region(team)))
+}
+
+/// A bundle without its ACQUIREs and RELEASEs.
+fn without_locks(bytes: &[u8]) -> Vec<u8> {
+    let (mut kept, mut at) = (Vec::new(), 0);
+    while at < bytes.len() {
+        let length = match bytes[at] {
+            0x01 | 0x10 => 4,
+            ACQUIRE | RELEASE => 2,
+            0x30..=0x33 => 12,
+            _ => 1,
+        };
+        if length != 2 {
+            kept.extend(&bytes[at..at + length]);
+        }
+        at += length;
+    }
+    kept
 }
 
 /// A team of 3 with a barrier: 3 accesses in each member, and one in the root.

@@ -24,15 +24,18 @@ pub fn check(bytes: &[u8]) -> Result<(), Refusal> {
 
 /// Takes the segments and accesses of a bundle in the order of the bytes, while its commands are checked.
 pub trait Log {
-    /// A segment is opened by the REGION of a team, or with 0 by MEMBER or BARRIER.
-    fn segment(&mut self, team: u16);
+    /// A segment is opened by MEMBER or BARRIER.
+    fn segment(&mut self);
+    /// A segment is opened by the REGION of a team, with the locks held there.
+    fn region(&mut self, team: u16, locks: u64);
     /// An access to a good range, with the locks held there.
     fn access(&mut self, access: Access, locks: u64);
 }
 
 /// For check, nothing is kept.
 impl Log for () {
-    fn segment(&mut self, _: u16) {}
+    fn segment(&mut self) {}
+    fn region(&mut self, _: u16, _: u64) {}
     fn access(&mut self, _: Access, _: u64) {}
 }
 
@@ -135,7 +138,7 @@ fn scan(bytes: &[u8], log: &mut impl Log) -> Result<(Vec<Chunk>, Vec<Fork>), Ref
                 let (segment, access) = (segments as u16, accesses as u16);
                 let place = at as u16;
                 chunk = Chunk { place, team, member, barriers: 0, segments: (segment, 0), accesses: (access, 0) };
-                log.segment(0);
+                log.segment();
                 segments += 1;
             }
             Command::End => {
@@ -161,7 +164,7 @@ fn scan(bytes: &[u8], log: &mut impl Log) -> Result<(Vec<Chunk>, Vec<Fork>), Ref
                     return refuse(7, at);
                 }
                 forks.push(Fork { place: at as u16, team, size, by_team: chunk.team, segment: segments as u16 });
-                log.segment(team);
+                log.region(team, locks);
                 segments += 1;
             }
             Command::Barrier => {
@@ -172,7 +175,7 @@ fn scan(bytes: &[u8], log: &mut impl Log) -> Result<(Vec<Chunk>, Vec<Fork>), Ref
                     return refuse(7, at);
                 }
                 chunk.barriers += 1;
-                log.segment(0);
+                log.segment();
                 segments += 1;
             }
             Command::Acquire(lock) => {
