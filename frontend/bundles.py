@@ -18,8 +18,9 @@ MOST_RACES = 200  # of a bundle that are shown
 
 Command = namedtuple("Command", "offset code operands")
 Access = namedtuple("Access", "number kind site range locks segment")
-Fork = namedtuple("Fork", "team size")
-Side = namedtuple("Side", "access turn")  # of a race; the turn is the lowest element that holds the witness
+Fork = namedtuple("Fork", "team size locks")  # a REGION, and the locks held at it
+Held = namedtuple("Held", "locks team outer member")  # locks that a member of an outer team holds at the REGION of a team
+Side = namedtuple("Side", "access turn held")  # of a race; the turn is the lowest element that holds the witness
 
 
 class NotAsExpected(Exception):
@@ -134,7 +135,7 @@ class Log:
                 member.accesses.append(Access(number, KINDS[code], operands[0], Range(*operands[1:]), tuple(sorted(locks)), where))
             elif code == REGION:
                 where = len(member.segments) - 1
-                member.forks[where] = Fork(*operands)
+                member.forks[where] = Fork(*operands, tuple(sorted(locks)))
                 self.forked_by[operands[0]] = (member.team, member.member, where)
                 member.open_segment(REGION)
             elif code == BARRIER:
@@ -169,18 +170,27 @@ class Log:
         return member.accesses[name[2]]
 
     def sides(self, race):
-        """The two accesses of a race with their turns, or NotAsExpected if it is no race of this log."""
+        """The two accesses of a race with their turns and the locks held above them that count, or NotAsExpected if it is no race
+        of this log."""
         return [
-            self.side(race.first, race.first_site, race.witness),
-            self.side(race.second, race.second_site, race.witness),
+            self.side(race.first, race.first_site, race.witness, race.second),
+            self.side(race.second, race.second_site, race.witness, race.first),
         ]
 
-    def side(self, name, site, witness):
+    def side(self, name, site, witness, other):
         access = self.access(name)
         turn = access.range.lowest_element(witness)
         if access.site != site or turn is None:
             raise NotAsExpected("another access")
-        return Side(access, turn)
+        return Side(access, turn, self.held_above(name, other))
+
+    def held_above(self, name, other):
+        """The locks held at the REGIONs that lead down to an access, from below up to the member where its lineage parts from the
+        other access's. Chunks above that member stand in both lineages, and do not count."""
+        mine, others = (self.above(*n[:2], self.access(n).segment) for n in (name, other))
+        apart = [key for key in mine if key not in others and key != name[:2]]
+        forks = [(key, self.members[key].forks[mine[key]]) for key in apart]
+        return [Held(fork.locks, fork.team, *key) for key, fork in forks if fork.locks]
 
     def above(self, team, member, segment):
         """The segment and those that it descends from by forks: their number for each (team, member)."""
@@ -247,3 +257,14 @@ def turns_text(sides):
     """The loop turns of a race in words."""
     first, second = (f"turn {s.turn} of the {s.access.kind} at site {s.access.site}" for s in sides)
     return f"loop {first} and {second}"
+
+
+def locks_text(side):
+    """The locks that count for an access of a race: its own, then those held above it, with where they are held."""
+    own = [lock_numbers(side.access.locks)] if side.access.locks else []
+    above = [f"{lock_numbers(h.locks)} at the REGION of team {h.team} (team {h.outer}, member {h.member})" for h in side.held]
+    return "; ".join(own + above) or "none"
+
+
+def lock_numbers(locks):
+    return ", ".join(map(str, locks))

@@ -115,8 +115,10 @@ the build, the tray has no log of it. {word_html("race-free")}: every log of the
 its team and its number; time runs to the right; boxes are segments, filled if they have accesses; a team stands below the segment
 that forks it; a thick line down is a barrier. Addresses are hexadecimal.</p>
 <p class="soft">An access in a loop touches one element in each turn of the loop: a turn is an element's number from 0 in its access.
-Where several elements of an access hold the byte, it is the lowest. An access of one element has turn 0 alone. Turns and pictures are
-worked out by this page from the log.</p>
+Where several elements of an access hold the byte, it is the lowest. An access of one element has turn 0 alone.</p>
+<p class="soft">The locks of an access are those that its member holds there, and those held at the REGIONs that lead down to it, up to
+the member of the team where the two accesses part. Locks held above that team keep neither from the other, and are not shown. Turns,
+locks and pictures are worked out by this page from the log.</p>
 </body>
 </html>
 """
@@ -187,7 +189,7 @@ worked out by this page from the log.</p>
         return "\n".join(parts)
 
     def log_of(self, bundle, shown):
-        """The decoded bundle and the two sides of each race, for turns and pictures; None for each if it is another file by now."""
+        """The decoded bundle and the two sides of each race, for turns, locks and pictures; None for each if it is another file by now."""
         try:
             log = bundles.read_log(read_bytes(bundle.path))
             if log.counts() != tuple(bundle.line.counts):
@@ -266,7 +268,7 @@ def race_html(race, sides, drawing):
             ("Does", *(a.kind for a in accesses)),
             ("Segment", *(f"team {k[0]}, member {k[1]}, segment {a.segment}" for k, a in zip(keys, accesses))),
             ("Bytes", *(f"<code>{a.range.text()}</code>" for a in accesses)),
-            ("Locks", *(", ".join(map(str, a.locks)) or "none" for a in accesses)),
+            ("Locks", *map(bundles.locks_text, sides)),
         ]
     head = '<tr><th></th><th class="one">1st access</th><th class="two">2nd access</th></tr>'
     body = "".join(f"<tr><th>{a}</th><td>{b}</td><td>{c}</td></tr>" for a, b, c in rows)
