@@ -50,20 +50,26 @@ pub enum Closure {
 
 /// The counts and the least race.
 pub fn judge(bytes: &[u8], work: &mut [u32], closure: Closure) -> Result<Judgement, Refusal> {
-    over(bytes, work, closure, |bundle, rows, table| {
-        let (mut races, mut least) = (0, u64::MAX);
-        each_race(bundle, rows, table, |key| {
-            races += 1;
-            least = least.min(key);
-        });
-        Judgement {
-            chunks: bundle.chunks.len() as u32,
-            segments: rows.len() as u32,
-            accesses: table.len() as u32,
-            races,
-            least: least_of(table, least),
-        }
+    over(bytes, work, closure, |bundle, rows, table| match Lineages::of(bundle, table) {
+        None => judgement(bundle, rows, table, |_, _| false),
+        Some(lineages) => climbing(|| judgement(bundle, rows, table, |one, other| lineages.keep_apart(table, one, other))),
     })
+}
+
+#[inline(always)]
+fn judgement(bundle: &Bundle, rows: &[MatrixRow], table: &[TableRow], apart: impl Fn(usize, usize) -> bool) -> Judgement {
+    let (mut races, mut least) = (0, u64::MAX);
+    each_race(bundle, rows, table, apart, |key| {
+        races += 1;
+        least = least.min(key);
+    });
+    Judgement {
+        chunks: bundle.chunks.len() as u32,
+        segments: rows.len() as u32,
+        accesses: table.len() as u32,
+        races,
+        least: least_of(table, least),
+    }
 }
 
 /// The least race above a witness and two names, real or not.
@@ -75,14 +81,31 @@ pub fn next_race(
 ) -> Result<Option<Race>, Refusal> {
     over(bytes, work, closure, |bundle, rows, table| {
         let floor = floor_of(table, witness, first, second);
-        let mut least = u64::MAX;
-        each_race(bundle, rows, table, |key| {
-            if key >= floor {
-                least = least.min(key);
-            }
-        });
+        let least = match Lineages::of(bundle, table) {
+            None => least_from(floor, bundle, rows, table, |_, _| false),
+            Some(lineages) => climbing(|| {
+                least_from(floor, bundle, rows, table, |one, other| lineages.keep_apart(table, one, other))
+            }),
+        };
         least_of(table, least)
     })
+}
+
+#[inline(always)]
+fn least_from(
+    floor: u64,
+    bundle: &Bundle,
+    rows: &[MatrixRow],
+    table: &[TableRow],
+    apart: impl Fn(usize, usize) -> bool,
+) -> u64 {
+    let mut least = u64::MAX;
+    each_race(bundle, rows, table, apart, |key| {
+        if key >= floor {
+            least = least.min(key);
+        }
+    });
+    least
 }
 
 /// All races in order.
@@ -382,25 +405,24 @@ fn floor_of(table: &[TableRow], witness: u32, first: Name, second: Name) -> u64 
 }
 
 fn sorted_keys(bundle: &Bundle, rows: &[MatrixRow], table: &[TableRow]) -> Vec<u64> {
-    let mut keys = Vec::new();
-    each_race(bundle, rows, table, |key| keys.push(key));
+    let mut keys = match Lineages::of(bundle, table) {
+        None => keys_of(bundle, rows, table, |_, _| false),
+        Some(lineages) => climbing(|| keys_of(bundle, rows, table, |one, other| lineages.keep_apart(table, one, other))),
+    };
     keys.sort_unstable();
     keys
 }
 
-/// Calls `found` with the key of each race. Lineages are climbed only where some REGION is met with a lock held: the loop for all
-/// other bundles is compiled without it.
-fn each_race(bundle: &Bundle, rows: &[MatrixRow], table: &[TableRow], found: impl FnMut(u64)) {
-    match Lineages::of(bundle, table) {
-        None => each_pair(bundle, rows, table, |_, _| false, found),
-        Some(lineages) => each_pair(bundle, rows, table, |one, other| lineages.keep_apart(table, one, other), found),
-    }
+#[inline(always)]
+fn keys_of(bundle: &Bundle, rows: &[MatrixRow], table: &[TableRow], apart: impl Fn(usize, usize) -> bool) -> Vec<u64> {
+    let mut keys = Vec::new();
+    each_race(bundle, rows, table, apart, |key| keys.push(key));
+    keys
 }
 
-/// All pairs, but for those of one chunk, whose segments are ordered. `apart` says whether locks held around regions keep two
-/// accesses apart; it is asked last before the bytes.
-#[inline(always)]
-fn each_pair(
+/// Calls `found` with the key of each race. All pairs, but for those of one chunk, whose segments are ordered. `apart` says
+/// whether locks held around regions keep two accesses apart; it is asked last before the bytes.
+fn each_race(
     bundle: &Bundle,
     rows: &[MatrixRow],
     table: &[TableRow],
@@ -414,7 +436,7 @@ fn each_pair(
             let one = table[first];
             let segment = one[4] as usize % 512;
             let row = rows[segment];
-            for (second, other) in table.iter().enumerate().skip(end) {
+            for (second, other) in (end..).zip(&table[end..]) {
                 if other[0] > one[1] || other[1] < one[0] {
                     continue;
                 }
@@ -438,6 +460,12 @@ fn each_pair(
 }
 
 // Lineages: the locks held at the REGIONs above two accesses, up to the team where their lineages part.
+
+/// Asks in a function of its own, so that the loop for bundles without such locks is compiled as if there were no climb.
+#[inline(never)]
+fn climbing<T>(ask: impl FnOnce() -> T) -> T {
+    ask()
+}
 
 /// By numbers of REGIONs in the order of their teams: for each access the REGION that forks its team, and the REGIONs.
 struct Lineages {
