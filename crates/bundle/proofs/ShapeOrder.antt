@@ -46,7 +46,7 @@ lacks-same cs ds h t size =
     ap not (all-same (λ m. any (isOf t m) cs) (λ m. any (isOf t m) ds) (upTo size) (h t))
 
 -- another order
-fork-perm : {fs gs : List Fork} → List·Permᴰ fs gs → Distinct (map (λ (f : Fork). f .team) fs) → SameFork fs gs
+pub fork-perm : {fs gs : List Fork} → List·Permᴰ fs gs → Distinct (map (λ (f : Fork). f .team) fs) → SameFork fs gs
 unfolding forkOf
 fork-perm p d t =
     perm-first (λ (f : Fork). eqb (f .team) t) p
@@ -120,11 +120,11 @@ pub forks-unplaced : (cs : List Chunk) → forksOf (map unplaced cs) ≡ map unp
 unfolding forksOf
 forks-unplaced cs = concatMap-along forksIn unplaced unplacedFork forks-in-unplaced cs
 
-mapOption : {A B : Type 0} → (A → B) → Option A → Option B
+unfoldable pub mapOption : {A B : Type 0} → (A → B) → Option A → Option B
 mapOption g none = none
 mapOption g (some x) = some (g x)
 
-first-map : {A B : Type 0} (g : A → B) (p : B → Bool) (xs : List A) → first p (map g xs) ≡ mapOption g (first (λ x. p (g x)) xs)
+pub first-map : {A B : Type 0} (g : A → B) (p : B → Bool) (xs : List A) → first p (map g xs) ≡ mapOption g (first (λ x. p (g x)) xs)
 unfolding mapOption
 first-map g p [] = refl
 first-map g p (x ∷ xs) = rw (first-map g p xs) (go (p (g x)))

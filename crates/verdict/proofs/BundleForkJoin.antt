@@ -183,7 +183,7 @@ module _ (s : List ℕ) (ok : Accepted s) where
       record { segment = p .before; present = back o (p .before-in); chunk = together o (p .before-in); holds = p .before-ended }
 
   -- the REGION of a team
-  fork-at : {p : Segment} {u : ℕ} → List·Memᴰ p ss → p .ended ≡ ofRegion u → (f : Fork) × List·Memᴰ f fs × Forks p f × (f .team ≡ u)
+  pub fork-at : {p : Segment} {u : ℕ} → List·Memᴰ p ss → p .ended ≡ ofRegion u → (f : Fork) × List·Memᴰ f fs × Forks p f × (f .team ≡ u)
   unfolding forksOf
   fork-at m e =
       let o = of m in
@@ -193,7 +193,7 @@ module _ (s : List ℕ) (ok : Accepted s) where
   one-fork : {f g : Fork} → List·Memᴰ f fs → List·Memᴰ g fs → f .team ≡ g .team → f ≡ g
   one-fork l m e = distinct-key (λ (x : Fork). x .team) (legible s ok .shaped .forks-once) l m e
 
-  fork-found : {f : Fork} {u : ℕ} → List·Memᴰ f fs → f .team ≡ u → forkOf fs u ≡ some f
+  pub fork-found : {f : Fork} {u : ℕ} → List·Memᴰ f fs → f .team ≡ u → forkOf fs u ≡ some f
   unfolding forkOf
   fork-found {f} {u} l e = go (first (λ (x : Fork). eqb (x .team) u) fs) refl
     where
@@ -242,7 +242,7 @@ module _ (s : List ℕ) (ok : Accepted s) where
   unfolding forkOf
   found t {f} q = let w = first-some (λ (x : Fork). eqb (x .team) t) fs q in (w .0, eqb-true (f .team) t (w .1))
 
-  forker : {f : Fork} → List·Memᴰ f fs → (x : Segment) × List·Memᴰ x ss × Forks x f
+  pub forker : {f : Fork} → List·Memᴰ f fs → (x : Segment) × List·Memᴰ x ss × Forks x f
   unfolding forksOf segmentsOf
   forker {f} l =
       let c = concatMap-elim forksIn cs l in
@@ -250,17 +250,22 @@ module _ (s : List ℕ) (ok : Accepted s) where
       let x = forked-of (r .runs) (c .gives) in
       (x .0, concatMap-intro segmentsIn (c .present) (subst (List·Memᴰ (x .0)) (sym (r .all)) (x .1)), x .2)
 
-  parent-of : {g : Segment} → List·Memᴰ g ss → (g .node .team ≡ 0 → ⊥) → Parent ss (g .node .team)
-  parent-of {g} m e = go (forkOf fs (g .node .team)) refl (member-of m)
+  -- the team of a segment is the root or forked
+  pub team-forked : {g : Segment} → List·Memᴰ g ss → (g .node .team ≡ 0 → ⊥) → (f : Fork) × (forkOf fs (g .node .team) ≡ some f)
+  team-forked {g} m e = go (forkOf fs (g .node .team)) refl (member-of m)
     where
-      go : (o : Option Fork) → forkOf fs (g .node .team) ≡ o → g .node .member < sizeOf fs (g .node .team) → Parent ss (g .node .team)
+      go : (o : Option Fork) → forkOf fs (g .node .team) ≡ o → g .node .member < sizeOf fs (g .node .team) → (f : Fork) × (forkOf fs (g .node .team) ≡ some f)
       go none q h = absurd (let z = unforked (g .node .team) e q in omega arith)
-      go (some f) q h =
-          let w = found (g .node .team) q in
-          let x = forker (w .0) in
-          let t = x .2 .parent in
-          let below = team-falls s ok f (w .0) in
-          record { segment = x .0; present = x .1; ended = x .2 .ended ∙ ap ofRegion (w .1); below = omega (arith, w .1) }
+      go (some f) q h = (f, q)
+
+  parent-of : {g : Segment} → List·Memᴰ g ss → (g .node .team ≡ 0 → ⊥) → Parent ss (g .node .team)
+  parent-of {g} m e =
+      let q = team-forked m e in
+      let w = found (g .node .team) (q .1) in
+      let x = forker (w .0) in
+      let t = x .2 .parent in
+      let below = team-falls s ok (q .0) (w .0) in
+      record { segment = x .0; present = x .1; ended = x .2 .ended ∙ ap ofRegion (w .1); below = omega (arith, w .1) }
 
   pub fork-join : ForkJoin ss fs
   fork-join =

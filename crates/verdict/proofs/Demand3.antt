@@ -19,6 +19,7 @@ use Rattle.verdict.specs.Demand.{Ascending, Exact, Demand3}
 use Rattle.verdict.specs.declared.race.Race.{Race}
 use Rattle.verdict.specs.declared.race.Verdict.the-variants as Ver
 use Rattle.bundle.proofs.Reorder.{reordered, distinct-members}
+use Rattle.bundle.proofs.Onward.{legible}
 use Rattle.verdict.proofs.RaceList.{races-elim, races-intro, races-ascending}
 use Rattle.verdict.proofs.SameRaces.{same-judgement}
 
@@ -81,13 +82,12 @@ exactly b members =
 pub demand3 : Demand3
 demand3 b c v w bytes ok re large large′ =
     let r = reordered b c bytes ok re in
-    let members = distinct-members b ok in
     record {
       accepted-too = r .0;
       judgement = judgementOf (chunksOf b);
       answer = judges b v ok large;
       same-answer =
-          rw (same-judgement (chunksOf b) (chunksOf c) (r .1) members (distinct-members c (r .0)))
+          rw (same-judgement (chunksOf b) (chunksOf c) (r .1) (legible b ok .shaped) (legible c (r .0) .shaped))
           (judges c w (r .0) large′);
-      exact = exactly b members;
+      exact = exactly b (distinct-members b ok);
     }

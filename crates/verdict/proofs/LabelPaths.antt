@@ -61,7 +61,7 @@ module _ {ss : List Segment} {fs : List Fork} (k : ForkJoin ss fs) where
   labelOfSegment g = segmentLabel fs (g .node .team) (g .node .member) (g .state)
 
   -- two segments of one team
-  data Peers (g h : Segment) : Type 0 where
+  pub data Peers (g h : Segment) : Type 0 where
     peer-same : g ≡ h → Peers g h
     peer-ahead : Ahead k g h → Earlier (lastOf g) (lastOf h) → Peers g h
     peer-behind : Ahead k h g → Earlier (lastOf h) (lastOf g) → Peers g h
@@ -76,11 +76,11 @@ module _ {ss : List Segment} {fs : List Fork} (k : ForkJoin ss fs) where
     unfolding lastTriple
     spans = ap (sizeOf fs) t
 
-    own-member : lastOf g .offset % lastOf g .span ≡ g .node .member
+    pub own-member : lastOf g .offset % lastOf g .span ≡ g .node .member
     unfolding lastTriple
     own-member = offset-member (g .node .member) (sizeOf fs (g .node .team)) (g .state .regions) (k .member p)
 
-    other-member : lastOf h .offset % lastOf g .span ≡ h .node .member
+    pub other-member : lastOf h .offset % lastOf g .span ≡ h .node .member
     unfolding lastTriple
     other-member =
         ap (λ (z : ℕ). (h .node .member + sizeOf fs (h .node .team) * h .state .regions) % z) (ap (sizeOf fs) t)
@@ -106,7 +106,7 @@ module _ {ss : List Segment} {fs : List Fork} (k : ForkJoin ss fs) where
   ahead-earlier p q t (fewer-barriers l) = fewer-earlier p q t l
   ahead-earlier p q t (fewer-regions m b r) = regions-earlier p q t m b r
 
-  peers : {g h : Segment} → In g → In h → g .node .team ≡ h .node .team → Peers g h
+  pub peers : {g h : Segment} → In g → In h → g .node .team ≡ h .node .team → Peers g h
   peers {g} {h} p q t =
       go (decLt (g .state .barriers) (h .state .barriers)) (decLt (h .state .barriers) (g .state .barriers)) (ℕ-discrete (g .node .member) (h .node .member))
       (decLt (g .state .regions) (h .state .regions))
@@ -136,7 +136,7 @@ module _ {ss : List Segment} {fs : List Fork} (k : ForkJoin ss fs) where
       go (no l) (no b) (yes m) (no r) (no s) = peer-same (same-state k p q (record { team = t; member = m }) (omega arith) (omega arith))
 
   -- the triples from a team down to a segment
-  data Down : ℕ → List Triple → Segment → Type 0 where
+  pub data Down : ℕ → List Triple → Segment → Type 0 where
     at : {t : ℕ} {g : Segment} → In g → g .node .team ≡ t → Down t (lastOf g ∷ []) g
     via : {t : ℕ} {p : Segment} {u : ℕ} {ts : List Triple} {g : Segment} → In p → p .node .team ≡ t → p .ended ≡ ofRegion u → Down u ts g → Down t (lastOf p ∷ ts) g
 
@@ -145,11 +145,11 @@ module _ {ss : List Segment} {fs : List Fork} (k : ForkJoin ss fs) where
   down-in (via i e f d) = down-in d
 
   -- from the segment that forks the team, and to the one that is opened at the join
-  down-path : {u : ℕ} {ts : List Triple} {p g : Segment} → In p → p .ended ≡ ofRegion u → Down u ts g → Path p g
+  pub down-path : {u : ℕ} {ts : List Triple} {p g : Segment} → In p → p .ended ≡ ofRegion u → Down u ts g → Path p g
   down-path i e (at j f) = into k i j (e ∙ ap ofRegion (sym f))
   down-path i e (via j f o d) = path-trans (into k i j (e ∙ ap ofRegion (sym f))) (down-path j o d)
 
-  up-path : {u : ℕ} {ts : List Triple} {p g : Segment} (a : After k p u) → Down u ts g → Path g (a .next)
+  pub up-path : {u : ℕ} {ts : List Triple} {p g : Segment} (a : After k p u) → Down u ts g → Path g (a .next)
   up-path a (at j f) = out-of k j f a
   up-path a (via j f o d) =
       let b = after k j o in
@@ -162,7 +162,7 @@ module _ {ss : List Segment} {fs : List Fork} (k : ForkJoin ss fs) where
     related-after : LabelBefore bs as′ → Path h g → Related as′ bs g h
     related-apart : Apart as′ bs → Related as′ bs g h
 
-  ended-one : {u v : ℕ} {p q : Segment} → p ≡ q → p .ended ≡ ofRegion u → q .ended ≡ ofRegion v → u ≡ v
+  pub ended-one : {u v : ℕ} {p q : Segment} → p ≡ q → p .ended ≡ ofRegion u → q .ended ≡ ofRegion v → u ≡ v
   ended-one {u} {v} e f g = let w : ofRegion u ≡ ofRegion v = sym f ∙ ap (λ (x : Segment). x .ended) e ∙ g in cc
 
   lifted : {a b : Triple} {as′ bs : List Triple} {g h : Segment} → a ≡ b → Related as′ bs g h → Related (a ∷ as′) (b ∷ bs) g h
@@ -233,7 +233,7 @@ module _ {ss : List Segment} {fs : List Fork} (k : ForkJoin ss fs) where
       ap (λ (l : List Triple). l ++ (lastOf g ∷ []))
       (ap (λ (u : ℕ). forkLabel (suc u) fs u) f ∙ (unfold segmentLabel in (k .fork-label i e)))
 
-  from-root : (n : ℕ) {g : Segment} → g .node .team < n → In g → Down 0 (labelOfSegment g) g
+  pub from-root : (n : ℕ) {g : Segment} → g .node .team < n → In g → Down 0 (labelOfSegment g) g
   from-root zero h i = absurd (omega arith)
   from-root (suc n) {g} h i = go (λ p l j. from-root n {g = p} l j) (ℕ-discrete (g .node .team) 0)
     where

@@ -1,19 +1,29 @@
 -- Chunks in another order: the same segments, accesses, paths, races and judgement.
+use Prim.Native.Nat.{ℕ, zero, suc}
 use mathlib.Core.Path.{_≡_, refl, sym, _∙_, ap}
-use mathlib.Core.List.{List, map, List·Memᴰ, List·Permᴰ, Permᴰ·symm}
+use mathlib.Core.List.{List, [], _∷_, map, List·Memᴰ, List·Permᴰ, Permᴰ·symm}
+use mathlib.Core.Option.{Option, none, some}
+use lib.Dec.{eqb}
 use lib.ListN.{length, length-map}
-use Rattle.bundle.specs.Lists.{concatMap}
+use Rattle.bundle.specs.Lists.{any, first, concatMap, fromOption}
+use Rattle.bundle.specs.Locks.{holds}
 use Rattle.bundle.specs.Chunks.{Chunk}
-use Rattle.bundle.specs.Walk.{entriesOf, openingAt, segmentsFrom}
-use Rattle.bundle.proofs.ListLaws.{perm-mem, perm-length, perm-concatMap, Distinct, concatMap-map}
-use Rattle.bundle.proofs.Places.{unplaced, unplacedEntry, memberKey, entries-unplaced}
+use Rattle.bundle.specs.Walk.{entriesOf, openingAt, segmentsFrom, forksIn, forksOf}
+use Rattle.bundle.specs.Check.{forkOf}
+use Rattle.bundle.specs.declared.index.Fork.{Fork}
+use Rattle.bundle.proofs.ListLaws.{perm-mem, perm-length, perm-concatMap, concatMap-map}
+use Rattle.bundle.proofs.Places.{unplaced, unplacedEntry, entries-unplaced}
+use Rattle.bundle.proofs.Shaped.{Shaped}
+use Rattle.bundle.proofs.ShapeOrder.{fork-perm, unplacedFork, forks-unplaced, mapOption, first-map, shaped-unplaced}
 use Rattle.verdict.specs.Graph.{Node, Segment, GraphPath, here, step, segmentsIn, segmentsOf}
-use Rattle.verdict.specs.Accesses.{accessAt, accessesIn, accessesOf}
+use Rattle.verdict.specs.Accesses.{NamedAccess, accessAt, accessesIn, accessesOf}
+use Rattle.verdict.specs.Lineages.{Holder, holderOf, aboveFrom, lineage, upToParting, countsLock}
 use Rattle.verdict.specs.Races.{IsRace}
 use Rattle.verdict.specs.RaceLists.{racesOf}
 use Rattle.verdict.specs.Judge.{judgementOf}
 use Rattle.verdict.specs.declared.race.Race.{Race}
 use Rattle.verdict.proofs.Sorting.{ascending-unique}
+use Rattle.verdict.proofs.LineageLaws.{forker}
 use Rattle.verdict.proofs.RaceList.{races-elim, races-intro, races-ascending}
 
 -- segments and accesses do not see the offsets
@@ -70,8 +80,53 @@ accesses-perm cs ds d = rw (accesses-unplaced cs, accesses-unplaced ds) at (perm
 pub same-path : (cs ds : List Chunk) → SameChunks cs ds → {a b : Node} → GraphPath (segmentsOf cs) a b → GraphPath (segmentsOf ds) a b
 same-path cs ds same p = path-among (λ s m. perm-mem (segments-perm cs ds same) m) p
 
-pub same-race : (cs ds : List Chunk) → SameChunks cs ds → {r : Race} → IsRace cs r → IsRace ds r
-same-race cs ds same i =
+-- lineages do not see the offsets or the order
+above-same :
+    (fuel : ℕ) (fs gs : List Fork) → ((u : ℕ) → forkOf fs u ≡ forkOf gs u) → (t : ℕ) → aboveFrom fuel fs t ≡ aboveFrom fuel gs t
+unfolding aboveFrom
+above-same zero fs gs h t = refl
+above-same (suc fuel) fs gs h t =
+    rw (h t) (λ i. fromOption [] (λ (f : Fork). forker f ∷ above-same fuel fs gs h (f .parent) i) (forkOf gs t))
+
+above-unplaced : (fuel : ℕ) (fs : List Fork) (t : ℕ) → aboveFrom fuel (map unplacedFork fs) t ≡ aboveFrom fuel fs t
+unfolding aboveFrom forkOf unplacedFork mapOption
+above-unplaced zero fs t = refl
+above-unplaced (suc fuel) fs t =
+    rw (first-map unplacedFork (λ (f : Fork). eqb (f .team) t) fs)
+    (go (first (λ (f : Fork). eqb (f .team) t) fs) (above-unplaced fuel fs))
+  where
+    go :
+        (o : Option Fork)
+        → ((u : ℕ) → aboveFrom fuel (map unplacedFork fs) u ≡ aboveFrom fuel fs u)
+        → fromOption [] (λ (f : Fork). forker f ∷ aboveFrom fuel (map unplacedFork fs) (f .parent)) (mapOption unplacedFork o)
+        ≡ fromOption [] (λ (f : Fork). forker f ∷ aboveFrom fuel fs (f .parent)) o
+    go none ih = refl
+    go (some f) ih = ap (λ (hs : List Holder). forker f ∷ hs) (ih (f .parent))
+
+same-above :
+    (cs ds : List Chunk) → SameChunks cs ds → Shaped cs → (fuel t : ℕ) → aboveFrom fuel (forksOf cs) t ≡ aboveFrom fuel (forksOf ds) t
+same-above cs ds same shaped fuel t =
+    sym (unplaced-above cs)
+    ∙ above-same fuel (forksOf (map unplaced cs)) (forksOf (map unplaced ds)) (fork-perm forks (shaped-unplaced cs shaped .forks-once)) t
+    ∙ unplaced-above ds
+  where
+    unplaced-above : (es : List Chunk) → aboveFrom fuel (forksOf (map unplaced es)) t ≡ aboveFrom fuel (forksOf es) t
+    unplaced-above es = ap (λ (fs : List Fork). aboveFrom fuel fs t) (forks-unplaced es) ∙ above-unplaced fuel (forksOf es) t
+
+    forks : List·Permᴰ (forksOf (map unplaced cs)) (forksOf (map unplaced ds))
+    forks = unfold forksOf in (perm-concatMap forksIn same)
+
+same-counted :
+    (cs ds : List Chunk) → SameChunks cs ds → Shaped cs → (a b : Holder) (lock : ℕ)
+    → countsLock (forksOf cs) a b lock ≡ countsLock (forksOf ds) a b lock
+unfolding countsLock lineage
+same-counted cs ds same shaped a b lock =
+    λ i.
+    any (λ (h : Holder). holds lock (h .locks))
+    (upToParting (a ∷ same-above cs ds same shaped (suc (a .team)) (a .team) i) (b ∷ same-above cs ds same shaped (suc (b .team)) (b .team) i))
+
+pub same-race : (cs ds : List Chunk) → SameChunks cs ds → Shaped cs → {r : Race} → IsRace cs r → IsRace ds r
+same-race cs ds same shaped i =
     record {
       one = i .one;
       other = i .other;
@@ -80,7 +135,8 @@ same-race cs ds same i =
       lower = i .lower;
       writing = i .writing;
       not-atomic = i .not-atomic;
-      no-lock = i .no-lock;
+      no-lock = λ lock h p q.
+          i .no-lock lock h (counted (i .one) (i .other) lock ∙ p) (counted (i .other) (i .one) lock ∙ q);
       no-path = λ p. i .no-path (same-path ds cs (Permᴰ·symm same) p);
       no-path-back = λ p. i .no-path-back (same-path ds cs (Permᴰ·symm same) p);
       shared = i .shared;
@@ -88,6 +144,9 @@ same-race cs ds same i =
       other-element = i .other-element;
       carried = i .carried;
     }
+  where
+    counted : (x y : NamedAccess) (lock : ℕ) → countsLock (forksOf cs) (holderOf x) (holderOf y) lock ≡ countsLock (forksOf ds) (holderOf x) (holderOf y) lock
+    counted x y lock = same-counted cs ds same shaped (holderOf x) (holderOf y) lock
 
 -- the counts
 pub same-chunk-count : (cs ds : List Chunk) → SameChunks cs ds → length cs ≡ length ds
@@ -101,12 +160,12 @@ same-access-count cs ds same = perm-length (accesses-perm cs ds same)
 
 module _
     (cs ds : List Chunk) (same : SameChunks cs ds)
-    (members : Distinct (map memberKey cs)) (members′ : Distinct (map memberKey ds)) where
+    (shaped : Shaped cs) (shaped′ : Shaped ds) where
   pub same-races : racesOf cs ≡ racesOf ds
   same-races =
-      ascending-unique (races-ascending cs members) (races-ascending ds members′)
-      (λ r m. races-intro ds (same-race cs ds same (races-elim cs m)))
-      (λ r m. races-intro cs (same-race ds cs (Permᴰ·symm same) (races-elim ds m)))
+      ascending-unique (races-ascending cs (shaped .members-once)) (races-ascending ds (shaped′ .members-once))
+      (λ r m. races-intro ds (same-race cs ds same shaped (races-elim cs m)))
+      (λ r m. races-intro cs (same-race ds cs (Permᴰ·symm same) shaped′ (races-elim ds m)))
 
   pub same-judgement : judgementOf cs ≡ judgementOf ds
   unfolding judgementOf
