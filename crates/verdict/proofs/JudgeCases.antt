@@ -1,10 +1,11 @@
 -- Judge and next race, case by case: the tables in the work area, the counts, the answers, and demand 3.
 use Prim.Native.Nat.{ℕ, suc, _≤_, _<_}
-use mathlib.Core.Path.{_≡_, refl, sym, _∙_, ap, subst}
+use mathlib.Core.Path.{_≡_, refl, sym, _∙_, ap, ap₂, subst}
 use mathlib.Core.Bool.{Bool, true, false, cond, not, _||_}
-use mathlib.Core.List.{List, [], _∷_, _++_, append-nil}
+use mathlib.Core.List.{List, [], _∷_, _++_, append-nil, List·Memᴰ}
 use mathlib.Core.Option.{Option, none, some}
 use native.Mathlib.Omega.{arith}
+use native.Mathlib.Decide.{decLt}
 use lib.ListN.{length, take, drop, replicate, getD, getElem?, length-drop}
 use lib.Seq.{length-take-le, length-front, take-at, drop-at, drop-length}
 use borrow.Rule.Slice.PartMut.{same-len-mid}
@@ -12,21 +13,25 @@ use borrow.Author.Tests.{lt-ltb, le-ltb}
 use Rattle.bundle.specs.Answer.{Answer, gives, refuses, numberOf}
 use Rattle.bundle.specs.Lists.{first}
 use Rattle.bundle.specs.Commands.{Bytes, Lent, rangeOk}
-use Rattle.bundle.specs.Walk.{Segment}
+use Rattle.bundle.specs.Walk.{Segment, forksOf}
 use Rattle.bundle.specs.Chunks.{Chunk, chunksOf}
-use Rattle.bundle.specs.Check.{checkOf, Accepted}
-use Rattle.bundle.specs.Index.{chunkRowAt, rowsFrom, chunkRows, Indexed}
+use Rattle.bundle.specs.Check.{forkOf, checkOf, Accepted}
+use Rattle.bundle.specs.Index.{chunkRowAt, forkRowAt, rowsFrom, chunkRows, Indexed}
+use Rattle.bundle.specs.declared.index.Fork.{Fork}
 use Rattle.bundle.specs.declared.refusal.Cause.{Cause}
 use Rattle.bundle.proofs.Tables.{table-length}
 use Rattle.bundle.proofs.Reorder.{distinct-members}
-use Rattle.verdict.specs.Graph.{segmentsOf}
+use Rattle.bundle.proofs.Onward.{team-falls}
+use Rattle.order.proofs.Climbs.{fork-none}
+use Rattle.verdict.specs.Graph.{Node, segmentsOf}
 use Rattle.verdict.specs.Accesses.{NamedAccess, lexLess, keyOf, raceKey, accessesOf}
 use Rattle.verdict.specs.RaceLists.{racesOf}
-use Rattle.verdict.specs.Working.{nodeCode, accessRowAt}
+use Rattle.verdict.specs.Working.{nodeCode, accessRowAt, AccessTable}
+use Rattle.verdict.specs.Linking.{forksIn, forkFor, Rooted, LineagesFit}
 use Rattle.verdict.specs.Tallying.{aboveKey, tallyAll, RowFits, TablesFit}
 use Rattle.verdict.specs.Judge.{verdictOf, judgementOf, raceAbove, overWork, judgedOf, judgeOf, nextAbove, nextOf, judgingOf, nextRaceOf}
 use Rattle.verdict.specs.Promise.{Promise}
-use Rattle.verdict.specs.Census.{matrixPart, rowsPart, MatrixFilled, AreaFilled, leastOf, Tallies, Counted, verdictIn, nextIn}
+use Rattle.verdict.specs.Census.{matrixPart, rowsPart, RegionsOf, MatrixFilled, AreaFilled, leastOf, Tallies, Counted, verdictIn, nextIn}
 use Rattle.verdict.specs.declared.race.Name.{Name}
 use Rattle.verdict.specs.declared.race.Race.{Race}
 use Rattle.verdict.specs.declared.race.Verdict.the-variants as Ver
@@ -43,6 +48,9 @@ use Rattle.verdict.specs.Edges.{Tables, Reached}
 use Rattle.verdict.specs.declared.fill.Counts.{Counts}
 use Rattle.verdict.proofs.Regularity.{regular}
 use Rattle.verdict.proofs.ListPlaces.{below-at, at-below, at-mem}
+use Rattle.verdict.proofs.LinkLaws.{table-in}
+use Rattle.verdict.proofs.AccessSegments.{stands}
+use Rattle.verdict.proofs.BundleForkJoin.{forker, team-forked}
 use Rattle.verdict.proofs.RowRaces.{row-range}
 use Rattle.verdict.proofs.Tallies.{bundle-tallied}
 use Rattle.verdict.proofs.Demand3.{demand3}
@@ -122,18 +130,63 @@ module _ (s : List ℕ) {r : Counts} {ends opens nodes rows : List ℕ} (f : Fil
         access-count = f .accesses;
       }
 
+-- the lineages of an accepted bundle lead to the root
+module _ (s : List ℕ) (ok : Accepted s) {forks : List ℕ} {regions : ℕ} (r : RegionsOf s forks regions) where
+  -- a team that is forked has its REGION among the first
+  index-below : (t : ℕ) {f : Fork} → forkOf (forksOf (chunksOf s)) t ≡ some f → forkFor forks regions t < regions
+  index-below t {f} e = go (decLt (forkFor forks regions t) regions)
+    where
+      go : Dec (forkFor forks regions t < regions) → forkFor forks regions t < regions
+      go (yes h) = h
+      go (no h) =
+          let q : none ≡ some f =
+          sym (fork-none (forkRowAt forks) regions t (forkFor forks regions t) refl (omega arith)) ∙ ap (λ (fs : List Fork). forkOf fs t) (r .rows) ∙ e
+          in
+          absurd (let z : _≡_ {A = ℕ} 0 1 = cc in omega arith)
+
+  segment-rooted : {g : Segment} → List·Memᴰ g (segmentsOf (chunksOf s)) → (g .node .team ≡ 0 → ⊥) → forkFor forks regions (g .node .team) < regions
+  segment-rooted {g} m n = index-below (g .node .team) (team-forked s ok m n .1)
+
+  rooted : Rooted forks regions
+  rooted =
+      record {
+        falls = λ f m. team-falls s ok f (subst (List·Memᴰ f) (r .rows) m);
+        forked = λ k h n.
+            let x = forker s ok (subst (List·Memᴰ (forkRowAt forks k)) (r .rows) (table-in (forkRowAt forks) regions k h)) in
+            subst (λ (t : ℕ). forkFor forks regions t < regions) (sym (x .2 .parent)) (segment-rooted (x .1) (λ q. n (x .2 .parent ∙ q)));
+      }
+
+  pub lineages-fit :
+      {rows : List ℕ} {n : ℕ}
+      → AccessTable (segmentsOf (chunksOf s)) (accessesOf (chunksOf s)) rows
+      → n ≡ length (accessesOf (chunksOf s))
+      → LineagesFit rows forks regions n
+  lineages-fit {rows} {n} a count =
+      record {
+        few = r .few;
+        rooted = rooted;
+        rows-rooted = record { teams = λ j h. teams j (below-at xs j (omega (arith, count))) };
+      }
+    where
+      xs : List NamedAccess
+      xs = accessesOf (chunksOf s)
+
+      teams : (j : ℕ) → (x : NamedAccess) × (getElem? xs j ≡ some x) → (accessRowAt rows j .team ≡ 0 → ⊥) → forkFor forks regions (accessRowAt rows j .team) < regions
+      teams j (x, e) n =
+          let w = stands (chunksOf s) (at-mem xs j e) in
+          let t : accessRowAt rows j .team ≡ w .segment .node .team = a .rows j e .team ∙ w .team ∙ ap (λ (k : Node). k .team) (sym (w .node)) in
+          subst (λ (u : ℕ). forkFor forks regions u < regions) (sym t) (segment-rooted (w .present) (λ q. n (t ∙ q)))
+
 -- a filled area is one for the loops
 module _ (s area : List ℕ) {g n : ℕ} (a : AreaFilled s area g n) where
-  pub area-fits : 16384 ≤ length area → TablesFit (matrixPart area) (rowsPart area) n × (16384 ≤ length area)
-  area-fits large = (
-    record {
-      whole = matrix-long area large;
-      rows-whole = rows-room area large;
-      few = omega (arith, a .access-count, a .rows .few);
-      fit = λ i h. fits i (below-at xs i (omega (arith, a .access-count)));
-    },
-    large,
-  )
+  pub tables-fit : 16384 ≤ length area → TablesFit (matrixPart area) (rowsPart area) n
+  tables-fit large =
+      record {
+        whole = matrix-long area large;
+        rows-whole = rows-room area large;
+        few = omega (arith, a .access-count, a .rows .few);
+        fit = λ i h. fits i (below-at xs i (omega (arith, a .access-count)));
+      }
     where
       ss : List Segment
       ss = segmentsOf (chunksOf s)
@@ -149,17 +202,30 @@ module _ (s area : List ℕ) {g n : ℕ} (a : AreaFilled s area g n) where
             range = ap rangeOk (row-range r) ∙ r .good;
           }
 
+  pub area-fits :
+      Accepted s
+      → {forks : List ℕ} {regions : ℕ}
+      → RegionsOf s forks regions
+      → 16384 ≤ length area
+      → TablesFit (matrixPart area) (rowsPart area) n × LineagesFit (rowsPart area) forks regions n × (16384 ≤ length area)
+  area-fits ok r large = (tables-fit large, lineages-fit s ok r (a .rows) (a .access-count), large)
+
   pub census-counted :
       Accepted s
+      → {forks : List ℕ} {regions : ℕ}
+      → RegionsOf s forks regions
       → (key : Key) {t : Tally}
-      → t ≡ tallyAll (matrixPart area) (rowsPart area) key n
+      → t ≡ tallyAll (matrixPart area) (forksIn forks regions) (rowsPart area) key n
       → Counted s key (record { segments = g; accesses = n; tally = t })
-  census-counted ok key e =
+  census-counted ok r key e =
       record {
         segment-count = a .segment-count;
         access-count = a .access-count;
         tally =
-            subst (Tallies (racesOf (chunksOf s)) key) (sym (e ∙ ap (tallyAll (matrixPart area) (rowsPart area) key) (a .access-count)))
+            subst (Tallies (racesOf (chunksOf s)) key)
+            (sym
+            (e
+            ∙ ap₂ (λ (fs : List Fork) (k : ℕ). tallyAll (matrixPart area) fs (rowsPart area) key k) (r .rows) (a .access-count)))
             (bundle-tallied (chunksOf s) (distinct-members s ok) (a .paths) (a .rows) key);
       }
 
@@ -192,6 +258,9 @@ rows-length g n (c ∷ cs) = ap suc (rows-length _ _ cs)
 pub chunk-count : (s : List ℕ) (n m : ℕ) (chunks forks : List ℕ) → Indexed s n m chunks forks → n ≡ length (chunksOf s)
 chunk-count s n m chunks forks x =
     sym (table-length (chunkRowAt chunks) n) ∙ ap length (x .chunk-rows) ∙ (unfold chunkRows in (rows-length 0 0 (chunksOf s)))
+
+pub regions-of : {s : List ℕ} {n m : ℕ} {chunks forks : List ℕ} → Indexed s n m chunks forks → RegionsOf s forks m
+regions-of x = record { few = omega (arith, x .few); rows = x .fork-rows }
 
 -- the answers of an accepted bundle, and of one that is refused
 module _ (s : List ℕ) {n m : ℕ} {chunks forks : List ℕ} (x : Indexed s n m chunks forks) where

@@ -7,8 +7,10 @@ pub mod Reachability
 pub mod Lexical
 pub mod Sorting
 pub mod AccessNames
+pub mod LineageLaws
 pub mod RaceList
 pub mod RaceElements
+pub mod OwnLocks
 pub mod SameRaces
 pub mod Demand3
 pub mod NextRace
@@ -31,8 +33,10 @@ pub mod PackedNames
 pub mod RowRaces
 pub mod EveryPair
 pub mod Tallies
+pub mod LinkLaws
 pub mod PairCases
 pub mod PairBlocks
+pub mod ClashWords
 pub mod JudgeCases
 pub mod LabelOrder
 pub mod ForkJoin
@@ -40,3 +44,6 @@ pub mod SegmentChains
 pub mod BundleForkJoin
 pub mod LabelPaths
 pub mod LabelsAgree
+pub mod LineageTails
+pub mod AccessSegments
+pub mod Partings

@@ -11,10 +11,12 @@ use lib.Dec.{eqb}
 use lib.Pow.{shr-shr}
 use borrow.Author.Count.{below-more}
 use borrow.Author.Tests.{eqb-true, eq-eqb}
-use Rattle.bundle.proofs.Tests.{or-false, same-test}
+use Rattle.bundle.specs.Locks.{commonLock}
+use Rattle.bundle.specs.declared.index.Fork.{Fork}
+use Rattle.bundle.proofs.Tests.{or-false, same-test, not-both, refuted, fails}
 use Rattle.order.specs.Ranges.{sharedByte}
 use Rattle.order.proofs.CommonLocks.{common-bits}
-use Rattle.verdict.specs.Matrix.{bitAt, Within, TestWord}
+use Rattle.verdict.specs.Matrix.{bitAt, Within}
 use Rattle.verdict.specs.Working.{accessRowAt, RowIn}
 use Rattle.verdict.specs.Tallying.{
   rowRange,
@@ -22,6 +24,8 @@ use Rattle.verdict.specs.Tallying.{
   raceAtByte,
   kindsClash,
   locksApart,
+  rowHolder,
+  countedApart,
   rowsPass,
   unordered,
   rowsClash,
@@ -34,6 +38,8 @@ use Rattle.verdict.specs.Tallying.{
   TablesFit,
   NoneMeet,
   BlockIn,
+  RowsFit,
+  ClashWord,
   BlockFits,
   BlockTallied,
 }
@@ -42,6 +48,7 @@ use Rattle.verdict.specs.declared.rows.AccessRow.{AccessRow}
 use Rattle.verdict.specs.declared.pairs.Key.{Key}
 use Rattle.verdict.specs.declared.pairs.Tally.{Tally}
 use Rattle.verdict.specs.declared.pairs.Sum.{Sum}
+use Rattle.verdict.proofs.LineageLaws.{common-lock-elim, own-common}
 use Rattle.verdict.proofs.PairCases.{pair-count, row-more, row-count, fewer-rows}
 
 -- the code's test of two halves of a lock set
@@ -97,74 +104,114 @@ clash-odd m a left {d = d} ne e q =
     e ∙ ap (unordered m a) q ∙ sym (ap (λ (x : Bool). x && unordered m a d) (eq-eqb (left % 2) 1 odd))
 
 -- the tests in the code's order, and in that of the definition
-module _ (m : List ℕ) (one other : AccessRow) where
-  reordered : (b l k u : Bool) → ((b && (l && k)) && u) ≡ (b && (k && l && u))
-  reordered true true true u = refl
-  reordered true true false u = refl
-  reordered true false true u = refl
-  reordered true false false u = refl
-  reordered false l k u = refl
+module _ (m : List ℕ) (fs : List Fork) (one other : AccessRow) where
+  abbrev noPath : Bool
+  noPath = unordered m (one .segment) (other .segment)
 
-  pub pass-clash : (rowsPass one other && unordered m (one .segment) (other .segment)) ≡ (rowsMeet one other && rowsClash m one other)
+  -- a lock that both hold counts for both
+  own-apart : countedApart fs one other ≡ true → locksApart (one .locks) (other .locks) ≡ true
+  own-apart h =
+      fails (commonLock (one .locks) (other .locks))
+      (λ c.
+      let l = common-lock-elim (one .locks) (other .locks) c in
+      refuted (own-common fs (rowHolder one) (rowHolder other) (l .0) (l .1) (l .2) (l .3)) h)
+
+  counted-last : (b l k u a : Bool) → (a ≡ true → l ≡ true) → ((((b && (l && k)) && u) && a) && u) ≡ (b && (k && a && u))
+  counted-last true true true true true h = refl
+  counted-last true true true true false h = refl
+  counted-last true true true false true h = refl
+  counted-last true true true false false h = refl
+  counted-last true true false u true h = refl
+  counted-last true true false u false h = refl
+  counted-last true false k u true h = not-both (h refl) refl
+  counted-last true false true u false h = refl
+  counted-last true false false u false h = refl
+  counted-last false l k u a h = refl
+
+  -- all locks that count looked at last
+  pub pass-counted : (((rowsPass one other && noPath) && countedApart fs one other) && noPath) ≡ (rowsMeet one other && rowsClash m fs one other)
   unfolding rowsPass rowsClash
-  pass-clash =
-      reordered (rowsMeet one other) (locksApart (one .locks) (other .locks)) (kindsClash (one .kind) (other .kind))
-      (unordered m (one .segment) (other .segment))
+  pass-counted =
+      counted-last (rowsMeet one other) (locksApart (one .locks) (other .locks)) (kindsClash (one .kind) (other .kind)) noPath
+      (countedApart fs one other) own-apart
+
+  -- or the own locks, where no others count
+  own-only : (b l k u : Bool) → ((b && (l && k)) && u) ≡ (b && (k && l && u))
+  own-only true true true u = refl
+  own-only true true false u = refl
+  own-only true false true u = refl
+  own-only true false false u = refl
+  own-only false l k u = refl
+
+  pub pass-own :
+      countedApart fs one other ≡ locksApart (one .locks) (other .locks)
+      → (rowsPass one other && noPath) ≡ (rowsMeet one other && rowsClash m fs one other)
+  unfolding rowsPass rowsClash
+  pass-own e =
+      own-only (rowsMeet one other) (locksApart (one .locks) (other .locks)) (kindsClash (one .kind) (other .kind)) noPath
+      ∙ ap (λ (l : Bool). rowsMeet one other && (kindsClash (one .kind) (other .kind) && l && noPath)) (sym e)
 
   -- no race
-  pub apart-none : rowsMeet one other ≡ false → pairRace m one other ≡ none
+  pub apart-none : rowsMeet one other ≡ false → pairRace m fs one other ≡ none
   unfolding pairRace
   apart-none e = rw e
 
-  pub failed-none : rowsPass one other ≡ false → pairRace m one other ≡ none
+  pub failed-none : (rowsMeet one other && rowsClash m fs one other) ≡ false → pairRace m fs one other ≡ none
   unfolding pairRace clashRace
   failed-none e =
       let o : Option Race = raceAtByte one other (sharedByte (rowRange one) (rowRange other)) in
-      both-tests (rowsMeet one other) (rowsClash m one other) o
-      ∙ ap (λ (x : Bool). cond x o none) (sym pass-clash ∙ ap (λ (x : Bool). x && unordered m (one .segment) (other .segment)) e)
+      both-tests (rowsMeet one other) (rowsClash m fs one other) o ∙ ap (λ (x : Bool). cond x o none) e
     where
       both-tests : (x y : Bool) (o : Option Race) → cond x (cond y o none) none ≡ cond (x && y) o none
       both-tests true y o = refl
       both-tests false y o = refl
 
-module _ (m rows : List ℕ) (key : Key) (one : AccessRow) where
+-- what is asked for the j-th access of a block
+module _ {m rows : List ℕ} {one : AccessRow} {i first end j : ℕ} (f : RowsFit m rows one i first end) (h : j < end) where
+  pub block-row-in : RowIn rows j
+  block-row-in = record { below = omega (arith, f .tables .few); whole = f .tables .rows-whole }
+
+  pub block-within : Within m (one .segment) (accessRowAt rows j .segment)
+  block-within = record { whole = f .tables .whole; row = f .row .segment; column = f .tables .fit j h .segment }
+
+module _ (m : List ℕ) (fs : List Fork) (rows : List ℕ) (key : Key) (one : AccessRow) where
   -- rows that do not race change nothing
   rows-skipped :
       (t : Tally) (j k : ℕ)
-      → ((l : ℕ) → l < k → pairRace m one (accessRowAt rows (j + l)) ≡ none)
-      → tallyRow m rows key one t j ≡ tallyRow m rows key one t (j + k)
-  rows-skipped t j zero h = let same : j ≡ j + 0 = omega arith in ap (tallyRow m rows key one t) same
+      → ((l : ℕ) → l < k → pairRace m fs one (accessRowAt rows (j + l)) ≡ none)
+      → tallyRow m fs rows key one t j ≡ tallyRow m fs rows key one t (j + k)
+  rows-skipped t j zero h = let same : j ≡ j + 0 = omega arith in ap (tallyRow m fs rows key one t) same
   rows-skipped t j (suc k) h =
       let next : j + k + 1 ≡ j + suc k = omega arith in
       rows-skipped t j k (λ l a. h l (omega arith))
-      ∙ row-more m rows key one t (j + k) refl (unfold addPair in (sym (ap (addPair key (tallyRow m rows key one t (j + k))) (h k (omega arith)))))
-      ∙ ap (tallyRow m rows key one t) next
+      ∙ row-more m fs rows key one t (j + k) refl (unfold addPair in (sym (ap (addPair key (tallyRow m fs rows key one t (j + k))) (h k (omega arith)))))
+      ∙ ap (tallyRow m fs rows key one t) next
 
   skipped :
       {first j end : ℕ} {s u : Tally}
-      → BlockTallied m rows key one first j s u
+      → BlockTallied m fs rows key one first j s u
       → j ≤ end
-      → ((l : ℕ) → j + l < end → pairRace m one (accessRowAt rows (j + l)) ≡ none)
-      → BlockTallied m rows key one first end s u
+      → ((l : ℕ) → j + l < end → pairRace m fs one (accessRowAt rows (j + l)) ≡ none)
+      → BlockTallied m fs rows key one first end s u
   skipped {first} {j} {end} b h none-race =
       record {
         more = λ t e.
             let whole : j + (end - j) ≡ end = omega arith in
             b .more t e
             ∙ rows-skipped t j (end - j) (λ l a. none-race l (omega arith))
-            ∙ ap (tallyRow m rows key one t) whole;
+            ∙ ap (tallyRow m fs rows key one t) whole;
       }
 
-  pub none-met : {first end : ℕ} {s : Tally} → first ≤ end → end ≤ first + 32 → NoneMeet one rows first 32 → BlockTallied m rows key one first end s s
+  pub none-met : {first end : ℕ} {s : Tally} → first ≤ end → end ≤ first + 32 → NoneMeet one rows first 32 → BlockTallied m fs rows key one first end s s
   none-met {first} h short n =
-      skipped (record { more = λ t e. e }) h (λ l a. apart-none m one (accessRowAt rows (first + l)) (n .apart l (omega arith)))
+      skipped (record { more = λ t e. e }) h (λ l a. apart-none m fs one (accessRowAt rows (first + l)) (n .apart l (omega arith)))
 
   -- what the loop over a block has done so far
   pub record BlockTo (first word : ℕ) (before sum : Sum) (left j : ℕ) : Type 0 where
     pub passed : first ≤ j
     pub left-is : left ≡ word / 2 ^ (j - first)
     pub few : sum .count + first ≤ before .count + j
-    pub tallied : BlockTallied m rows key one first j (tallyIn rows before) (tallyIn rows sum)
+    pub tallied : BlockTallied m fs rows key one first j (tallyIn rows before) (tallyIn rows sum)
 
   pub block-none : (first word : ℕ) (s : Sum) → BlockTo first word s s word first
   block-none first word s =
@@ -179,72 +226,76 @@ module _ (m rows : List ℕ) (key : Key) (one : AccessRow) where
   module _ {first word : ℕ} {before sum : Sum} {left j : ℕ} (b : BlockTo first word before sum left j) where
     pub block-more :
         (sum′ : Sum)
-        → tallyIn rows sum′ ≡ addPair key (tallyIn rows sum) (pairRace m one (accessRowAt rows j))
+        → tallyIn rows sum′ ≡ addPair key (tallyIn rows sum) (pairRace m fs one (accessRowAt rows j))
         → BlockTo first word before sum′ (left / 2) (j + 1)
     block-more sum′ e =
         let bits : j - first + 1 ≡ j + 1 - first = omega (arith, b .passed) in
-        let count : sum′ .count ≡ addPair key (tallyIn rows sum) (pairRace m one (accessRowAt rows j)) .count = ap (λ (t : Tally). t .count) e in
+        let count : sum′ .count ≡ addPair key (tallyIn rows sum) (pairRace m fs one (accessRowAt rows j)) .count = ap (λ (t : Tally). t .count) e in
         record {
           passed = omega (arith, b .passed);
           left-is =
               ap (λ (n : ℕ). n / 2) (b .left-is)
               ∙ shr-shr word (j - first) 1
               ∙ ap (λ (k : ℕ). word / 2 ^ k) bits;
-          few = omega (arith, b .few, pair-count key (tallyIn rows sum) (pairRace m one (accessRowAt rows j)));
-          tallied = record { more = λ t q. row-more m rows key one t j (b .tallied .more t q) e };
+          few = omega (arith, b .few, pair-count key (tallyIn rows sum) (pairRace m fs one (accessRowAt rows j)));
+          tallied = record { more = λ t q. row-more m fs rows key one t j (b .tallied .more t q) e };
         }
 
-    module _ {end : ℕ} (short : end ≤ first + 32) (tests : TestWord (λ (c : ℕ). rowsPass one (accessRowAt rows c)) first word) where
-      bit-passes : (k : ℕ) → j + k < end → eqb (left / 2 ^ k % 2) 1 ≡ rowsPass one (accessRowAt rows (j + k))
-      bit-passes k h =
+    module _ {end : ℕ} (clashes : ClashWord m fs rows one first end word) where
+      abbrev races : ℕ → Bool
+      races c = rowsMeet one (accessRowAt rows c) && rowsClash m fs one (accessRowAt rows c)
+
+      abbrev noPathTo : ℕ → Bool
+      noPathTo c = unordered m (one .segment) (accessRowAt rows c .segment)
+
+      bit-races : (k : ℕ) → j + k < end → (eqb (left / 2 ^ k % 2) 1 && noPathTo (j + k)) ≡ races (j + k)
+      bit-races k h =
           let place : first + (j - first + k) ≡ j + k = omega (arith, b .passed) in
-          ap (λ (n : ℕ). eqb (n % 2) 1) (ap (λ (n : ℕ). n / 2 ^ k) (b .left-is) ∙ shr-shr word (j - first) k)
-          ∙ tests .bits (j - first + k) (omega (arith, b .passed))
-          ∙ ap (λ (c : ℕ). rowsPass one (accessRowAt rows c)) place
+          ap₂ (λ (n c : ℕ). eqb (n % 2) 1 && noPathTo c) (ap (λ (n : ℕ). n / 2 ^ k) (b .left-is) ∙ shr-shr word (j - first) k) (sym place)
+          ∙ clashes .told (j - first + k) (omega (arith, b .passed))
+          ∙ ap races place
 
       -- the lowest bit that is left is that of the j-th access
-      pub clash-told :
-          {c : Bool}
-          → j < end
-          → c ≡ (eqb (left % 2) 1 && unordered m (one .segment) (accessRowAt rows j .segment))
-          → c ≡ (rowsMeet one (accessRowAt rows j) && rowsClash m one (accessRowAt rows j))
+      pub clash-told : {c : Bool} → j < end → c ≡ (eqb (left % 2) 1 && noPathTo j) → c ≡ races j
       clash-told h e =
           let here : j + 0 ≡ j = omega arith in
-          let bit : eqb (left % 2) 1 ≡ rowsPass one (accessRowAt rows j) =
-          ap (λ (n : ℕ). eqb (n % 2) 1) (sym (div-one left))
-          ∙ bit-passes 0 (omega arith)
-          ∙ ap (λ (c : ℕ). rowsPass one (accessRowAt rows c)) here
-          in
-          e ∙ ap (λ (x : Bool). x && unordered m (one .segment) (accessRowAt rows j .segment)) bit ∙ pass-clash m one (accessRowAt rows j)
+          e
+          ∙ ap₂ (λ (n c : ℕ). eqb (n % 2) 1 && noPathTo c) (sym (div-one left)) (sym here)
+          ∙ bit-races 0 (omega arith)
+          ∙ ap races here
 
       -- no bit is left
-      pub block-stops : j ≤ end → left ≡ 0 → BlockTallied m rows key one first end (tallyIn rows before) (tallyIn rows sum)
+      pub block-stops : j ≤ end → left ≡ 0 → BlockTallied m fs rows key one first end (tallyIn rows before) (tallyIn rows sum)
       block-stops h z =
           skipped (b .tallied) h
-          (λ l a. failed-none m one (accessRowAt rows (j + l)) (sym (bit-passes l a) ∙ ap (λ (n : ℕ). eqb (n / 2 ^ l % 2) 1) z ∙ rw (zero-div)))
+          (λ l a.
+          failed-none m fs one (accessRowAt rows (j + l))
+          (sym (bit-races l a) ∙ ap (λ (n : ℕ). eqb (n / 2 ^ l % 2) 1 && noPathTo (j + l)) z ∙ rw (zero-div)))
 
-    pub block-ends : (end : ℕ) → j ≤ end → end ≤ j → BlockTallied m rows key one first end (tallyIn rows before) (tallyIn rows sum)
+    pub block-ends : (end : ℕ) → j ≤ end → end ≤ j → BlockTallied m fs rows key one first end (tallyIn rows before) (tallyIn rows sum)
     block-ends end h l = let q : j ≡ end = omega arith in rw (sym q) (b .tallied)
 
     -- what is asked for the j-th access
     module _ {i end : ℕ} (f : BlockFits m rows one i first end (before .count)) (h : j < end) where
       pub row-in : RowIn rows j
-      row-in = record { below = omega (arith, f .tables .few); whole = f .tables .rows-whole }
+      row-in = block-row-in (f .rows-fit) h
 
       pub row-within : Within m (one .segment) (accessRowAt rows j .segment)
-      row-within = record { whole = f .tables .whole; row = f .row .segment; column = f .tables .fit j h .segment }
+      row-within = block-within (f .rows-fit) h
 
       pub rows-fit :
           {other : AccessRow} → other ≡ accessRowAt rows j → RowFits one × RowFits other × (i < 1024) × (j < 1024) × (sum .count < 4294967295)
-      rows-fit e = (f .row, rw e (f .tables .fit j h), f .below, omega (arith, f .tables .few), omega (arith, f .few, b .few))
+      rows-fit e =
+          let r = f .rows-fit in
+          (r .row, rw e (r .tables .fit j h), r .below, omega (arith, r .tables .few), omega (arith, f .few, b .few))
 
   -- the blocks of a row
-  pub blocks-none : (t : Tally) (i : ℕ) → t ≡ tallyRow m rows key one t (min (32 * 0) i)
+  pub blocks-none : (t : Tally) (i : ℕ) → t ≡ tallyRow m fs rows key one t (min (32 * 0) i)
   blocks-none t i =
       let none-yet : min (32 * 0) i ≡ 0 = omega arith in
-      sym (ap (tallyRow m rows key one t) none-yet ∙ (unfold tallyRow in refl))
+      sym (ap (tallyRow m fs rows key one t) none-yet ∙ (unfold tallyRow in refl))
 
-  module _ (t : Tally) (i : ℕ) (sum : Sum) (block : ℕ) (e : tallyIn rows sum ≡ tallyRow m rows key one t (min (32 * block) i)) where
+  module _ (t : Tally) (i : ℕ) (sum : Sum) (block : ℕ) (e : tallyIn rows sum ≡ tallyRow m fs rows key one t (min (32 * block) i)) where
     pub block-fits :
         TablesFit m rows (i + 1)
         → one ≡ accessRowAt rows i
@@ -254,15 +305,18 @@ module _ (m rows : List ℕ) (key : Key) (one : AccessRow) where
         → end ≡ min (32 * block + 32) i
         → BlockFits m rows one i (32 * block) end (sum .count)
     block-fits g o few h q =
-        let count : sum .count ≡ tallyRow m rows key one t (min (32 * block) i) .count = ap (λ (x : Tally). x .count) e in
+        let count : sum .count ≡ tallyRow m fs rows key one t (min (32 * block) i) .count = ap (λ (x : Tally). x .count) e in
         record {
-          tables = fewer-rows g (omega arith);
-          row = rw o (g .fit i (omega arith));
-          row-is = o;
-          below = omega (arith, g .few);
-          ordered = omega arith;
-          short = omega arith;
-          few = omega (arith, row-count m rows key one t (min (32 * block) i));
+          rows-fit =
+              record {
+                tables = fewer-rows g (omega arith);
+                row = rw o (g .fit i (omega arith));
+                row-is = o;
+                below = omega (arith, g .few);
+                ordered = omega arith;
+                short = omega arith;
+              };
+          few = omega (arith, row-count m fs rows key one t (min (32 * block) i));
         }
 
     pub block-in : TablesFit m rows (i + 1) → 32 * block < i → BlockIn rows (32 * block)
@@ -272,17 +326,17 @@ module _ (m rows : List ℕ) (key : Key) (one : AccessRow) where
         32 * block < i
         → {end : ℕ} (sum′ : Sum)
         → end ≡ min (32 * block + 32) i
-        → BlockTallied m rows key one (32 * block) end (tallyIn rows sum) (tallyIn rows sum′)
-        → tallyIn rows sum′ ≡ tallyRow m rows key one t (min (32 * (block + 1)) i)
+        → BlockTallied m fs rows key one (32 * block) end (tallyIn rows sum) (tallyIn rows sum′)
+        → tallyIn rows sum′ ≡ tallyRow m fs rows key one t (min (32 * (block + 1)) i)
     blocks-more h sum′ q b =
         let here : min (32 * block) i ≡ 32 * block = omega arith in
         let there : min (32 * block + 32) i ≡ min (32 * (block + 1)) i = omega arith in
-        b .more t (e ∙ ap (tallyRow m rows key one t) here) ∙ ap (tallyRow m rows key one t) (q ∙ there)
+        b .more t (e ∙ ap (tallyRow m fs rows key one t) here) ∙ ap (tallyRow m fs rows key one t) (q ∙ there)
 
-    pub blocks-all : i ≤ 32 * block → {r : AccessRow} → one ≡ r → tallyIn rows sum ≡ tallyRow m rows key r t i
+    pub blocks-all : i ≤ 32 * block → {r : AccessRow} → one ≡ r → tallyIn rows sum ≡ tallyRow m fs rows key r t i
     blocks-all h o =
         let whole : min (32 * block) i ≡ i = omega arith in
-        e ∙ ap₂ (λ (x : AccessRow) (k : ℕ). tallyRow m rows key x t k) o whole
+        e ∙ ap₂ (λ (x : AccessRow) (k : ℕ). tallyRow m fs rows key x t k) o whole
 
 -- the bounds of some of the accesses of a block
 module _ (one : AccessRow) (rows : List ℕ) (first : ℕ) where

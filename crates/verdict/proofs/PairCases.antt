@@ -21,6 +21,7 @@ use Rattle.verdict.specs.Accesses.{lexLess, nameKey, nameBelow, keyOf, r
 use Rattle.verdict.specs.Working.{accessRowAt}
 use Rattle.verdict.specs.Tallying.{rowRange, rowName, rowsMeet, rowsClash, rowElement, raceFrom, raceBetween, raceAtByte, aboveAt, aboveKey, clashRace, pairRace, replaces, comesLater, nameIn, SideOf, rowIn, tallyIn, countedIn, beforeLeast, Adds, keeping, counting, addRace, addPair, tallyRow, tallyAll, RowFits, TablesFit}
 use Rattle.verdict.specs.declared.race.Name.{Name}
+use Rattle.bundle.specs.declared.index.Fork.{Fork}
 use Rattle.verdict.specs.declared.race.Race.{Race}
 use Rattle.verdict.specs.declared.rows.AccessRow.{AccessRow}
 use Rattle.verdict.specs.declared.pairs.Key.{Key}
@@ -255,8 +256,8 @@ module _ (one other : AccessRow) (l : Lowest) (s : lowestOf l ≡ sharedByte (ro
         subst (λ (o : Option Race). Adds key one i other j o sum sum) (clashing h) (record { added = λ rows p q. refl })
 
 -- a row and the j-th
-module _ (m rows : List ℕ) (one : AccessRow) (j : ℕ) (key : Key) (t : Tally) {c : Bool}
-    (e : c ≡ (rowsMeet one (accessRowAt rows j) && rowsClash m one (accessRowAt rows j))) where
+module _ (m : List ℕ) (fs : List Fork) (rows : List ℕ) (one : AccessRow) (j : ℕ) (key : Key) (t : Tally) {c : Bool}
+    (e : c ≡ (rowsMeet one (accessRowAt rows j) && rowsClash m fs one (accessRowAt rows j))) where
   abbrev shared : AccessRow → Option Race
   shared other = raceAtByte one other (sharedByte (rowRange one) (rowRange other))
 
@@ -264,20 +265,20 @@ module _ (m rows : List ℕ) (one : AccessRow) (j : ℕ) (key : Key) (t : Tally)
   both-tests true y o = refl
   both-tests false y o = refl
 
-  one-test : pairRace m one (accessRowAt rows j) ≡ cond c (shared (accessRowAt rows j)) none
+  one-test : pairRace m fs one (accessRowAt rows j) ≡ cond c (shared (accessRowAt rows j)) none
   unfolding pairRace clashRace
   one-test =
-      both-tests (rowsMeet one (accessRowAt rows j)) (rowsClash m one (accessRowAt rows j)) (shared (accessRowAt rows j))
+      both-tests (rowsMeet one (accessRowAt rows j)) (rowsClash m fs one (accessRowAt rows j)) (shared (accessRowAt rows j))
       ∙ ap (λ (x : Bool). cond x (shared (accessRowAt rows j)) none) (sym e)
 
-  pub clash-fails : c ≡ false → {r : Tally} → r ≡ t → r ≡ addPair key t (pairRace m one (accessRowAt rows j))
+  pub clash-fails : c ≡ false → {r : Tally} → r ≡ t → r ≡ addPair key t (pairRace m fs one (accessRowAt rows j))
   unfolding addPair
   clash-fails h g = g ∙ sym (ap (addPair key t) (one-test ∙ ap (λ (x : Bool). cond x (shared (accessRowAt rows j)) none) h))
 
   pub clash-passes :
       c ≡ true → {other : AccessRow} → other ≡ accessRowAt rows j → {r : Tally}
       → r ≡ addPair key t (shared other)
-      → r ≡ addPair key t (pairRace m one (accessRowAt rows j))
+      → r ≡ addPair key t (pairRace m fs one (accessRowAt rows j))
   clash-passes h f g =
       g ∙ ap (λ (x : AccessRow). addPair key t (shared x)) f
       ∙ sym (ap (addPair key t) (one-test ∙ ap (λ (x : Bool). cond x (shared (accessRowAt rows j)) none) h))
@@ -301,43 +302,43 @@ pub fewer-rows : {m rows : List ℕ} {n k : ℕ} → TablesFit m rows n → k �
 fewer-rows g h =
     record { whole = g .whole; rows-whole = g .rows-whole; few = omega (arith, g .few); fit = λ j l. g .fit j (omega arith) }
 
-module _ (m rows : List ℕ) (key : Key) where
-  pub row-count : (one : AccessRow) (t : Tally) (j : ℕ) → tallyRow m rows key one t j .count ≤ t .count + j
+module _ (m : List ℕ) (fs : List Fork) (rows : List ℕ) (key : Key) where
+  pub row-count : (one : AccessRow) (t : Tally) (j : ℕ) → tallyRow m fs rows key one t j .count ≤ t .count + j
   unfolding tallyRow
   row-count one t zero = omega arith
   row-count one t (suc j) =
-      omega (arith, row-count one t j, pair-count key (tallyRow m rows key one t j) (pairRace m one (accessRowAt rows j)))
+      omega (arith, row-count one t j, pair-count key (tallyRow m fs rows key one t j) (pairRace m fs one (accessRowAt rows j)))
 
-  pub all-count : (i : ℕ) → i ≤ 1024 → tallyAll m rows key i .count ≤ i * 1024
+  pub all-count : (i : ℕ) → i ≤ 1024 → tallyAll m fs rows key i .count ≤ i * 1024
   unfolding tallyAll
   all-count zero h = omega arith
   all-count (suc i) h =
-      omega (arith, all-count i (omega arith), row-count (accessRowAt rows i) (tallyAll m rows key i) i)
+      omega (arith, all-count i (omega arith), row-count (accessRowAt rows i) (tallyAll m fs rows key i) i)
 
   -- one turn of each loop
   pub row-more :
       (one : AccessRow) (t : Tally) (j : ℕ) {u v : Tally}
-      → u ≡ tallyRow m rows key one t j
-      → v ≡ addPair key u (pairRace m one (accessRowAt rows j))
-      → v ≡ tallyRow m rows key one t (j + 1)
+      → u ≡ tallyRow m fs rows key one t j
+      → v ≡ addPair key u (pairRace m fs one (accessRowAt rows j))
+      → v ≡ tallyRow m fs rows key one t (j + 1)
   row-more one t j p q =
-      rw add-one (unfold tallyRow in (q ∙ ap (λ (x : Tally). addPair key x (pairRace m one (accessRowAt rows j))) p))
+      rw add-one (unfold tallyRow in (q ∙ ap (λ (x : Tally). addPair key x (pairRace m fs one (accessRowAt rows j))) p))
 
   pub all-more :
       (i : ℕ) {u v : Tally}
-      → u ≡ tallyAll m rows key i
-      → v ≡ tallyRow m rows key (accessRowAt rows i) u i
-      → v ≡ tallyAll m rows key (i + 1)
+      → u ≡ tallyAll m fs rows key i
+      → v ≡ tallyRow m fs rows key (accessRowAt rows i) u i
+      → v ≡ tallyAll m fs rows key (i + 1)
   all-more i p q =
-      rw add-one (unfold tallyAll in (q ∙ ap (λ (y : Tally). tallyRow m rows key (accessRowAt rows i) y i) p))
+      rw add-one (unfold tallyAll in (q ∙ ap (λ (y : Tally). tallyRow m fs rows key (accessRowAt rows i) y i) p))
 
   -- and the last
-  pub all-all : (n i : ℕ) {u : Tally} → i ≤ n → n ≤ i → u ≡ tallyAll m rows key i → u ≡ tallyAll m rows key n
-  all-all n i h l e = let q : i ≡ n = omega arith in e ∙ ap (tallyAll m rows key) q
+  pub all-all : (n i : ℕ) {u : Tally} → i ≤ n → n ≤ i → u ≡ tallyAll m fs rows key i → u ≡ tallyAll m fs rows key n
+  all-all n i h l e = let q : i ≡ n = omega arith in e ∙ ap (tallyAll m fs rows key) q
 
   -- what a turn wants
   pub all-fit :
-      (n i : ℕ) {u : Tally} → TablesFit m rows n → i < n → u ≡ tallyAll m rows key i → TablesFit m rows (i + 1) × (u .count + i ≤ 4294967295)
+      (n i : ℕ) {u : Tally} → TablesFit m rows n → i < n → u ≡ tallyAll m fs rows key i → TablesFit m rows (i + 1) × (u .count + i ≤ 4294967295)
   all-fit n i g h e = (
     fewer-rows g (omega arith),
     omega (arith, g .few, ap (λ (x : Tally). x .count) e, all-count i (omega (arith, g .few))),

@@ -9,26 +9,27 @@ use native.Mathlib.Nat.{mul-le-mul-right, add-comm}
 use lib.Dec.{ltb, leb}
 use borrow.Author.Tests.{le-leb}
 use Rattle.bundle.specs.Lists.{fromOption}
-use Rattle.bundle.specs.Locks.{commonLock}
 use Rattle.bundle.specs.Commands.{lastByte}
 use Rattle.bundle.specs.Walk.{Segment}
 use Rattle.bundle.specs.declared.command.AccessKind.{AccessKind}
 use Rattle.bundle.specs.declared.command.AccessKind.the-variants as Kind
 use Rattle.bundle.specs.declared.command.Range.{Range}
-use Rattle.bundle.proofs.Tests.{both, not-both, is-false, same-test}
+use Rattle.bundle.specs.declared.index.Fork.{Fork}
+use Rattle.bundle.proofs.Tests.{both, not-both, is-false}
 use Rattle.order.specs.Ranges.{Touches, sharedByte, lowestElement}
 use Rattle.order.proofs.SharedByte.{shared-some, shared-swap}
 use Rattle.order.proofs.Elements.{element-by}
 use Rattle.verdict.specs.GraphTests.{closureOf, reaches}
 use Rattle.verdict.specs.Accesses.{NamedAccess, nameKey, nameBelow, writes, atomic, raceAt}
-use Rattle.verdict.specs.RaceLists.{clashes, raceWith, raceOf}
+use Rattle.verdict.specs.Lineages.{holderOf}
+use Rattle.verdict.specs.RaceLists.{commonCounted, clashes, raceWith, raceOf}
 use Rattle.verdict.specs.Matrix.{bitAt, PathBits}
 use Rattle.verdict.specs.Working.{kindCode, RowOf}
-use Rattle.verdict.specs.Tallying.{rowRange, rowName, boundsMeet, kindsClash, rowsClash, rowElement, raceFrom, raceBetween, clashRace, pairRace}
+use Rattle.verdict.specs.Tallying.{rowRange, rowName, boundsMeet, kindsClash, rowHolder, rowsClash, rowElement, raceFrom, raceBetween, clashRace, pairRace}
 use Rattle.verdict.specs.declared.race.Race.{Race}
 use Rattle.verdict.specs.declared.rows.AccessRow.{AccessRow}
 use Rattle.verdict.proofs.Lexical.{Compared, less, same, more, compare, less-asymmetric}
-use Rattle.verdict.proofs.RaceList.{common-lock-intro, common-lock-elim}
+use Rattle.verdict.proofs.LineageLaws.{and-swap, common-swap}
 
 -- a touched byte lies between the first and the last
 touched-within : (r : Range) (byte : ℕ) → Touches r byte → (r .base ≤ byte) × (byte ≤ lastByte r)
@@ -73,25 +74,13 @@ kinds-are Kind.AtomicWrite Kind.AtomicRead = refl
 kinds-are Kind.AtomicWrite Kind.AtomicWrite = refl
 
 -- the tests do not see which access comes first
-common-swap : (a b : ℕ) → commonLock a b ≡ commonLock b a
-common-swap a b = same-test (commonLock a b) (commonLock b a) (turn a b) (turn b a)
-  where
-    turn : (a b : ℕ) → commonLock a b ≡ true → commonLock b a ≡ true
-    turn a b e = let l = common-lock-elim a b e in common-lock-intro b a (l .0) (l .1) (l .3) (l .2)
-
-and-swap : (a b : Bool) → (a && b) ≡ (b && a)
-and-swap true true = refl
-and-swap true false = refl
-and-swap false true = refl
-and-swap false false = refl
-
-clash-swap : (m : List ℕ) (r q : AccessRow) → rowsClash m r q ≡ rowsClash m q r
+clash-swap : (m : List ℕ) (fs : List Fork) (r q : AccessRow) → rowsClash m fs r q ≡ rowsClash m fs q r
 unfolding rowsClash
-clash-swap m r q =
+clash-swap m fs r q =
     ap₂ _&&_
     (ap₂ _&&_
     (ap₂ _&&_ (ap (leb 1) (add-comm (r .kind % 2) (q .kind % 2))) (ap (λ (n : ℕ). ltb n 2) (add-comm (r .kind / 2) (q .kind / 2))))
-    (ap not (common-swap (r .locks) (q .locks))))
+    (ap not (common-swap fs (rowHolder r) (rowHolder q))))
     (and-swap (not (bitAt m (r .segment) (q .segment))) (not (bitAt m (q .segment) (r .segment))))
 
 -- a race or none, as a list
@@ -126,6 +115,10 @@ module _ {ss : List Segment} where
   pub row-range : {x : NamedAccess} {r : AccessRow} → RowOf ss x r → rowRange r ≡ x .access .range
   row-range rx = λ i. record { base = rx .base i; stride = rx .stride i; count = rx .count i; size = rx .size i }
 
+  row-holder : {x : NamedAccess} {r : AccessRow} → RowOf ss x r → rowHolder r ≡ holderOf x
+  unfolding holderOf
+  row-holder rx = λ i. record { team = rx .team i; member = rx .member i; locks = rx .locks i }
+
   element-row :
       {x : NamedAccess} {r : AccessRow} → RowOf ss x r → (w : ℕ) → Touches (rowRange r) w
       → lowestElement (x .access .range) w ≡ rowElement r w
@@ -155,7 +148,7 @@ module _ {ss : List Segment} {x y : NamedAccess} {r q : AccessRow} (rx : RowOf s
         «second_element» = other i;
       }
 
-module _ {ss : List Segment} {m : List ℕ} (paths : PathBits ss m) where
+module _ {ss : List Segment} {m : List ℕ} (paths : PathBits ss m) (fs : List Fork) where
   module _ {x y : NamedAccess} {r q : AccessRow} (rx : RowOf ss x r) (ry : RowOf ss y q) where
     reaching : bitAt m (r .segment) (q .segment) ≡ reaches (closureOf ss) (x .node) (y .node)
     reaching =
@@ -163,29 +156,29 @@ module _ {ss : List Segment} {m : List ℕ} (paths : PathBits ss m) where
         ∙ ap₂ (reaches (closureOf ss)) (rx .stands-node) (ry .stands-node)
 
   module _ {x y : NamedAccess} {r q : AccessRow} (rx : RowOf ss x r) (ry : RowOf ss y q) where
-    clash-row : nameBelow (x .name) (y .name) ≡ true → clashes (closureOf ss) x y ≡ rowsClash m r q
+    clash-row : nameBelow (x .name) (y .name) ≡ true → clashes (closureOf ss) fs x y ≡ rowsClash m fs r q
     unfolding clashes rowsClash
     clash-row below =
         rw (
           below,
           kinds-row rx ry,
-          rx .locks,
-          ry .locks,
+          row-holder rx,
+          row-holder ry,
           reaching rx ry,
           reaching ry rx,
         )
         (and-assoc
         ((writes (x .access .kind) || writes (y .access .kind))
         && not (atomic (x .access .kind) && atomic (y .access .kind))
-        && not (commonLock (x .locks) (y .locks)))
+        && not (commonCounted fs (holderOf x) (holderOf y)))
         (not (reaches (closureOf ss) (x .node) (y .node)))
         (not (reaches (closureOf ss) (y .node) (x .node))))
 
-    clash-not : nameBelow (x .name) (y .name) ≡ false → clashes (closureOf ss) x y ≡ false
+    clash-not : nameBelow (x .name) (y .name) ≡ false → clashes (closureOf ss) fs x y ≡ false
     unfolding clashes
     clash-not e = rw e
 
-    no-race : nameBelow (x .name) (y .name) ≡ false → raceOf (closureOf ss) x y ≡ []
+    no-race : nameBelow (x .name) (y .name) ≡ false → raceOf (closureOf ss) fs x y ≡ []
     unfolding raceOf
     no-race e = rw (clash-not e)
 
@@ -204,23 +197,23 @@ module _ {ss : List Segment} {m : List ℕ} (paths : PathBits ss m) where
         → ((w : ℕ) → sharedByte (rowRange r) (rowRange q) ≡ some w → raceWith x y w ≡ f w)
         → (bounds : Bool)
         → (bounds ≡ false → sharedByte (rowRange r) (rowRange q) ≡ none)
-        → raceOf (closureOf ss) x y
-        ≡ listed (cond bounds (cond (rowsClash m r q) (fromOption none (λ w. some (f w)) (sharedByte (rowRange r) (rowRange q))) none) none)
+        → raceOf (closureOf ss) fs x y
+        ≡ listed (cond bounds (cond (rowsClash m fs r q) (fromOption none (λ w. some (f w)) (sharedByte (rowRange r) (rowRange q))) none) none)
     unfolding raceOf
     lower-first below f h bounds apart =
         rw (clash-row below)
         (subst
         (λ (o : Option ℕ).
-        cond (rowsClash m r q) (fromOption [] (λ w. raceWith x y w ∷ []) o) []
-        ≡ listed (cond bounds (cond (rowsClash m r q) (fromOption none (λ w. some (f w)) (sharedByte (rowRange r) (rowRange q))) none) none))
+        cond (rowsClash m fs r q) (fromOption [] (λ w. raceWith x y w ∷ []) o) []
+        ≡ listed (cond bounds (cond (rowsClash m fs r q) (fromOption none (λ w. some (f w)) (sharedByte (rowRange r) (rowRange q))) none) none))
         (ap₂ sharedByte (row-range rx) (row-range ry))
-        (tested bounds (rowsClash m r q) (sharedByte (rowRange r) (rowRange q)) (raceWith x y) f h apart))
+        (tested bounds (rowsClash m fs r q) (sharedByte (rowRange r) (rowRange q)) (raceWith x y) f h apart))
 
   module _ {x y : NamedAccess} {r q : AccessRow} (rx : RowOf ss x r) (ry : RowOf ss y q) where
     -- the two orders of two accesses with different names give the race of their rows, or none
     pub pair-races :
         (nameKey (x .name) ≡ nameKey (y .name) → ⊥)
-        → raceOf (closureOf ss) x y ++ raceOf (closureOf ss) y x ≡ listed (pairRace m r q)
+        → raceOf (closureOf ss) fs x y ++ raceOf (closureOf ss) fs y x ≡ listed (pairRace m fs r q)
     unfolding nameBelow pairRace clashRace
     pair-races apart = go (compare (nameKey (x .name)) (nameKey (y .name)))
       where
@@ -232,7 +225,7 @@ module _ {ss : List Segment} {m : List ℕ} (paths : PathBits ss m) where
             unfold raceBetween in
             (ap (λ (b : Bool). cond b (raceFrom r q w) (raceFrom q r w)) (ap₂ nameBelow (row-name rx) (row-name ry) ∙ e))
 
-        go : Compared (nameKey (x .name)) (nameKey (y .name)) → raceOf (closureOf ss) x y ++ raceOf (closureOf ss) y x ≡ listed (pairRace m r q)
+        go : Compared (nameKey (x .name)) (nameKey (y .name)) → raceOf (closureOf ss) fs x y ++ raceOf (closureOf ss) fs y x ≡ listed (pairRace m fs r q)
         go (less h) =
             let back = is-false (nameBelow (y .name) (x .name)) (λ e. less-asymmetric (nameKey (x .name)) (nameKey (y .name)) h e) in
             rw (no-race ry rx back, append-nil)
@@ -241,6 +234,6 @@ module _ {ss : List Segment} {m : List ℕ} (paths : PathBits ss m) where
         go (more h) =
             let back = is-false (nameBelow (x .name) (y .name)) (λ e. less-asymmetric (nameKey (x .name)) (nameKey (y .name)) e h) in
             let swap = shared-swap (rowRange r) (rowRange q) in
-            rw (no-race rx ry back, clash-swap m r q, swap)
+            rw (no-race rx ry back, clash-swap m fs r q, swap)
             (lower-first ry rx h (raceBetween r q) (λ w e. carried ry rx w e ∙ sym (between false back w)) bounds
             (λ e. sym swap ∙ bounds-row rx ry e))

@@ -28,7 +28,8 @@ use native.Mathlib.Omega.{arith}
 use lib.ListN.{length, take, getElem?, length-append}
 use lib.Seq.{take-length}
 use Rattle.bundle.specs.Lists.{first}
-use Rattle.bundle.specs.Walk.{Segment}
+use Rattle.bundle.specs.Walk.{Segment, forksOf}
+use Rattle.bundle.specs.declared.index.Fork.{Fork}
 use Rattle.bundle.specs.Chunks.{Chunk}
 use Rattle.bundle.proofs.Tests.{and-left, and-right, both, not-both, is-false}
 use Rattle.bundle.proofs.ListLaws.{perm-mem, perm-length, Distinct}
@@ -172,13 +173,13 @@ module _ (key : Key) where
   tallies {t = t} d k = record { race-count = k .counted; least = least-first d (aboveKey key) (t .found) (t .race) (k .kept) }
 
 -- an access does not race with itself
-no-self : (ss : List Segment) (x : NamedAccess) → raceOf (closureOf ss) x x ≡ []
+no-self : (ss : List Segment) (fs : List Fork) (x : NamedAccess) → raceOf (closureOf ss) fs x x ≡ []
 unfolding raceOf clashes nameBelow
-no-self ss x = rw (is-false _ (less-irreflexive (nameKey (x .name))))
+no-self ss fs x = rw (is-false _ (less-irreflexive (nameKey (x .name))))
 
 -- the loops over the rows of a table
 module _
-    {ss : List Segment} {matrix : List ℕ} (paths : PathBits ss matrix)
+    {ss : List Segment} {matrix : List ℕ} (paths : PathBits ss matrix) (fs : List Fork)
     {xs : List NamedAccess} {rows : List ℕ} (table : AccessTable ss xs rows)
     (distinct : Distinct (map accessKey xs)) (key : Key) where
   row-tallied :
@@ -187,50 +188,50 @@ module _
       → Tallied key rs t
       → (j : ℕ)
       → j ≤ i
-      → Tallied key (rs ++ bothWays (raceOf (closureOf ss)) x (take j xs)) (tallyRow matrix rows key (accessRowAt rows i) t j)
+      → Tallied key (rs ++ bothWays (raceOf (closureOf ss) fs) x (take j xs)) (tallyRow matrix fs rows key (accessRowAt rows i) t j)
   unfolding tallyRow
   row-tallied i t e k zero h = rw append-nil k
   row-tallied i {x} t {rs} e k (suc j) h = go (below-at xs j (omega (arith, at-below xs i e))) (row-tallied i t e k j (omega arith))
     where
       f : NamedAccess → NamedAccess → List Race
-      f = raceOf (closureOf ss)
+      f = raceOf (closureOf ss) fs
 
       go :
           (y : NamedAccess) × (getElem? xs j ≡ some y)
-          → Tallied key (rs ++ bothWays f x (take j xs)) (tallyRow matrix rows key (accessRowAt rows i) t j)
+          → Tallied key (rs ++ bothWays f x (take j xs)) (tallyRow matrix fs rows key (accessRowAt rows i) t j)
           → Tallied key (rs ++ bothWays f x (take (suc j) xs))
-          (addPair key (tallyRow matrix rows key (accessRowAt rows i) t j) (pairRace matrix (accessRowAt rows i) (accessRowAt rows j)))
+          (addPair key (tallyRow matrix fs rows key (accessRowAt rows i) t j) (pairRace matrix fs (accessRowAt rows i) (accessRowAt rows j)))
       go (y, p) ih =
           let apart : nameKey (x .name) ≡ nameKey (y .name) → ⊥ = λ q. absurd (ne (same-place accessKey xs i j distinct e p q)) in
-          let races = pair-races paths (table .rows i e) (table .rows j p) apart in
-          let list : rs ++ bothWays f x (take (suc j) xs) ≡ rs ++ bothWays f x (take j xs) ++ listed (pairRace matrix (accessRowAt rows i) (accessRowAt rows j)) =
+          let races = pair-races paths fs (table .rows i e) (table .rows j p) apart in
+          let list : rs ++ bothWays f x (take (suc j) xs) ≡ rs ++ bothWays f x (take j xs) ++ listed (pairRace matrix fs (accessRowAt rows i) (accessRowAt rows j)) =
           ap (λ (l : List NamedAccess). rs ++ bothWays f x l) (take-more xs j p)
           ∙ ap (λ (l : List Race). rs ++ l) (both-more f x y (take j xs) ∙ ap (λ (l : List Race). bothWays f x (take j xs) ++ l) races)
-          ∙ sym (append-assoc rs (bothWays f x (take j xs)) (listed (pairRace matrix (accessRowAt rows i) (accessRowAt rows j))))
+          ∙ sym (append-assoc rs (bothWays f x (take j xs)) (listed (pairRace matrix fs (accessRowAt rows i) (accessRowAt rows j))))
           in
-          rw list (tallied-pair key (tallyRow matrix rows key (accessRowAt rows i) t j) (pairRace matrix (accessRowAt rows i) (accessRowAt rows j)) ih)
+          rw list (tallied-pair key (tallyRow matrix fs rows key (accessRowAt rows i) t j) (pairRace matrix fs (accessRowAt rows i) (accessRowAt rows j)) ih)
         where
           ne : i ≡ j → ⊥
           ne q = omega arith
 
-  all-tallied : (i : ℕ) → i ≤ length xs → Tallied key (racesAmong (closureOf ss) (take i xs)) (tallyAll matrix rows key i)
+  all-tallied : (i : ℕ) → i ≤ length xs → Tallied key (racesAmong (closureOf ss) fs (take i xs)) (tallyAll matrix fs rows key i)
   unfolding tallyAll racesAmong
   all-tallied zero h = tallied-none key rows
   all-tallied (suc i) h = go (below-at xs i h) (all-tallied i (omega arith))
     where
       go :
           (x : NamedAccess) × (getElem? xs i ≡ some x)
-          → Tallied key (racesAmong (closureOf ss) (take i xs)) (tallyAll matrix rows key i)
-          → Tallied key (racesAmong (closureOf ss) (take (suc i) xs)) (tallyRow matrix rows key (accessRowAt rows i) (tallyAll matrix rows key i) i)
+          → Tallied key (racesAmong (closureOf ss) fs (take i xs)) (tallyAll matrix fs rows key i)
+          → Tallied key (racesAmong (closureOf ss) fs (take (suc i) xs)) (tallyRow matrix fs rows key (accessRowAt rows i) (tallyAll matrix fs rows key i) i)
       go (x, p) ih =
           rw (take-more xs i p)
-          (tallied-perm key (one-more (raceOf (closureOf ss)) (take i xs) x (no-self ss x))
-          (row-tallied i (tallyAll matrix rows key i) p ih i (omega arith)))
+          (tallied-perm key (one-more (raceOf (closureOf ss) fs) (take i xs) x (no-self ss fs x))
+          (row-tallied i (tallyAll matrix fs rows key i) p ih i (omega arith)))
 
-  pub rows-tallied : Tallied key (racesAmong (closureOf ss) xs) (tallyAll matrix rows key (length xs))
+  pub rows-tallied : Tallied key (racesAmong (closureOf ss) fs xs) (tallyAll matrix fs rows key (length xs))
   rows-tallied =
       subst
-      (λ (l : List NamedAccess). Tallied key (racesAmong (closureOf ss) l) (tallyAll matrix rows key (length xs)))
+      (λ (l : List NamedAccess). Tallied key (racesAmong (closureOf ss) fs l) (tallyAll matrix fs rows key (length xs)))
       (take-length xs)
       (all-tallied (length xs) (omega arith))
 
@@ -241,9 +242,9 @@ pub bundle-tallied :
     → PathBits (segmentsOf cs) matrix
     → AccessTable (segmentsOf cs) (accessesOf cs) rows
     → (key : Key)
-    → Tallies (racesOf cs) key (tallyAll matrix rows key (length (accessesOf cs)))
+    → Tallies (racesOf cs) key (tallyAll matrix (forksOf cs) rows key (length (accessesOf cs)))
 unfolding racesOf
 bundle-tallied cs members paths table key =
     tallies key (races-ascending cs members)
-    (tallied-perm key (order-perm (racesAmong (closureOf (segmentsOf cs)) (accessesOf cs)))
-    (rows-tallied paths table (accesses-distinct cs members) key))
+    (tallied-perm key (order-perm (racesAmong (closureOf (segmentsOf cs)) (forksOf cs) (accessesOf cs)))
+    (rows-tallied paths (forksOf cs) table (accesses-distinct cs members) key))

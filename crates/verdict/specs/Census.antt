@@ -7,11 +7,13 @@ use mathlib.Core.Option.{Option, none, some}
 use lib.ListN.{length, take, drop}
 use Rattle.bundle.specs.Lists.{first}
 use Rattle.bundle.specs.Chunks.{chunksOf}
+use Rattle.bundle.specs.Walk.{forksOf}
 use Rattle.verdict.specs.Graph.{segmentsOf}
 use Rattle.verdict.specs.Accesses.{accessesOf}
 use Rattle.verdict.specs.RaceLists.{racesOf}
 use Rattle.verdict.specs.Matrix.{PathBits}
 use Rattle.verdict.specs.Working.{AccessTable}
+use Rattle.verdict.specs.Linking.{forksIn}
 use Rattle.verdict.specs.Tallying.{aboveKey}
 use Rattle.verdict.specs.Edges.{Reached}
 use Rattle.verdict.specs.declared.race.Race.{Race}
@@ -29,6 +31,11 @@ matrixPart area = take 8192 area
 
 abbrev pub rowsPart : List ℕ → List ℕ
 rowsPart area = take 8192 (drop 8192 area)
+
+-- the words hold the REGIONs of a bundle
+pub record RegionsOf (s forks : List ℕ) (regions : ℕ) : Type 0 where
+  pub few : regions ≤ 512
+  pub rows : forksIn forks regions ≡ forksOf (chunksOf s)
 
 -- the first half of the area is filled with the paths between segments, and the second half is kept
 pub record MatrixFilled (ends opens nodes : List ℕ) (n : ℕ) (before after : List ℕ) : Type 0 where

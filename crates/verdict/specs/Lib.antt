@@ -2,6 +2,7 @@
 pub mod GraphTests
 pub mod Graph
 pub mod Accesses
+pub mod Lineages
 pub mod RaceLists
 pub mod Races
 pub mod Judge
@@ -11,7 +12,9 @@ pub mod Matrix
 pub mod Working
 pub mod Edges
 pub mod Filling
+pub mod Linking
 pub mod Tallying
 pub mod Census
 pub mod Promise
 pub mod Agreement
+pub mod Parting

@@ -1,5 +1,5 @@
 -- Inner: what the loops over all pairs of accesses compute, from the rows of the accesses and the bits of the matrix.
-use Prim.Native.Nat.{ℕ, zero, suc, _+_, _*_, _/_, _%_, _≤_, _<_}
+use Prim.Native.Nat.{ℕ, zero, suc, _+_, _*_, _/_, _%_, _^_, _≤_, _<_}
 use mathlib.Core.Path.{_≡_}
 use mathlib.Core.Bool.{Bool, true, false, cond, not, _&&_, _||_}
 use mathlib.Core.List.{List}
@@ -10,11 +10,15 @@ use Rattle.bundle.specs.Lists.{fromOption}
 use Rattle.bundle.specs.Locks.{commonLock}
 use Rattle.bundle.specs.Commands.{rangeOk}
 use Rattle.bundle.specs.declared.command.Range.{Range}
+use Rattle.bundle.specs.declared.index.Fork.{Fork}
 use Rattle.order.specs.Ranges.{sharedByte}
 use Rattle.order.specs.Pairs.{elementBy}
 use Rattle.verdict.specs.Accesses.{lexLess, keyOf, raceKey, nameBelow, raceBelow}
-use Rattle.verdict.specs.Matrix.{bitAt}
-use Rattle.verdict.specs.Working.{accessRowAt}
+use Rattle.verdict.specs.Lineages.{Holder}
+use Rattle.verdict.specs.RaceLists.{commonCounted}
+use Rattle.verdict.specs.Matrix.{bitAt, Within, TestWord}
+use Rattle.verdict.specs.Working.{accessRowAt, RowIn}
+use Rattle.verdict.specs.Linking.{Around}
 use Rattle.verdict.specs.declared.race.Name.{Name}
 use Rattle.verdict.specs.declared.race.Race.{Race}
 use Rattle.verdict.specs.declared.rows.AccessRow.{AccessRow}
@@ -78,13 +82,20 @@ locksApart one other = not (commonLock one other)
 abbrev pub unordered : List ℕ → ℕ → ℕ → Bool
 unordered matrix one other = not (bitAt matrix one other) && not (bitAt matrix other one)
 
-unfoldable pub rowsClash : List ℕ → AccessRow → AccessRow → Bool
-rowsClash matrix one other =
+-- an access's chunk with its own locks, by its row; and whether two accesses count no lock in common
+abbrev pub rowHolder : AccessRow → Holder
+rowHolder r = record { team = r .team; member = r .member; locks = r .locks }
+
+abbrev pub countedApart : List Fork → AccessRow → AccessRow → Bool
+countedApart fs one other = not (commonCounted fs (rowHolder one) (rowHolder other))
+
+unfoldable pub rowsClash : List ℕ → List Fork → AccessRow → AccessRow → Bool
+rowsClash matrix fs one other =
     kindsClash (one .kind) (other .kind)
-    && locksApart (one .locks) (other .locks)
+    && countedApart fs one other
     && unordered matrix (one .segment) (other .segment)
 
--- what the tests that come first ask: bounds that meet, no lock in common, and kinds that clash
+-- what the tests that come first ask: bounds that meet, no lock of the two's own in common, and kinds that clash
 unfoldable pub rowsPass : AccessRow → AccessRow → Bool
 rowsPass one other = rowsMeet one other && (locksApart (one .locks) (other .locks) && kindsClash (one .kind) (other .kind))
 
@@ -114,12 +125,12 @@ raceBetween one other witness =
 abbrev pub raceAtByte : AccessRow → AccessRow → Option ℕ → Option Race
 raceAtByte one other byte = fromOption none (λ witness. some (raceBetween one other witness)) byte
 
-unfoldable pub clashRace : List ℕ → AccessRow → AccessRow → Option Race
-clashRace matrix one other =
-    cond (rowsClash matrix one other) (raceAtByte one other (sharedByte (rowRange one) (rowRange other))) none
+unfoldable pub clashRace : List ℕ → List Fork → AccessRow → AccessRow → Option Race
+clashRace matrix fs one other =
+    cond (rowsClash matrix fs one other) (raceAtByte one other (sharedByte (rowRange one) (rowRange other))) none
 
-unfoldable pub pairRace : List ℕ → AccessRow → AccessRow → Option Race
-pairRace matrix one other = cond (rowsMeet one other) (clashRace matrix one other) none
+unfoldable pub pairRace : List ℕ → List Fork → AccessRow → AccessRow → Option Race
+pairRace matrix fs one other = cond (rowsMeet one other) (clashRace matrix fs one other) none
 
 -- whether a race, or that of a witness and two names, is above the key; all are where none is given
 abbrev pub aboveAt : Key → ℕ → Name → Name → Bool
@@ -155,10 +166,10 @@ addPair key t none = t
 addPair key t (some r) = addRace key t r
 
 -- an access with the first j
-unfoldable pub tallyRow : List ℕ → List ℕ → Key → AccessRow → Tally → ℕ → Tally
-tallyRow matrix rows key one t zero = t
-tallyRow matrix rows key one t (suc j) =
-    addPair key (tallyRow matrix rows key one t j) (pairRace matrix one (accessRowAt rows j))
+unfoldable pub tallyRow : List ℕ → List Fork → List ℕ → Key → AccessRow → Tally → ℕ → Tally
+tallyRow matrix fs rows key one t zero = t
+tallyRow matrix fs rows key one t (suc j) =
+    addPair key (tallyRow matrix fs rows key one t j) (pairRace matrix fs one (accessRowAt rows j))
 
 -- the name that stands in a number; a name and another number below 65,536 as one number
 abbrev pub nameIn : ℕ → Name
@@ -209,9 +220,9 @@ abbrev pub noSum : Sum
 noSum = record { count = 0; found = false; witness = 0; first = 0; second = 0 }
 
 -- each of the first n accesses with those before it
-unfoldable pub tallyAll : List ℕ → List ℕ → Key → ℕ → Tally
-tallyAll matrix rows key zero = tallyIn rows noSum
-tallyAll matrix rows key (suc i) = tallyRow matrix rows key (accessRowAt rows i) (tallyAll matrix rows key i) i
+unfoldable pub tallyAll : List ℕ → List Fork → List ℕ → Key → ℕ → Tally
+tallyAll matrix fs rows key zero = tallyIn rows noSum
+tallyAll matrix fs rows key (suc i) = tallyRow matrix fs rows key (accessRowAt rows i) (tallyAll matrix fs rows key i) i
 
 -- a row that the loops can use
 pub record RowFits (r : AccessRow) : Type 0 where
@@ -234,16 +245,40 @@ pub record BlockIn (rows : List ℕ) (first : ℕ) : Type 0 where
 pub record NoneMeet (one : AccessRow) (rows : List ℕ) (first k : ℕ) : Type 0 where
   pub apart : (l : ℕ) → l < k → rowsMeet one (accessRowAt rows (first + l)) ≡ false
 
--- the i-th access and those from `first` to `end`, at most 32, after so many races
-pub record BlockFits (matrix rows : List ℕ) (one : AccessRow) (i first end count : ℕ) : Type 0 where
+-- the i-th access and those from `first` to `end`, at most 32
+pub record RowsFit (matrix rows : List ℕ) (one : AccessRow) (i first end : ℕ) : Type 0 where
   pub tables : TablesFit matrix rows end
   pub row : RowFits one
   pub row-is : one ≡ accessRowAt rows i
   pub below : i < 1024
   pub ordered : first ≤ end
   pub short : end ≤ first + 32
+
+-- and after so many races
+pub record BlockFits (matrix rows : List ℕ) (one : AccessRow) (i first end count : ℕ) : Type 0 where
+  pub rows-fit : RowsFit matrix rows one i first end
   pub few : count + end ≤ 4294967295 + first
 
+-- the i-th access and the j-th, where a lock is held at a REGION
+pub record PairFits (matrix rows forks links : List ℕ) (regions : ℕ) (one : AccessRow) (i j : ℕ) : Type 0 where
+  pub row-in : RowIn rows j
+  pub within : Within matrix (one .segment) (accessRowAt rows j .segment)
+  pub row-is : one ≡ accessRowAt rows i
+  pub around : Around rows forks links regions true i (j + 1)
+
+pub record WordFits (matrix rows forks links : List ℕ) (regions : ℕ) (one : AccessRow) (i word first end : ℕ) : Type 0 where
+  pub rows-fit : RowsFit matrix rows one i first end
+  pub tests : TestWord (λ j. rowsPass one (accessRowAt rows j)) first word
+  pub around : Around rows forks links regions true i end
+
+-- the bits of the accesses from `first` to `end` say which race with one if they are not ordered and share a byte
+pub record ClashWord (matrix : List ℕ) (fs : List Fork) (rows : List ℕ) (one : AccessRow) (first end word : ℕ) : Type 0 where
+  pub told :
+      (k : ℕ)
+      → first + k < end
+      → (eqb (word / 2 ^ k % 2) 1 && unordered matrix (one .segment) (accessRowAt rows (first + k) .segment))
+      ≡ (rowsMeet one (accessRowAt rows (first + k)) && rowsClash matrix fs one (accessRowAt rows (first + k)))
+
 -- an access with those before `first`, and after it with those before `end`
-pub record BlockTallied (matrix rows : List ℕ) (key : Key) (one : AccessRow) (first end : ℕ) (before after : Tally) : Type 0 where
-  pub more : (t : Tally) → before ≡ tallyRow matrix rows key one t first → after ≡ tallyRow matrix rows key one t end
+pub record BlockTallied (matrix : List ℕ) (fs : List Fork) (rows : List ℕ) (key : Key) (one : AccessRow) (first end : ℕ) (before after : Tally) : Type 0 where
+  pub more : (t : Tally) → before ≡ tallyRow matrix fs rows key one t first → after ≡ tallyRow matrix fs rows key one t end

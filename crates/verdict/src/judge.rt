@@ -26,7 +26,8 @@ ghost use Rattle.verdict.specs.Accesses.{keyOf};
 ghost use Rattle.verdict.specs.Tallying.{tallyAll, TablesFit};
 ghost use Rattle.verdict.specs.Edges.{Tables};
 ghost use Rattle.verdict.specs.Filling.{Room, Filled};
-ghost use Rattle.verdict.specs.Census.{matrixPart, rowsPart, MatrixFilled, AreaFilled, Counted, verdictIn, nextIn};
+ghost use Rattle.verdict.specs.Linking.{forksIn, LineagesFit};
+ghost use Rattle.verdict.specs.Census.{matrixPart, rowsPart, RegionsOf, MatrixFilled, AreaFilled, Counted, verdictIn, nextIn};
 ghost use Rattle.verdict.specs.Promise.{Promise};
 
 // The words of a work area (docs/FORMAT.md); the first half of them is the matrix, the second the rows of the accesses.
@@ -84,25 +85,27 @@ pub fn fill_area(bytes: &[u8], area: &mut [u32]) -> Counts
 }
 
 // The races of the accesses in a filled area.
-fn tally_area(area: &[u32], n: u32, key: Key) -> Tally
-    requires { ⌜ TablesFit (matrixPart (now area)) (rowsPart (now area)) n × (16384 ≤ length (now area)) ⌝ }
-    ensures { λ r. ⌜ r ≡ tallyAll (matrixPart (now (area .entry))) (rowsPart (now (area .entry))) key n ⌝ }
+fn tally_area(area: &[u32], n: u32, forks: &[u64], regions: u32, key: Key) -> Tally
+    requires { ⌜ TablesFit (matrixPart (now area)) (rowsPart (now area)) n × LineagesFit (rowsPart (now area)) (now forks) regions n × (16384 ≤ length (now area)) ⌝ }
+    ensures { λ r. ⌜ r ≡ tallyAll (matrixPart (now (area .entry))) (forksIn (now (forks .entry)) regions) (rowsPart (now (area .entry))) key n ⌝ }
 {
     all_pairs(
         &area[..MATRIX_WORDS],
         &area[MATRIX_WORDS..WORK_WORDS],
         n,
+        forks,
+        regions,
         key,
     )
 }
 
-// The counts of an accepted bundle, and the least of its races above the key.
-fn take_census(bytes: &[u8], key: Key, area: &mut [u32]) -> Census
-    requires { ⌜ Accepted (now bytes) × (16384 ≤ length (now area)) ⌝ }
+// The counts of an accepted bundle with these REGIONs, and the least of its races above the key.
+fn take_census(bytes: &[u8], forks: &[u64], regions: u32, key: Key, area: &mut [u32]) -> Census
+    requires { ⌜ Accepted (now bytes) × RegionsOf (now bytes) (now forks) regions × (16384 ≤ length (now area)) ⌝ }
     ensures { λ r. ⌜ Counted (now (bytes .entry)) key r × (length (now (area .exit)) ≡ length (now (area .entry))) ⌝ }
 {
     let counts = fill_area(bytes, area);
-    let tally = tally_area(area, counts.accesses, key);
+    let tally = tally_area(area, counts.accesses, forks, regions, key);
     Census {
         segments: counts.segments,
         accesses: counts.accesses,
@@ -154,8 +157,11 @@ fn judge_in(bytes: &[u8], area: &mut [u32]) -> Judging
     match index_bundle(bytes, &mut chunks, &mut forks) {
         Indexing::Accepted {
             chunks: count,
-            forks: _,
-        } => Judging::Judged(judgement_of(count, take_census(bytes, no_key, area))),
+            forks: regions,
+        } => Judging::Judged(judgement_of(
+            count,
+            take_census(bytes, &forks, regions, no_key, area),
+        )),
         Indexing::Refused { place, cause } => Judging::Refused { place, cause },
     }
 }
@@ -180,9 +186,9 @@ fn next_in(bytes: &[u8], key: Key, area: &mut [u32]) -> Next
     match index_bundle(bytes, &mut chunks, &mut forks) {
         Indexing::Accepted {
             chunks: _,
-            forks: _,
+            forks: regions,
         } => {
-            let census = take_census(bytes, key, area);
+            let census = take_census(bytes, &forks, regions, key, area);
             let tally = census.tally;
             next_of(tally)
         }

@@ -2,6 +2,7 @@
 mod edges;
 mod fill;
 pub mod judge;
+pub mod lineage;
 mod matrix;
 pub mod pairs;
 pub mod race;

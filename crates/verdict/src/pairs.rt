@@ -1,4 +1,7 @@
 // All pairs of accesses: the number of races, and the least of them above a key.
+use crate::lineage::LINK_WORDS;
+use crate::lineage::counted_apart;
+use crate::lineage::link;
 use crate::matrix::bit;
 use crate::race::Name;
 use crate::race::Race;
@@ -18,6 +21,7 @@ ghost use lib.ListN.{length};
 ghost use Rattle.order.specs.Ranges.{sharedByte};
 ghost use Rattle.order.specs.Pairs.{lowestOf};
 ghost use Rattle.verdict.specs.Accesses.{lexLess, nameBelow, keyOf};
+ghost use Rattle.verdict.specs.Linking.{forksIn, Around, AllAround, LineagesFit};
 ghost use Rattle.verdict.specs.Matrix.{Within, TestWord};
 ghost use Rattle.verdict.specs.Working.{accessRowAt, RowIn};
 ghost use Rattle.verdict.specs.Tallying.{
@@ -29,6 +33,7 @@ ghost use Rattle.verdict.specs.Tallying.{
   locksApart,
   rowsPass,
   unordered,
+  countedApart,
   rowRange,
   rowName,
   rowElement,
@@ -52,6 +57,10 @@ ghost use Rattle.verdict.specs.Tallying.{
   TablesFit,
   BlockIn,
   NoneMeet,
+  RowsFit,
+  PairFits,
+  WordFits,
+  ClashWord,
   BlockFits,
   BlockTallied,
 };
@@ -363,7 +372,7 @@ fn passes(rows: &[u32], j: usize, one: AccessRow) -> bool
 }
 
 // Which of 32 accesses pass with one, the first of them lowest. No branch and no call: the words are tested side by side.
-pub fn passing(rows: &[u32], first: usize, one: AccessRow) -> u32
+fn passing(rows: &[u32], first: usize, one: AccessRow) -> u32
     requires { ⌜ BlockIn (now rows) first ⌝ }
     ensures { λ r. ⌜ TestWord (λ j. rowsPass one (accessRowAt (now (rows .entry)) j)) first r ⌝ }
 {
@@ -397,7 +406,7 @@ fn segment_at(rows: &[u32], j: u32) -> u16
     (word_at(rows, j as usize + 7168) / 65536) as u16
 }
 
-// Whether an access and the j-th race if they share a byte; the lowest bit of `left` says whether they pass.
+// Whether an access and the j-th clash by the tests so far: the lowest bit of `left` says whether they pass, and there is no path.
 pub fn clash(matrix: &[u32], rows: &[u32], one: AccessRow, left: u32, j: u32) -> bool
     requires { ⌜ RowIn (now rows) j × Within (now matrix) (one .segment) (accessRowAt (now rows) j .segment) ⌝ }
     ensures { λ r. ⌜ r ≡ (eqb (left % 2) 1 && unordered (now (matrix .entry)) (one .segment) (accessRowAt (now (rows .entry)) j .segment)) ⌝ }
@@ -408,10 +417,96 @@ pub fn clash(matrix: &[u32], rows: &[u32], one: AccessRow, left: u32, j: u32) ->
     no_path(matrix, one.segment, segment_at(rows, j))
 }
 
-// Adds the races of the i-th access with those from `first` to `end` that pass with it.
+// Whether the i-th access and the j-th clash with all locks that count.
+fn clash_counted(
+    matrix: &[u32],
+    rows: &[u32],
+    forks: &[u64],
+    regions: u32,
+    links: &[u32],
+    one: AccessRow,
+    i: u32,
+    left: u32,
+    j: u32,
+) -> bool
+    requires { ⌜ PairFits (now matrix) (now rows) (now forks) (now links) regions one i j ⌝ }
+    ensures { λ r. ⌜ r ≡ ((eqb (left % 2) 1 && unordered (now (matrix .entry)) (one .segment) (accessRowAt (now (rows .entry)) j .segment)) && countedApart (forksIn (now (forks .entry)) regions) one (accessRowAt (now (rows .entry)) j)) ⌝ }
+{
+    if !clash(matrix, rows, one, left, j) {
+        return false;
+    }
+    counted_apart(rows, forks, regions, links, one, i, j)
+}
+
+// Of the accesses from `first` to `end` whose bits are set, those that clash with the i-th with all locks that count.
+fn keep_apart(
+    matrix: &[u32],
+    rows: &[u32],
+    forks: &[u64],
+    regions: u32,
+    links: &[u32],
+    one: AccessRow,
+    i: u32,
+    word: u32,
+    first: u32,
+    end: u32,
+) -> u32
+    requires { ⌜ WordFits (now matrix) (now rows) (now forks) (now links) regions one i word first end ⌝ }
+    ensures { λ r. ⌜ ClashWord (now (matrix .entry)) (forksIn (now (forks .entry)) regions) (now (rows .entry)) one first end r ⌝ }
+{
+    let mut kept: u32 = 0;
+    let mut left = word;
+    let mut k: u32 = 0;
+    while first + k < end {
+        let stays = clash_counted(matrix, rows, forks, regions, links, one, i, left, first + k);
+        kept = kept | ((stays as u32) << k);
+        left = left / 2;
+        k += 1;
+    }
+    kept
+}
+
+// Which of the accesses from `first` to `end` the i-th races with if they are not ordered and share a byte. Locks held around regions are
+// looked at last, and only where a lock is held at a REGION.
+pub fn clashing(
+    matrix: &[u32],
+    rows: &[u32],
+    forks: &[u64],
+    regions: u32,
+    links: &[u32],
+    held: bool,
+    one: AccessRow,
+    i: u32,
+    first: u32,
+    end: u32,
+) -> u32
+    requires { ⌜ RowsFit (now matrix) (now rows) one i first end × BlockIn (now rows) first × Around (now rows) (now forks) (now links) regions held i end ⌝ }
+    ensures { λ r. ⌜ ClashWord (now (matrix .entry)) (forksIn (now (forks .entry)) regions) (now (rows .entry)) one first end r ⌝ }
+{
+    let word = passing(rows, first as usize, one);
+    if !held {
+        return word;
+    }
+    keep_apart(
+        matrix,
+        rows,
+        forks,
+        regions,
+        links,
+        one,
+        i,
+        word,
+        first,
+        end,
+    )
+}
+
+// Adds the races of the i-th access with those from `first` to `end` whose bits are set.
 fn add_passing(
     matrix: &[u32],
     rows: &[u32],
+    forks: &[u64],
+    regions: u32,
     one: AccessRow,
     i: u32,
     word: u32,
@@ -420,8 +515,8 @@ fn add_passing(
     key: Key,
     before: Sum,
 ) -> Sum
-    requires { ⌜ BlockFits (now matrix) (now rows) one i first end (before .count) × TestWord (λ j. rowsPass one (accessRowAt (now rows) j)) first word ⌝ }
-    ensures { λ r. ⌜ BlockTallied (now (matrix .entry)) (now (rows .entry)) key one first end (tallyIn (now (rows .entry)) before) (tallyIn (now (rows .entry)) r) ⌝ }
+    requires { ⌜ BlockFits (now matrix) (now rows) one i first end (before .count) × ClashWord (now matrix) (forksIn (now forks) regions) (now rows) one first end word ⌝ }
+    ensures { λ r. ⌜ BlockTallied (now (matrix .entry)) (forksIn (now (forks .entry)) regions) (now (rows .entry)) key one first end (tallyIn (now (rows .entry)) before) (tallyIn (now (rows .entry)) r) ⌝ }
 {
     let mut sum = before;
     let mut left = word;
@@ -443,6 +538,10 @@ fn add_passing(
 fn add_block(
     matrix: &[u32],
     rows: &[u32],
+    forks: &[u64],
+    regions: u32,
+    links: &[u32],
+    held: bool,
     one: AccessRow,
     i: u32,
     first: u32,
@@ -450,14 +549,37 @@ fn add_block(
     key: Key,
     sum: Sum,
 ) -> Sum
-    requires { ⌜ BlockFits (now matrix) (now rows) one i first end (sum .count) × BlockIn (now rows) first ⌝ }
-    ensures { λ r. ⌜ BlockTallied (now (matrix .entry)) (now (rows .entry)) key one first end (tallyIn (now (rows .entry)) sum) (tallyIn (now (rows .entry)) r) ⌝ }
+    requires { ⌜ BlockFits (now matrix) (now rows) one i first end (sum .count) × BlockIn (now rows) first × Around (now rows) (now forks) (now links) regions held i end ⌝ }
+    ensures { λ r. ⌜ BlockTallied (now (matrix .entry)) (forksIn (now (forks .entry)) regions) (now (rows .entry)) key one first end (tallyIn (now (rows .entry)) sum) (tallyIn (now (rows .entry)) r) ⌝ }
 {
     if !some_meet(rows, first as usize, one) {
         return sum;
     }
-    let word = passing(rows, first as usize, one);
-    add_passing(matrix, rows, one, i, word, first, end, key, sum)
+    let word = clashing(
+        matrix,
+        rows,
+        forks,
+        regions,
+        links,
+        held,
+        one,
+        i,
+        first,
+        end,
+    );
+    add_passing(
+        matrix,
+        rows,
+        forks,
+        regions,
+        one,
+        i,
+        word,
+        first,
+        end,
+        key,
+        sum,
+    )
 }
 
 // The end of the block of 32 that begins at `first`, of i accesses.
@@ -470,16 +592,39 @@ pub fn block_end(first: u32, i: u32) -> u32
 }
 
 // Adds the races of the i-th access with those before it, in blocks of 32.
-fn add_row(matrix: &[u32], rows: &[u32], i: u32, key: Key, before: Sum) -> Sum
-    requires { ⌜ TablesFit (now matrix) (now rows) (i + 1) × (before .count + i ≤ 4294967295) ⌝ }
-    ensures { λ r. ⌜ tallyIn (now (rows .entry)) r ≡ tallyRow (now (matrix .entry)) (now (rows .entry)) key (accessRowAt (now (rows .entry)) i) (tallyIn (now (rows .entry)) before) i ⌝ }
+fn add_row(
+    matrix: &[u32],
+    rows: &[u32],
+    forks: &[u64],
+    regions: u32,
+    links: &[u32],
+    held: bool,
+    i: u32,
+    key: Key,
+    before: Sum,
+) -> Sum
+    requires { ⌜ TablesFit (now matrix) (now rows) (i + 1) × Around (now rows) (now forks) (now links) regions held i (i + 1) × (before .count + i ≤ 4294967295) ⌝ }
+    ensures { λ r. ⌜ tallyIn (now (rows .entry)) r ≡ tallyRow (now (matrix .entry)) (forksIn (now (forks .entry)) regions) (now (rows .entry)) key (accessRowAt (now (rows .entry)) i) (tallyIn (now (rows .entry)) before) i ⌝ }
 {
     let one = access_at(rows, i);
     let mut sum = before;
     let mut block = 0;
     while 32 * block < i {
         let first = 32 * block;
-        sum = add_block(matrix, rows, one, i, first, block_end(first, i), key, sum);
+        sum = add_block(
+            matrix,
+            rows,
+            forks,
+            regions,
+            links,
+            held,
+            one,
+            i,
+            first,
+            block_end(first, i),
+            key,
+            sum,
+        );
         block += 1;
     }
     sum
@@ -531,17 +676,44 @@ fn race_of(rows: &[u32], sum: Sum) -> Race
     }
 }
 
-// The races of the first n accesses.
-pub fn all_pairs(matrix: &[u32], rows: &[u32], n: u32, key: Key) -> Tally
-    requires { ⌜ TablesFit (now matrix) (now rows) n ⌝ }
-    ensures { λ r. ⌜ r ≡ tallyAll (now (matrix .entry)) (now (rows .entry)) key n ⌝ }
+// Adds the races of the first n accesses.
+fn add_rows(
+    matrix: &[u32],
+    rows: &[u32],
+    n: u32,
+    forks: &[u64],
+    regions: u32,
+    links: &[u32],
+    held: bool,
+    key: Key,
+) -> Sum
+    requires { ⌜ TablesFit (now matrix) (now rows) n × AllAround (now rows) (now forks) (now links) regions held n ⌝ }
+    ensures { λ r. ⌜ tallyIn (now (rows .entry)) r ≡ tallyAll (now (matrix .entry)) (forksIn (now (forks .entry)) regions) (now (rows .entry)) key n ⌝ }
 {
     let mut sum = no_sum();
     let mut i = 0;
     while i < n {
-        sum = add_row(matrix, rows, i, key, sum);
+        sum = add_row(matrix, rows, forks, regions, links, held, i, key, sum);
         i += 1;
     }
+    sum
+}
+
+// The races of the first n accesses of a bundle with these REGIONs.
+pub fn all_pairs(
+    matrix: &[u32],
+    rows: &[u32],
+    n: u32,
+    forks: &[u64],
+    regions: u32,
+    key: Key,
+) -> Tally
+    requires { ⌜ TablesFit (now matrix) (now rows) n × LineagesFit (now rows) (now forks) regions n ⌝ }
+    ensures { λ r. ⌜ r ≡ tallyAll (now (matrix .entry)) (forksIn (now (forks .entry)) regions) (now (rows .entry)) key n ⌝ }
+{
+    let mut links = [0u32; LINK_WORDS];
+    let held = link(rows, n, forks, regions, &mut links);
+    let sum = add_rows(matrix, rows, n, forks, regions, &links, held, key);
     let found = sum.found;
     Tally {
         count: sum.count,

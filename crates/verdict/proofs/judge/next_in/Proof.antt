@@ -1,23 +1,25 @@
 -- `verdict::judge::next_in` meets its contract. Assumes nothing.
-use mathlib.Core.Path.{refl}
+use mathlib.Core.Path.{refl, sym}
 use Rattle.bundle.proofs.CheckCases.{indexed-accepted, indexed-refused}
-use Rattle.verdict.proofs.JudgeCases.{next-as, next-refused}
+use Rattle.verdict.proofs.JudgeCases.{regions-of, next-as, next-refused}
 use borrow.Author.Needs.{needs}
 use Rattle.verdict.proofs.judge.next_in.Statement.{statement}
 use Rattle.verdict.proofs.judge.next_in.Tie as tie
 
+slice-aggregate-take-census : tie.Need-slice-aggregate-take-census
+slice-aggregate-take-census c = sym (indexed-accepted _ _ _ (c .before .before .before .before .index-bundle .ensures) (c .before .before .regions .given .1) .fork-table)
+
 take-census-requires : tie.Need-take-census-requires
 take-census-requires c κs =
-    let index = c .before .before .before in (
-      indexed-accepted _ _ _ (index .index-bundle .ensures) (c .before .enum-told .given .1) .accepted,
-      index .before .before .before .before .before .pre .0,
-    )
+    let index = c .before .before .before .before .before in
+    let accepted = indexed-accepted _ _ _ (index .index-bundle .ensures) (c .before .before .before .regions .given .1) in
+    (accepted .accepted, regions-of accepted, index .before .before .before .before .before .pre .0)
 
 returns : tie.Need-returns
 returns c =
     let census = c .before .before .before .before in
-    let index = census .before .before .before .before in
-    let accepted = indexed-accepted _ _ _ (index .index-bundle .ensures) (census .before .before .enum-told .given .1) in (
+    let index = census .before .before .before .before .before .before in
+    let accepted = indexed-accepted _ _ _ (index .index-bundle .ensures) (census .before .before .before .before .regions .given .1) in (
       next-as _ accepted _ _ (index .before .before .before .before .before .pre .1) (census .take-census .ensures .0) (c .next-of .ensures),
       census .take-census .ensures .1,
     )
@@ -33,6 +35,7 @@ next-in-spec =
     (tie.spec
     (λ c κs. tt)
     (λ c. search needs)
+    slice-aggregate-take-census
     take-census-requires
     (λ c κs. tt)
     (λ c. search needs)

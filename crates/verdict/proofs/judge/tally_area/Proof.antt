@@ -4,7 +4,7 @@ use Rattle.verdict.proofs.judge.tally_area.Statement.{statement}
 use Rattle.verdict.proofs.judge.tally_area.Tie as tie
 
 all-pairs-requires : tie.Need-all-pairs-requires
-all-pairs-requires c κs = c .before .before .before .pre .0
+all-pairs-requires c κs = let start = c .before .before .before .before in (start .pre .0, start .pre .1)
 
 returns : tie.Need-returns
 returns c = c .all-pairs .ensures

@@ -7,8 +7,14 @@ use Rattle.verdict.proofs.pairs.add_block.Tie as tie
 
 returns : tie.Need-returns
 returns c =
-    let fits = c .before .before .before .before .pre .0 in
-    none-met _ _ _ _ (fits .ordered) (fits .short) (c .before .some-meet .ensures (not-true _ (c .if1 .taken)))
+    let fits = c .before .before .before .before .before .before .pre .0 .rows-fit in
+    none-met _ _ _ _ _ (fits .ordered) (fits .short) (c .before .some-meet .ensures (not-true _ (c .if1 .taken)))
+
+clashing-requires : tie.Need-clashing-requires
+clashing-requires c κs = let start = c .before .before .before .before .before .before in (start .pre .0 .rows-fit, start .pre .1, start .pre .2)
+
+add-passing-requires : tie.Need-add-passing-requires
+add-passing-requires c κs = (c .before .before .before .before .before .before .before .pre .0, c .clashing .ensures)
 
 pub add-block-spec : {M : Type 1} → statement M
 add-block-spec =
@@ -16,6 +22,6 @@ add-block-spec =
     (tie.spec
     (λ c κs. search needs)
     returns
-    (λ c κs. search needs)
-    (λ c κs. search needs)
+    clashing-requires
+    add-passing-requires
     (λ c. search needs))
