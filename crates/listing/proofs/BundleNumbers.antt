@@ -10,7 +10,9 @@ use Rattle.sorting.specs.Order.{sorted}
 use Rattle.sorting.proofs.Insertion.{sorted-perm, sorted-ascending, sorted-length}
 use Rattle.bundle.specs.Commands.{rangeOk}
 use Rattle.bundle.specs.Chunks.{Chunk}
+use Rattle.bundle.specs.Walk.{forksOf}
 use Rattle.bundle.specs.Index.{table}
+use Rattle.bundle.specs.declared.index.Fork.{Fork}
 use Rattle.bundle.proofs.ListLaws.{perm-mem, perm-map, Distinct}
 use Rattle.bundle.proofs.Keys.{perm-distinct}
 use Rattle.bundle.proofs.Places.{memberKey}
@@ -49,9 +51,10 @@ map-agree f g [] h = refl
 map-agree f g (k ∷ ks) h = ap₂ (λ x l. x ∷ l) (h k (List·Memᴰ·head refl)) (map-agree f g ks (λ x l. h x (List·Memᴰ·tail l)))
 
 -- the byte of a race fits 32 bits
-byte-small : (m : List ℕ) (one other : AccessRow) {w : ℕ} → rangeOk (rowRange one) ≡ true → raceByte m one other ≡ some w → w < 4294967296
+byte-small :
+    (m : List ℕ) (fs : List Fork) (one other : AccessRow) {w : ℕ} → rangeOk (rowRange one) ≡ true → raceByte m fs one other ≡ some w → w < 4294967296
 unfolding raceByte
-byte-small m one other {w} ok e = go (rowsMeet one other && rowsClash m one other) e
+byte-small m fs one other {w} ok e = go (rowsMeet one other && rowsClash m fs one other) e
   where
     go : (t : Bool) → cond t (sharedByte (rowRange one) (rowRange other)) none ≡ some w → w < 4294967296
     go true q = touch-fits (rowRange one) w ok (shared-some (rowRange one) (rowRange other) w q .one)
@@ -82,42 +85,42 @@ module _
   names-are = words-table tab (accesses-distinct cs members) small n all copied
 
   abbrev numbers : List ℕ
-  numbers = sorted (allNumbers m ordered n n)
+  numbers = sorted (allNumbers m (forksOf cs) ordered n n)
 
   abbrev race : ℕ → Race
-  race k = raceOfNumber paths tab (accesses-distinct cs members) small n all copied k
+  race k = raceOfNumber paths (forksOf cs) tab (accesses-distinct cs members) small n all copied k
 
-  number-of : (k : ℕ) → List·Memᴰ k numbers → Numbers m ordered n k
-  number-of k l = numbers-elim m ordered n (perm-mem (Permᴰ·symm (sorted-perm (allNumbers m ordered n n))) l)
+  number-of : (k : ℕ) → List·Memᴰ k numbers → Numbers m (forksOf cs) ordered n k
+  number-of k l = numbers-elim m (forksOf cs) ordered n (perm-mem (Permᴰ·symm (sorted-perm (allNumbers m (forksOf cs) ordered n n))) l)
 
   number-in : {r : Race} → List·Memᴰ r (map race numbers) → List·Memᴰ r (racesOf cs)
   unfolding racesOf
   number-in l =
       let u = Memᴰ·of-map race numbers l in
       Memᴰ·cast (sym (u .2))
-      (order-intro (racesAmong (closureOf (segmentsOf cs)) (accessesOf cs)) (number-race paths tab (accesses-distinct cs members) small n all copied (number-of (u .0) (u .1))))
+      (order-intro (racesAmong (closureOf (segmentsOf cs)) (forksOf cs) (accessesOf cs)) (number-race paths (forksOf cs) tab (accesses-distinct cs members) small n all copied (number-of (u .0) (u .1))))
 
   in-number : {r : Race} → List·Memᴰ r (racesOf cs) → List·Memᴰ r (map race numbers)
   unfolding racesOf
   in-number l =
       let u =
-      race-number paths tab (accesses-distinct cs members) small n all copied (order-elim (racesAmong (closureOf (segmentsOf cs)) (accessesOf cs)) l)
+      race-number paths (forksOf cs) tab (accesses-distinct cs members) small n all copied (order-elim (racesAmong (closureOf (segmentsOf cs)) (forksOf cs) (accessesOf cs)) l)
       in
-      Memᴰ·cast (sym (u .2)) (Memᴰ·map race (perm-mem (sorted-perm (allNumbers m ordered n n)) (numbers-intro m ordered n (u .1))))
+      Memᴰ·cast (sym (u .2)) (Memᴰ·map race (perm-mem (sorted-perm (allNumbers m (forksOf cs) ordered n n)) (numbers-intro m (forksOf cs) ordered n (u .1))))
 
   -- the races that the sorted numbers stand for are the bundle's, in their order
   pub races-listed : map race numbers ≡ racesOf cs
   races-listed =
       ascending-unique
-      (numbers-ascend paths tab (accesses-distinct cs members) small n all copied numbers (sorted-ascending (allNumbers m ordered n n))
-      (perm-distinct (perm-map ranksOf (sorted-perm (allNumbers m ordered n n))) (numbers-distinct m ordered n few))
+      (numbers-ascend paths (forksOf cs) tab (accesses-distinct cs members) small n all copied numbers (sorted-ascending (allNumbers m (forksOf cs) ordered n n))
+      (perm-distinct (perm-map ranksOf (sorted-perm (allNumbers m (forksOf cs) ordered n n))) (numbers-distinct m (forksOf cs) ordered n few))
       number-of)
       (races-ascending cs members)
       (λ r l. number-in l)
       (λ r l. in-number l)
 
-  pub races-counted : length (allNumbers m ordered n n) ≡ length (racesOf cs)
-  races-counted = sym (sorted-length (allNumbers m ordered n n)) ∙ sym (length-map numbers race) ∙ ap length races-listed
+  pub races-counted : length (allNumbers m (forksOf cs) ordered n n) ≡ length (racesOf cs)
+  races-counted = sym (sorted-length (allNumbers m (forksOf cs) ordered n n)) ∙ sym (length-map numbers race) ∙ ap length races-listed
 
   -- the number of the race that a number stands for
   number-kept : (k : ℕ) → List·Memᴰ k numbers → raceNumber (doubleWords cs) (race k) ≡ k
@@ -130,7 +133,7 @@ module _
       let h = r .behind in
       let b = r .below in
       let is : race k ≡ raceFrom (accessRowAt ordered i) (accessRowAt ordered j) w =
-      ap race (r .is) ∙ race-of-parts paths tab (accesses-distinct cs members) small n all copied w i j (omega (arith, few)) (omega (arith, few))
+      ap race (r .is) ∙ race-of-parts paths (forksOf cs) tab (accesses-distinct cs members) small n all copied w i j (omega (arith, few)) (omega (arith, few))
       in
       let found : (q : ℕ) → q < n → rankIn (doubleWords cs) (rowName (accessRowAt ordered q)) ≡ q =
       λ q c. ap (λ (doubles : List ℕ). rankIn doubles (rowName (accessRowAt ordered q))) (sym doubles-are) ∙ rank-found tab (accesses-distinct cs members) small n all copied q c
@@ -179,7 +182,7 @@ module _
         let one : k / 1024 % 1024 ≡ i = ap (λ (x : ℕ). x / 1024 % 1024) (r .is) ∙ number-first w i j (omega (arith, few)) (omega (arith, few)) in
         let other : k % 1024 ≡ j = ap (λ (x : ℕ). x % 1024) (r .is) ∙ number-second w i j (omega (arith, few)) in
         let top : k / 1048576 ≡ w = ap (λ (x : ℕ). x / 1048576) (r .is) ∙ number-witness w i j (omega (arith, few)) (omega (arith, few)) in
-        let low : w < 4294967296 = byte-small m (accessRowAt ordered i) (accessRowAt ordered j) (fits i c .range) (r .byte) in
+        let low : w < 4294967296 = byte-small m (forksOf cs) (accessRowAt ordered i) (accessRowAt ordered j) (fits i c .range) (r .byte) in
         let witness : k / 1048576 % 4294967296 ≡ w = ap (λ (x : ℕ). x % 4294967296) top ∙ small-rest w low in
         let first : SideOf (rowName (accessRowAt ordered i)) (accessRowAt ordered i .site) (getD held (2 * (k / 1024 % 1024)) 0) = rw one (side-read i c) in
         let second : SideOf (rowName (accessRowAt ordered j)) (accessRowAt ordered j .site) (getD held (2 * (k % 1024)) 0) = rw other (side-read j b) in
@@ -199,7 +202,7 @@ module _
           «second_site» = second .rest-in q;
           «second_element» = other-element q;
         })
-        ∙ sym (ap race (r .is) ∙ race-of-parts paths tab (accesses-distinct cs members) small n all copied w i j (omega (arith, few)) (omega (arith, few)))
+        ∙ sym (ap race (r .is) ∙ race-of-parts paths (forksOf cs) tab (accesses-distinct cs members) small n all copied w i j (omega (arith, few)) (omega (arith, few)))
       where
         small-rest : (x : ℕ) → x < 4294967296 → x % 4294967296 ≡ x
         small-rest x h = omega arith

@@ -14,16 +14,20 @@ use Rattle.sorting.proofs.Insertion.{sorted-length}
 use Rattle.bundle.specs.Answer.{Answer, gives, refuses, numberOf}
 use Rattle.bundle.specs.Chunks.{Chunk, chunksOf}
 use Rattle.bundle.specs.Check.{checkOf, Accepted}
+use Rattle.bundle.specs.Walk.{forksOf}
 use Rattle.bundle.specs.Index.{table, Indexed}
+use Rattle.bundle.specs.declared.index.Fork.{Fork}
 use Rattle.bundle.specs.declared.refusal.Cause.{Cause}
 use Rattle.bundle.proofs.Tests.{and-left, and-right, false-is-true}
 use Rattle.bundle.proofs.Tables.{table-length}
 use Rattle.bundle.proofs.Reorder.{distinct-members}
 use Rattle.verdict.specs.Races.{racesOf}
 use Rattle.verdict.specs.Working.{accessRowAt}
+use Rattle.verdict.specs.Linking.{forksIn, forkFor, LineagesFit}
 use Rattle.verdict.specs.Tallying.{RowFits, TablesFit}
-use Rattle.verdict.specs.Census.{matrixPart, rowsPart, AreaFilled}
-use Rattle.verdict.proofs.JudgeCases.{area-fits, matrix-long, chunk-count}
+use Rattle.verdict.specs.Census.{matrixPart, rowsPart, RegionsOf, AreaFilled}
+use Rattle.verdict.specs.declared.rows.AccessRow.{AccessRow}
+use Rattle.verdict.proofs.JudgeCases.{tables-fit, lineages-fit, matrix-long, chunk-count}
 use Rattle.listing.specs.Listing.{namesOf, numbersOf, totalsOf, Outcome, zeros, over, fitsIn, allRaces, refusedWith, whichever, listedOf, listingOf, reportOf, outcomeOf, raceIn, Readable}
 use Rattle.listing.specs.Ranking.{orderOf, Copied, RowsIn, wordOf}
 use Rattle.listing.specs.Pushing.{Pushes, allNumbers}
@@ -55,30 +59,52 @@ module _
   pub ordered-in : RowsIn ordered n
   ordered-in = record { few = few; whole = omega (arith, copied .long) }
 
-  pub ordered-fits : TablesFit (matrixPart area) ordered n × (16384 ≤ length area)
-  ordered-fits = (
-    record {
-      whole = matrix-long area large;
-      rows-whole = omega (arith, copied .long);
-      few = few;
-      fit = λ i h.
-          let p = rank-place (rowsPart area) n few i h in
-          subst RowFits (sym (copied .each i h ∙ ap (accessRowAt (rowsPart area)) (p .named))) (area-fits s area a large .0 .fit (p .place) (p .below));
-    },
-    large,
-  )
+  -- each row in order is one of those before
+  each-row : (P : AccessRow → Type 0) → ((i : ℕ) → i < n → P (accessRowAt (rowsPart area) i)) → (i : ℕ) → i < n → P (accessRowAt ordered i)
+  each-row P f i h =
+      let p = rank-place (rowsPart area) n few i h in
+      subst P (sym (copied .each i h ∙ ap (accessRowAt (rowsPart area)) (p .named))) (f (p .place) (p .below))
 
-  pub races-few : {numbers pushed : List ℕ} {races : ℕ} → Pushes (allNumbers (matrixPart area) ordered n n) numbers 0 pushed races → races < 4294967296
-  races-few p = omega (arith, p .counted, all-few (matrixPart area) ordered n n few, few)
+  tables : TablesFit (matrixPart area) ordered n
+  tables =
+      record {
+        whole = matrix-long area large;
+        rows-whole = omega (arith, copied .long);
+        few = few;
+        fit = each-row RowFits (tables-fit s area a large .fit);
+      }
 
-  module _ (ok : Accepted s) (small : (i : ℕ) → getD area i 0 < 4294967296)
+  pub ordered-fits :
+      Accepted s
+      → {forks : List ℕ} {regions : ℕ}
+      → RegionsOf s forks regions
+      → TablesFit (matrixPart area) ordered n × LineagesFit ordered forks regions n × (16384 ≤ length area)
+  ordered-fits ok {forks} {regions} r =
+      let f = lineages-fit s ok r (a .rows) (a .access-count) in (
+        tables,
+        record {
+          few = f .few;
+          rooted = f .rooted;
+          rows-rooted =
+              record { teams = each-row (λ (x : AccessRow). (x .team ≡ 0 → ⊥) → forkFor forks regions (x .team) < regions) (f .rows-rooted .teams) };
+        },
+        large,
+      )
+
+  pub races-few : (fs : List Fork) {numbers pushed : List ℕ} {races : ℕ} → Pushes (allNumbers (matrixPart area) fs ordered n n) numbers 0 pushed races → races < 4294967296
+  races-few fs p = omega (arith, p .counted, all-few (matrixPart area) fs ordered n n few, few)
+
+  module _ (ok : Accepted s) {forks : List ℕ} {regions : ℕ} (r : RegionsOf s forks regions) (small : (i : ℕ) → getD area i 0 < 4294967296)
       (names numbers spare : List ℕ) {pushed : List ℕ} {races : ℕ}
-      (p : Pushes (allNumbers (matrixPart area) ordered n n) numbers 0 pushed races) where
+      (p′ : Pushes (allNumbers (matrixPart area) (forksIn forks regions) ordered n n) numbers 0 pushed races) where
     abbrev cs : List Chunk
     cs = chunksOf s
 
     abbrev met : List ℕ
-    met = allNumbers (matrixPart area) ordered n n
+    met = allNumbers (matrixPart area) (forksOf cs) ordered n n
+
+    p : Pushes met numbers 0 pushed races
+    p = subst (λ (fs : List Fork). Pushes (allNumbers (matrixPart area) fs ordered n n) numbers 0 pushed races) (r .rows) p′
 
     names-of : table (wordOf ordered) (2 * n) ≡ namesOf cs
     names-of = names-are cs (distinct-members s ok) (a .paths) (a .rows) (rows-small area small) n (a .access-count) copied
@@ -136,7 +162,7 @@ module _
           in
           let taken : take races numbers′ ≡ sorted met = ap (take races) put ∙ take-at (sorted met) (drop races pushed) races (sorted-length met ∙ long) in
           ap₂ (λ (a b : List ℕ). map (raceIn a) b) held taken
-          ∙ reads-back cs (distinct-members s ok) (a .paths) (a .rows) (rows-small area small) n (a .access-count) copied (ordered-fits .0 .fit) (drop (2 * n) names)
+          ∙ reads-back cs (distinct-members s ok) (a .paths) (a .rows) (rows-small area small) n (a .access-count) copied (tables .fit) (drop (2 * n) names)
 
       pub kept : {count : ℕ} → count ≡ races → Kept s (record { segments = g; accesses = n; races = count; whole = t }) names numbers spare names′ numbers′ spare′
       kept e =

@@ -9,6 +9,7 @@ use native.Mathlib.Nat.{add-zero}
 use lib.Dec.{eqb, ltb}
 use lib.ListN.{length, set, drop, length-append}
 use lib.Seq.{sets, length-sets, sets-eq, set-out}
+use Rattle.bundle.specs.declared.index.Fork.{Fork}
 use Rattle.order.specs.Ranges.{sharedByte}
 use Rattle.order.specs.Pairs.{lowestOf}
 use Rattle.order.specs.declared.range.Lowest.{Lowest}
@@ -87,21 +88,21 @@ byte-few : (i j : ℕ) (o : Option ℕ) → length (byteNumbers i j o) ≤ 1
 byte-few i j none = omega arith
 byte-few i j (some w) = omega arith
 
-module _ (m rows : List ℕ) where
-  pub pair-few : (i j : ℕ) → length (pairNumbers m rows i j) ≤ 1
+module _ (m : List ℕ) (fs : List Fork) (rows : List ℕ) where
+  pub pair-few : (i j : ℕ) → length (pairNumbers m fs rows i j) ≤ 1
   unfolding pairNumbers
-  pair-few i j = go (ltb i j) (raceByte m (accessRowAt rows i) (accessRowAt rows j))
+  pair-few i j = go (ltb i j) (raceByte m fs (accessRowAt rows i) (accessRowAt rows j))
     where
       go : (t : Bool) (o : Option ℕ) → length (cond t (byteNumbers i j o) []) ≤ 1
       go true o = byte-few i j o
       go false o = omega arith
 
-  pub row-few : (i j : ℕ) → length (rowNumbers m rows i j) ≤ j
+  pub row-few : (i j : ℕ) → length (rowNumbers m fs rows i j) ≤ j
   unfolding rowNumbers
   row-few i zero = omega arith
-  row-few i (suc j) = omega (arith, row-few i j, pair-few i j, length-append (rowNumbers m rows i j) (pairNumbers m rows i j))
+  row-few i (suc j) = omega (arith, row-few i j, pair-few i j, length-append (rowNumbers m fs rows i j) (pairNumbers m fs rows i j))
 
-  pub all-few : (n i : ℕ) → n ≤ 1024 → length (allNumbers m rows n i) ≤ 1024 * i
+  pub all-few : (n i : ℕ) → n ≤ 1024 → length (allNumbers m fs rows n i) ≤ 1024 * i
   unfolding allNumbers
   all-few n zero h = omega arith
-  all-few n (suc i) h = omega (arith, all-few n i h, row-few i n, length-append (allNumbers m rows n i) (rowNumbers m rows i n))
+  all-few n (suc i) h = omega (arith, all-few n i h, row-few i n, length-append (allNumbers m fs rows n i) (rowNumbers m fs rows i n))

@@ -14,6 +14,7 @@ use Rattle.sorting.specs.Order.{All, AtLeast}
 use Rattle.sorting.specs.Order as Sorted
 use Rattle.bundle.specs.Lists.{concatMap}
 use Rattle.bundle.specs.Walk.{Segment}
+use Rattle.bundle.specs.declared.index.Fork.{Fork}
 use Rattle.bundle.proofs.Tests.{or-one, or-other, both}
 use Rattle.bundle.proofs.ListLaws.{Distinct, distinct-head, distinct-tail, concatMap-elim, concatMap-intro}
 use Rattle.order.specs.Ranges.{sharedByte}
@@ -58,9 +59,9 @@ number-less w i j v k l a b c d h = go (decLt w v) (decLt i k)
     go (no p) (no q) = inr (omega arith, inr (omega arith, omega arith))
 
 -- the race of two rows by its byte
-pair-byte : (m : List ℕ) (one other : AccessRow) → pairRace m one other ≡ raceAtByte one other (raceByte m one other)
+pair-byte : (m : List ℕ) (fs : List Fork) (one other : AccessRow) → pairRace m fs one other ≡ raceAtByte one other (raceByte m fs one other)
 unfolding pairRace clashRace raceByte
-pair-byte m one other = go (rowsMeet one other) (rowsClash m one other) (sharedByte (rowRange one) (rowRange other))
+pair-byte m fs one other = go (rowsMeet one other) (rowsClash m fs one other) (sharedByte (rowRange one) (rowRange other))
   where
     go : (a b : Bool) (o : Option ℕ) → cond a (cond b (raceAtByte one other o) none) none ≡ raceAtByte one other (cond (a && b) o none)
     go true true o = refl
@@ -72,7 +73,7 @@ unfolding raceBetween
 lower-first one other w e = ap (λ (t : Bool). cond t (raceFrom one other w) (raceFrom other one w)) e
 
 module _
-    {ss : List Segment} {m : List ℕ} (paths : PathBits ss m)
+    {ss : List Segment} {m : List ℕ} (paths : PathBits ss m) (fs : List Fork)
     {xs : List NamedAccess} {rows : List ℕ} (tab : AccessTable ss xs rows)
     (distinct : Distinct (map accessKey xs)) (small : (i : ℕ) → getD rows i 0 < 4294967296)
     (n : ℕ) (all : n ≡ length xs)
@@ -101,9 +102,9 @@ module _
   -- of two ranks, both orders of the accesses
   both-orders :
       (i j : ℕ) → i < j → j < n → (a : Rank i) (b : Rank j)
-      → raceOf (closureOf ss) (a .access) (b .access) ++ raceOf (closureOf ss) (b .access) (a .access) ≡ listed (raceAtByte (row i) (row j) (raceByte m (row i) (row j)))
+      → raceOf (closureOf ss) fs (a .access) (b .access) ++ raceOf (closureOf ss) fs (b .access) (a .access) ≡ listed (raceAtByte (row i) (row j) (raceByte m fs (row i) (row j)))
   both-orders i j h l a b =
-      pair-races paths (a .row) (b .row) apart ∙ ap listed (pair-byte m (row i) (row j))
+      pair-races paths fs (a .row) (b .row) apart ∙ ap listed (pair-byte m fs (row i) (row j))
     where
       apart : nameKey (a .access .name) ≡ nameKey (b .access .name) → ⊥
       apart e =
@@ -119,7 +120,7 @@ module _
       ∙ below-of tab distinct small n all copied i j h l a b)
 
   -- a number's race is one of the bundle
-  pub number-race : {k : ℕ} → Numbers m ordered n k → List·Memᴰ (raceOfNumber k) (racesAmong (closureOf ss) xs)
+  pub number-race : {k : ℕ} → Numbers m fs ordered n k → List·Memᴰ (raceOfNumber k) (racesAmong (closureOf ss) fs xs)
   unfolding racesAmong
   number-race {k} r =
       let i = r .one in
@@ -131,7 +132,7 @@ module _
       let b = rank j l in
       let x = a .access in
       let y = b .access in
-      let f = raceOf (closureOf ss) in
+      let f = raceOf (closureOf ss) fs in
       let is : raceOfNumber k ≡ raceBetween (row i) (row j) w =
       ap raceOfNumber (r .is) ∙ race-of-parts w i j (omega (arith, few)) (omega (arith, few)) ∙ sym (between-rows i j w h l)
       in
@@ -146,10 +147,10 @@ module _
       (List·Memᴰ·append-cases (f x y) here)
 
   -- and a race of the bundle has a number
-  pub race-number : {r : Race} → List·Memᴰ r (racesAmong (closureOf ss) xs) → (k : ℕ) × Numbers m ordered n k × (raceOfNumber k ≡ r)
+  pub race-number : {r : Race} → List·Memᴰ r (racesAmong (closureOf ss) fs xs) → (k : ℕ) × Numbers m fs ordered n k × (raceOfNumber k ≡ r)
   unfolding racesAmong
   race-number {r} l =
-      let f = raceOf (closureOf ss) in
+      let f = raceOf (closureOf ss) fs in
       let u = concatMap-elim (λ z. concatMap (f z) xs) xs l in
       let v = concatMap-elim (f (u .source)) xs (u .gives) in
       of-pair (rank-of tab distinct small n all copied (u .present)) (rank-of tab distinct small n all copied (v .present)) (v .gives)
@@ -158,28 +159,28 @@ module _
           {x y : NamedAccess}
           → RankOf tab distinct small n all copied x
           → RankOf tab distinct small n all copied y
-          → List·Memᴰ r (raceOf (closureOf ss) x y)
-          → (k : ℕ) × Numbers m ordered n k × (raceOfNumber k ≡ r)
+          → List·Memᴰ r (raceOf (closureOf ss) fs x y)
+          → (k : ℕ) × Numbers m fs ordered n k × (raceOfNumber k ≡ r)
       of-pair {x} {y} p q g =
           let i = p .rank in
           let j = q .rank in
           let a = p .is in
           let b = q .is in
-          let g′ : List·Memᴰ r (raceOf (closureOf ss) (a .access) (b .access)) = rw (p .same, q .same) g in
+          let g′ : List·Memᴰ r (raceOf (closureOf ss) fs (a .access) (b .access)) = rw (p .same, q .same) g in
           let h : i < j =
           of-below tab distinct small n all copied i j (p .below) (q .below) a b
-          (clash-elim (closureOf ss) (a .access) (b .access) (raceOf-elim (closureOf ss) (a .access) (b .access) g′ .clash) .lower)
+          (clash-elim (closureOf ss) fs (a .access) (b .access) (raceOf-elim (closureOf ss) fs (a .access) (b .access) g′ .clash) .lower)
           in
-          let here : List·Memᴰ r (listed (raceAtByte (row i) (row j) (raceByte m (row i) (row j)))) =
-          subst (List·Memᴰ r) (both-orders i j h (q .below) a b) (Memᴰ·append-left (raceOf (closureOf ss) (b .access) (a .access)) g′)
+          let here : List·Memᴰ r (listed (raceAtByte (row i) (row j) (raceByte m fs (row i) (row j)))) =
+          subst (List·Memᴰ r) (both-orders i j h (q .below) a b) (Memᴰ·append-left (raceOf (closureOf ss) fs (b .access) (a .access)) g′)
           in
-          at-byte i j h (q .below) (raceByte m (row i) (row j)) refl here
+          at-byte i j h (q .below) (raceByte m fs (row i) (row j)) refl here
         where
           at-byte :
               (i j : ℕ) → i < j → j < n → (o : Option ℕ)
-              → raceByte m (row i) (row j) ≡ o
+              → raceByte m fs (row i) (row j) ≡ o
               → List·Memᴰ r (listed (raceAtByte (row i) (row j) o))
-              → (k : ℕ) × Numbers m ordered n k × (raceOfNumber k ≡ r)
+              → (k : ℕ) × Numbers m fs ordered n k × (raceOfNumber k ≡ r)
           at-byte i j h l none e g = absurd (List·Memᴰ·not-nil g)
           at-byte i j h l (some w) e g = (
             numberFor w i j,
@@ -215,7 +216,7 @@ module _
       (or-other (ltb (nameNumber i) (nameNumber k))
       (both (eq-eqb (nameNumber i) (nameNumber k) (ap nameNumber f)) (lt-ltb (nameNumber j) (nameNumber l) (names-up j l h d)))))
 
-  pub number-below : (k l : ℕ) → Numbers m ordered n k → Numbers m ordered n l → k < l → raceBelow (raceOfNumber k) (raceOfNumber l) ≡ true
+  pub number-below : (k l : ℕ) → Numbers m fs ordered n k → Numbers m fs ordered n l → k < l → raceBelow (raceOfNumber k) (raceOfNumber l) ≡ true
   unfolding raceBelow raceKey
   number-below k l a b h =
       let i = a .one in
@@ -238,7 +239,7 @@ module _
       (ks : List ℕ)
       → Sorted.Ascending ks
       → Distinct (map ranksOf ks)
-      → ((k : ℕ) → List·Memᴰ k ks → Numbers m ordered n k)
+      → ((k : ℕ) → List·Memᴰ k ks → Numbers m fs ordered n k)
       → Ascending (map raceOfNumber ks)
   numbers-ascend [] a d v = Ascending.none
   numbers-ascend (k ∷ ks) a d v =

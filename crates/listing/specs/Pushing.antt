@@ -8,9 +8,10 @@ use lib.Dec.{eqb, ltb}
 use lib.ListN.{length}
 use lib.Seq.{sets}
 use Rattle.bundle.specs.Lists.{fromOption}
+use Rattle.bundle.specs.declared.index.Fork.{Fork}
 use Rattle.order.specs.Ranges.{sharedByte}
 use Rattle.verdict.specs.Working.{accessRowAt}
-use Rattle.verdict.specs.Tallying.{rowRange, rowsMeet, rowsClash, unordered, RowFits, TablesFit}
+use Rattle.verdict.specs.Tallying.{rowRange, rowsMeet, rowsClash, unordered, RowFits, RowsFit}
 use Rattle.verdict.specs.declared.rows.AccessRow.{AccessRow}
 use Rattle.listing.specs.Listing.{numberFor}
 
@@ -23,7 +24,7 @@ pub record Pushes (xs before : List ℕ) (count : ℕ) (after : List ℕ) (total
 abbrev pub byteNumbers : ℕ → ℕ → Option ℕ → List ℕ
 byteNumbers i j byte = fromOption [] (λ witness. numberFor witness i j ∷ []) byte
 
--- the same for two accesses of which the word of tests tells whether they pass
+-- the same for two accesses of which a bit tells whether they race if they are not ordered
 abbrev pub nextNumbers : List ℕ → AccessRow → AccessRow → ℕ → ℕ → ℕ → List ℕ
 nextNumbers matrix one other left i j =
     cond (ltb i j && (eqb (left % 2) 1 && unordered matrix (one .segment) (other .segment)))
@@ -31,23 +32,24 @@ nextNumbers matrix one other left i j =
     []
 
 -- the byte at which two accesses race
-unfoldable pub raceByte : List ℕ → AccessRow → AccessRow → Option ℕ
-raceByte matrix one other =
-    cond (rowsMeet one other && rowsClash matrix one other) (sharedByte (rowRange one) (rowRange other)) none
+unfoldable pub raceByte : List ℕ → List Fork → AccessRow → AccessRow → Option ℕ
+raceByte matrix fs one other =
+    cond (rowsMeet one other && rowsClash matrix fs one other) (sharedByte (rowRange one) (rowRange other)) none
 
 -- the i-th access with the j-th, if that stands behind it
-unfoldable pub pairNumbers : List ℕ → List ℕ → ℕ → ℕ → List ℕ
-pairNumbers matrix rows i j = cond (ltb i j) (byteNumbers i j (raceByte matrix (accessRowAt rows i) (accessRowAt rows j))) []
+unfoldable pub pairNumbers : List ℕ → List Fork → List ℕ → ℕ → ℕ → List ℕ
+pairNumbers matrix fs rows i j =
+    cond (ltb i j) (byteNumbers i j (raceByte matrix fs (accessRowAt rows i) (accessRowAt rows j))) []
 
 -- with those below j
-unfoldable pub rowNumbers : List ℕ → List ℕ → ℕ → ℕ → List ℕ
-rowNumbers matrix rows i zero = []
-rowNumbers matrix rows i (suc j) = rowNumbers matrix rows i j ++ pairNumbers matrix rows i j
+unfoldable pub rowNumbers : List ℕ → List Fork → List ℕ → ℕ → ℕ → List ℕ
+rowNumbers matrix fs rows i zero = []
+rowNumbers matrix fs rows i (suc j) = rowNumbers matrix fs rows i j ++ pairNumbers matrix fs rows i j
 
 -- those below i with those below n
-unfoldable pub allNumbers : List ℕ → List ℕ → ℕ → ℕ → List ℕ
-allNumbers matrix rows n zero = []
-allNumbers matrix rows n (suc i) = allNumbers matrix rows n i ++ rowNumbers matrix rows i n
+unfoldable pub allNumbers : List ℕ → List Fork → List ℕ → ℕ → ℕ → List ℕ
+allNumbers matrix fs rows n zero = []
+allNumbers matrix fs rows n (suc i) = allNumbers matrix fs rows n i ++ rowNumbers matrix fs rows i n
 
 -- the i-th access and the j-th, after so many races
 pub record NextFits (matrix rows : List ℕ) (one : AccessRow) (i j count : ℕ) : Type 0 where
@@ -61,17 +63,12 @@ pub record NextFits (matrix rows : List ℕ) (one : AccessRow) (i j count : ℕ)
 
 -- the i-th access and those from `first` to `end`, at most 32, after so many races
 pub record BlockFits (matrix rows : List ℕ) (one : AccessRow) (i first end count : ℕ) : Type 0 where
-  pub tables : TablesFit matrix rows end
-  pub row : RowFits one
-  pub row-is : one ≡ accessRowAt rows i
-  pub below : i < 1024
-  pub ordered : first ≤ end
-  pub short : end ≤ first + 32
+  pub rows-fit : RowsFit matrix rows one i first end
   pub few : count ≤ 1048576 + first
 
 -- the i-th access with those below `first`, and after it with those below `end`
-pub record BlockPushed (matrix rows : List ℕ) (i first end : ℕ) (before : List ℕ) (count : ℕ) (after : List ℕ) (total : ℕ) : Type 0 where
+pub record BlockPushed (matrix : List ℕ) (fs : List Fork) (rows : List ℕ) (i first end : ℕ) (before : List ℕ) (count : ℕ) (after : List ℕ) (total : ℕ) : Type 0 where
   pub more :
       (words : List ℕ) (n : ℕ)
-      → Pushes (rowNumbers matrix rows i first) words n before count
-      → Pushes (rowNumbers matrix rows i end) words n after total
+      → Pushes (rowNumbers matrix fs rows i first) words n before count
+      → Pushes (rowNumbers matrix fs rows i end) words n after total

@@ -19,7 +19,8 @@ ghost use Prim.Native.Nat.{_*_, _/_, _≤_};
 ghost use lib.ListN.{length, replicate};
 ghost use Rattle.bundle.specs.Check.{Accepted};
 ghost use Rattle.verdict.specs.Tallying.{TablesFit};
-ghost use Rattle.verdict.specs.Census.{matrixPart, rowsPart};
+ghost use Rattle.verdict.specs.Linking.{forksIn, LineagesFit};
+ghost use Rattle.verdict.specs.Census.{matrixPart, rowsPart, RegionsOf};
 ghost use Rattle.listing.specs.Listing.{zeros, listedOf, listingOf, outcomeOf, Readable};
 ghost use Rattle.listing.specs.Ranking.{RowsIn, orderOf, Copied};
 ghost use Rattle.listing.specs.Pushing.{Pushes, allNumbers};
@@ -130,29 +131,38 @@ fn order_area(area: &[u32], n: u32, rows: &mut [u32])
 }
 
 // The numbers of the races in a filled area.
-fn push_area(area: &[u32], rows: &[u32], n: u32, numbers: &mut [u64]) -> usize
-    requires { ⌜ TablesFit (matrixPart (now area)) (now rows) n × (16384 ≤ length (now area)) ⌝ }
-    ensures { λ r. ⌜ Pushes (allNumbers (matrixPart (now (area .entry))) (now (rows .entry)) n n) (now (numbers .entry)) 0 (now (numbers .exit)) r ⌝ }
+fn push_area(
+    area: &[u32],
+    rows: &[u32],
+    n: u32,
+    forks: &[u64],
+    regions: u32,
+    numbers: &mut [u64],
+) -> usize
+    requires { ⌜ TablesFit (matrixPart (now area)) (now rows) n × LineagesFit (now rows) (now forks) regions n × (16384 ≤ length (now area)) ⌝ }
+    ensures { λ r. ⌜ Pushes (allNumbers (matrixPart (now (area .entry))) (forksIn (now (forks .entry)) regions) (now (rows .entry)) n n) (now (numbers .entry)) 0 (now (numbers .exit)) r ⌝ }
 {
-    push_all(&area[..MATRIX_WORDS], rows, n, numbers)
+    push_all(&area[..MATRIX_WORDS], rows, n, forks, regions, numbers)
 }
 
-// Lists the races of an accepted bundle.
+// Lists the races of an accepted bundle with these REGIONs.
 fn list_accepted(
     bytes: &[u8],
+    forks: &[u64],
+    regions: u32,
     area: &mut [u32],
     names: &mut [u64],
     numbers: &mut [u64],
     spare: &mut [u64],
 ) -> Found
-    requires { ⌜ Accepted (now bytes) × (16384 ≤ length (now area)) ⌝ }
+    requires { ⌜ Accepted (now bytes) × RegionsOf (now bytes) (now forks) regions × (16384 ≤ length (now area)) ⌝ }
     ensures { λ r. ⌜ Kept (now (bytes .entry)) r (now (names .entry)) (now (numbers .entry)) (now (spare .entry)) (now (names .exit)) (now (numbers .exit)) (now (spare .exit)) × (length (now (area .exit)) ≡ length (now (area .entry))) ⌝ }
 {
     let counts = fill_area(bytes, area);
     let accesses = counts.accesses;
     let mut rows = [0u32; 8192];
     order_area(area, accesses, &mut rows);
-    let races = push_area(area, &rows, accesses, numbers);
+    let races = push_area(area, &rows, accesses, forks, regions, numbers);
     let whole = settle(&rows, accesses, races, names, numbers, spare);
     Found {
         segments: counts.segments,
@@ -193,8 +203,11 @@ fn list_in(
     match index_bundle(bytes, &mut chunks, &mut forks) {
         Indexing::Accepted {
             chunks: count,
-            forks: _,
-        } => listed_of(count, list_accepted(bytes, area, names, numbers, spare)),
+            forks: regions,
+        } => listed_of(
+            count,
+            list_accepted(bytes, &forks, regions, area, names, numbers, spare),
+        ),
         Indexing::Refused { place, cause } => Listed::Refused { place, cause },
     }
 }

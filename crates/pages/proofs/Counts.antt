@@ -8,7 +8,8 @@ use native.Mathlib.Nat.{suc-mul}
 use lib.ListN.{length, length-append}
 use Rattle.bundle.specs.Lists.{concatMap, fromOption}
 use Rattle.bundle.specs.Chunks.{Chunk, fresh, chunksOf}
-use Rattle.bundle.specs.Walk.{ofChunk, Opening, openingAt, entriesOf, segmentsIn, segmentsOf}
+use Rattle.bundle.specs.Walk.{ofChunk, Opening, openingAt, entriesOf, segmentsIn, segmentsOf, forksOf}
+use Rattle.bundle.specs.declared.index.Fork.{Fork}
 use Rattle.bundle.specs.Check.{Accepted}
 use Rattle.bundle.proofs.WalkLaws.{few-segments}
 use Rattle.bundle.proofs.SegmentRuns.{segments-length}
@@ -32,22 +33,22 @@ module _ {A B : Type 0} (f : A → List B) where
   concat-some h [] = omega arith
   concat-some h (x ∷ xs) = omega (arith, h x, concat-some h xs, length-append (f x) (concatMap f xs))
 
-one-race : (closure : List NodePair) (x y : NamedAccess) → length (raceOf closure x y) ≤ 1
+one-race : (closure : List NodePair) (fs : List Fork) (x y : NamedAccess) → length (raceOf closure fs x y) ≤ 1
 unfolding raceOf
-one-race closure x y = go (clashes closure x y) (sharedByte (x .access .range) (y .access .range))
+one-race closure fs x y = go (clashes closure fs x y) (sharedByte (x .access .range) (y .access .range))
   where
     go : (t : Bool) (o : Option ℕ) → length (cond t (fromOption [] (λ witness. raceWith x y witness ∷ []) o) []) ≤ 1
     go false o = omega arith
     go true none = omega arith
     go true (some w) = omega arith
 
-few-races : (closure : List NodePair) (xs : List NamedAccess) → length xs ≤ 1024 → length (racesAmong closure xs) ≤ 1048576
+few-races : (closure : List NodePair) (fs : List Fork) (xs : List NamedAccess) → length xs ≤ 1024 → length (racesAmong closure fs xs) ≤ 1048576
 unfolding racesAmong
-few-races closure xs h =
-    let each : (x : NamedAccess) → length (concatMap (raceOf closure x) xs) ≤ 1024 =
-    λ x. omega (arith, concat-few (raceOf closure x) 1 (one-race closure x) xs)
+few-races closure fs xs h =
+    let each : (x : NamedAccess) → length (concatMap (raceOf closure fs x) xs) ≤ 1024 =
+    λ x. omega (arith, concat-few (raceOf closure fs x) 1 (one-race closure fs x) xs)
     in
-    omega (arith, concat-few (λ x. concatMap (raceOf closure x) xs) 1024 each xs)
+    omega (arith, concat-few (λ x. concatMap (raceOf closure fs x) xs) 1024 each xs)
 
 some-segments : (c : Chunk) → 1 ≤ length (segmentsIn c)
 unfolding segmentsIn
@@ -59,10 +60,10 @@ pub counts-small : (s : List ℕ) → Accepted s → Small (totalsOf (chunksOf s
 unfolding totalsOf racesOf segmentsOf
 counts-small s a =
     let cs = chunksOf s in
-    let races = few-races (closureOf (segmentsOf cs)) (accessesOf cs) (few-accesses s a) in
+    let races = few-races (closureOf (segmentsOf cs)) (forksOf cs) (accessesOf cs) (few-accesses s a) in
     record {
       chunks = omega (arith, concat-some segmentsIn some-segments cs, few-segments s a);
       segments = omega (arith, few-segments s a);
       accesses = omega (arith, few-accesses s a);
-      races = omega (arith, races, order-length (racesAmong (closureOf (segmentsOf cs)) (accessesOf cs)));
+      races = omega (arith, races, order-length (racesAmong (closureOf (segmentsOf cs)) (forksOf cs) (accessesOf cs)));
     }

@@ -1,20 +1,23 @@
 -- `listing::list::list_in` meets its contract. Assumes nothing.
-use mathlib.Core.Path.{refl}
+use mathlib.Core.Path.{refl, sym}
 use Rattle.bundle.proofs.CheckCases.{indexed-accepted, indexed-refused}
+use Rattle.verdict.proofs.JudgeCases.{regions-of}
 use Rattle.listing.proofs.ListCases.{listed-as, listed-readable, listing-refused}
 use borrow.Author.Needs.{needs}
 use Rattle.listing.proofs.list.list_in.Statement.{statement}
 use Rattle.listing.proofs.list.list_in.Tie as tie
 
+slice-aggregate-list-accepted : tie.Need-slice-aggregate-list-accepted
+slice-aggregate-list-accepted c = sym (indexed-accepted _ _ _ (c .before .before .before .before .index-bundle .ensures) (c .before .before .count .given .1) .fork-table)
+
 list-accepted-requires : tie.Need-list-accepted-requires
-list-accepted-requires c κs = (
-  indexed-accepted _ _ _ (c .before .before .before .before .before .before .before .index-bundle .ensures) (c .before .before .before .before .before .count .given .1) .accepted,
-  c .before .before .before .before .before .before .before .before .before .before .before .before .before .before .before .pre,
-)
+list-accepted-requires c κs =
+    let accepted = indexed-accepted _ _ _ (c .before .before .before .before .before .before .before .before .index-bundle .ensures) (c .before .before .before .before .before .before .count .given .1) in
+    (accepted .accepted, regions-of accepted, c .before .before .before .before .before .before .before .before .before .before .before .before .before .before .before .before .pre)
 
 returns : tie.Need-returns
 returns c =
-    let accepted = indexed-accepted _ _ _ (c .before .before .before .before .before .before .before .before .before .before .before .before .before .before .before .before .before .index-bundle .ensures) (c .before .before .before .before .before .before .before .before .before .before .before .before .before .before .before .count .given .1) in
+    let accepted = indexed-accepted _ _ _ (c .before .before .before .before .before .before .before .before .before .before .before .before .before .before .before .before .before .before .index-bundle .ensures) (c .before .before .before .before .before .before .before .before .before .before .before .before .before .before .before .before .count .given .1) in
     let listed = c .before .before .before .before .before .before .before .before .before .list-accepted .ensures in
     (listed-as _ accepted _ _ _ _ _ (listed .0) (c .listed-of .ensures), listed .1, listed-readable _ accepted _ _ _ _ (listed .0) (c .listed-of .ensures))
 
@@ -29,6 +32,7 @@ list-in-spec =
     (tie.spec
     (λ c κs. tt)
     (λ c. search needs)
+    slice-aggregate-list-accepted
     list-accepted-requires
     (λ c κs. tt)
     (λ c. search needs)

@@ -4,7 +4,7 @@ use Rattle.listing.proofs.list.push_area.Statement.{statement}
 use Rattle.listing.proofs.list.push_area.Tie as tie
 
 push-all-requires : tie.Need-push-all-requires
-push-all-requires c κs = c .before .before .before .before .before .pre .0
+push-all-requires c κs = let pre = c .before .before .before .before .before .before .pre in (pre .0, pre .1)
 
 returns : tie.Need-returns
 returns c = c .before .before .push-all .ensures

@@ -1,46 +1,31 @@
--- `listing::pairs::push_all` meets its contract. The invariant: the accesses passed are compared with those behind them. The measure: those left. Assumes nothing.
-use Prim.Native.Nat.{_≤_, _-_}
+-- `listing::pairs::push_all` meets its contract. Assumes nothing.
+use Prim.Native.Nat.{ℕ}
+use lib.ListN.{length-replicate}
 use borrow.Author.Needs.{needs}
-use Rattle.listing.specs.Pushing.{Pushes, allNumbers}
-use Rattle.listing.proofs.PushLaws.{pushes-length}
-use Rattle.listing.proofs.BlockLaws.{all-none, all-count, all-more, all-all}
+use Rattle.verdict.proofs.LinkLaws.{all-around}
 use Rattle.listing.proofs.pairs.push_all.Statement.{statement}
 use Rattle.listing.proofs.pairs.push_all.Tie as tie
 
-abbrev Inv-loop : tie.InvT-loop
-Inv-loop matrix rows n numbers₀ count₀ i₀ numbers count i = (i ≤ n) × Pushes (allNumbers matrix rows n i) numbers₀ 0 numbers count
+link-requires : tie.Need-link-requires
+link-requires c κs =
+    let pre = c .before .before .before .before .before .pre in
+    record {
+      few = pre .0 .few;
+      whole = pre .0 .rows-whole;
+      few-regions = pre .1 .few;
+      long = length-replicate {A = ℕ} 1536 0;
+    }
 
-abbrev μ-loop : tie.MeasureT-loop
-μ-loop matrix rows n numbers₀ count₀ i₀ numbers count i = n - i
-
-loop-holds : tie.Need-loop-holds Inv-loop μ-loop
-loop-holds c = (search needs, all-none _ _ _ _)
-
-push-row-requires : tie.Need-push-row-requires Inv-loop μ-loop
-push-row-requires c κs =
-    let tables = c .before .before .before .before .before .before .pre in
-    let turn = c .before .before .loop in
-    (tables, c .before .loop-test .taken, all-count _ _ _ _ (turn .i) (turn .inv .1) tables (turn .inv .0))
-
-loop-again : tie.Need-loop-again Inv-loop μ-loop
-loop-again c = (search needs, all-more _ _ _ _ (c .before .before .before .before .before .loop .i) (c .before .before .before .before .before .loop .inv .1) (c .before .before .push-row .ensures))
-
-same-length : tie.Need-same-length Inv-loop μ-loop
-same-length c = pushes-length (c .before .loop .inv .1)
-
-returns : tie.Need-returns Inv-loop μ-loop
-returns c = let turn = c .before .loop in all-all _ _ _ _ (turn .i) (turn .inv .1) (turn .inv .0) (c .loop-test .left)
+push-rows-requires : tie.Need-push-rows-requires
+push-rows-requires c κs = let pre = c .before .before .before .before .before .before .before .before .before .pre in (pre .0, all-around (pre .1) (c .before .before .before .link .ensures))
 
 pub push-all-spec : {M : Type 1} → statement M
 push-all-spec =
     tie.close
     (tie.spec
-    Inv-loop
-    μ-loop
-    loop-holds
-    push-row-requires
     (λ c. search needs)
+    link-requires
     (λ c. search needs)
-    loop-again
-    same-length
-    returns)
+    push-rows-requires
+    (λ c. search needs)
+    (λ c. search needs))
