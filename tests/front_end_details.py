@@ -68,6 +68,17 @@ class Markup(HTMLParser):
         self.test.fail(f"a comment: {data}")
 
 
+class PageCase(Case):
+    def articles(self, datas):
+        """The page's part on each of these bundles, in their order, all of which have races."""
+        self.put("b", **{f"{k:03}": data for k, data in enumerate(datas)})
+        self.judge(sheet="build\nb\n", status=1)
+        Markup(self, self.page_text())
+        found = self.page_text().split("<article>")[1:]
+        self.assertEqual(len(found), len(datas))
+        return found
+
+
 def many_races(rng, members=24):
     """A team whose members all write the same words: very many races."""
     chunks = [[Command(sr.MEMBER, (0, 0)), Command(sr.REGION, (1, members)), Command(sr.END, ())]]

@@ -9,8 +9,8 @@ from itertools import permutations
 import generators
 import second_reader as sr
 from bundle_text import bundle
-from front_end_details import Markup
-from front_end_setting import EXAMPLE, Case
+from front_end_details import PageCase
+from front_end_setting import EXAMPLE
 from frontend import bundles
 
 # (bundle, for each race in order: the two cells of the row "Locks")
@@ -81,16 +81,7 @@ def told_on_page(article):
     return re.findall(r"<tr><th>Locks</th><td>(.*?)</td><td>(.*?)</td></tr>", article)
 
 
-class Pages(Case):
-    def articles(self, datas):
-        """The page's part on each of these bundles, in their order, all of which have races."""
-        self.put("b", **{f"{k:03}": data for k, data in enumerate(datas)})
-        self.judge(sheet="build\nb\n", status=1)
-        Markup(self, self.page_text())
-        found = self.page_text().split("<article>")[1:]
-        self.assertEqual(len(found), len(datas))
-        return found
-
+class Pages(PageCase):
     def test_by_hand(self):
         articles = self.articles([data_of(text) for text, _ in BY_HAND.values()])
         for article, (name, (_, wanted)) in zip(articles, BY_HAND.items(), strict=True):

@@ -7,7 +7,7 @@ import unittest
 
 import generators
 import second_reader as sr
-from front_end_details import Markup, many_races
+from front_end_details import PageCase, many_races
 from front_end_setting import EXAMPLE, ROOT, Case
 from frontend import bundles
 from frontend.page import races_each
@@ -172,16 +172,7 @@ def wanted_on_page(wanted):
     return [(words, cells, tuple(re.match(r"\d+", cell)[0] for cell in cells)) for _, words, cells in wanted]
 
 
-class Pages(Case):
-    def articles(self, datas):
-        """The page's part on each of these bundles, in their order, all of which have races."""
-        self.put("b", **{f"{k:03}": data for k, data in enumerate(datas)})
-        self.judge(sheet="build\nb\n", status=1)
-        Markup(self, self.page_text())
-        found = self.page_text().split("<article>")[1:]
-        self.assertEqual(len(found), len(datas))
-        return found
-
+class Pages(PageCase):
     def test_by_hand(self):
         for article, (data, wanted) in zip(self.articles([data for data, _ in BY_HAND.values()]), BY_HAND.values(), strict=True):
             self.assertEqual(told_on_page(article), wanted_on_page(wanted))

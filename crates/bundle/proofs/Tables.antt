@@ -1,10 +1,12 @@
 -- Tables of rows in words: what a word holds, how a table grows, and the first row that passes a test.
 use Prim.Native.Nat.{ℕ, zero, suc, _+_, _-_, _*_, _/_, _%_, _≤_, _<_}
 use mathlib.Core.Path.{_≡_, refl, sym, _∙_, ap}
+use mathlib.Core.Logic.{⊎-elim}
 use mathlib.Core.Bool.{Bool, true, false, cond}
-use mathlib.Core.List.{List, [], _∷_, _++_}
+use mathlib.Core.List.{List, [], _∷_, _++_, List·Memᴰ, List·Memᴰ·head, List·Memᴰ·not-nil, List·Memᴰ·append-cases, List·Memᴰ·eq-of-singleton, Memᴰ·append-left, Memᴰ·append-right}
 use mathlib.Core.Option.{none, some}
 use native.Mathlib.Omega.{arith}
+use native.Mathlib.Decide.{ℕ-discrete}
 use native.Mathlib.Numerals.{add-one}
 use native.Mathlib.Nat.{add-mul-mod-self-left, add-mul-div-left, mod-eq-of-lt, div-eq-of-lt, add-zero, zero-add}
 use lib.ListN.{length, getD, set, length-set}
@@ -79,6 +81,23 @@ module _ {A : Type 0} where
   pub table-length : (f : ℕ → A) (n : ℕ) → length (table f n) ≡ n
   unfolding table
   table-length f n = from-length f 0 n
+
+  -- its elements are those of the numbers below n
+  pub table-in : (f : ℕ → A) (n k : ℕ) → k < n → List·Memᴰ (f k) (table f n)
+  table-in f zero k h = absurd (omega arith)
+  table-in f (suc n) k h = rw (table-more f n) (go (ℕ-discrete k n) (table-in f n k))
+    where
+      go : Dec (k ≡ n) → (k < n → List·Memᴰ (f k) (table f n)) → List·Memᴰ (f k) (table f n ++ (f n ∷ []))
+      go (yes e) ih = Memᴰ·append-right (table f n) (List·Memᴰ·head (ap f e))
+      go (no ne) ih = Memᴰ·append-left (f n ∷ []) (ih (omega arith))
+
+  pub table-each : (P : A → Type 0) (f : ℕ → A) (n : ℕ) → ((k : ℕ) → k < n → P (f k)) → (x : A) → List·Memᴰ x (table f n) → P x
+  table-each P f zero h x m = absurd (List·Memᴰ·not-nil (rw (table-none f) at m))
+  table-each P f (suc n) h x m =
+      ⊎-elim
+      (λ l. table-each P f n (λ k b. h k (omega arith)) x l)
+      (λ l. let e : x ≡ f n = List·Memᴰ·eq-of-singleton l in rw e (h n (omega arith)))
+      (List·Memᴰ·append-cases (table f n) (rw (table-more f n) at m))
 
   -- a row written behind the others
   pub table-added :

@@ -46,7 +46,7 @@ extends ts x h =
     let left : 5 - n ≡ suc (5 - (n + 1)) = omega arith in
     rw (more, left, set-behind ts blank x (replicate (5 - (n + 1)) blank))
 
-fork-known : (fs : List Fork) (t : ℕ) {f : Fork} → forkOf fs t ≡ some f → List·Memᴰ f fs × (f .team ≡ t)
+pub fork-known : (fs : List Fork) (t : ℕ) {f : Fork} → forkOf fs t ≡ some f → List·Memᴰ f fs × (f .team ≡ t)
 unfolding forkOf
 fork-known fs t {f} e = let w = first-some (λ (g : Fork). eqb (g .team) t) fs e in (w .0, eqb-true (f .team) t (w .1))
 

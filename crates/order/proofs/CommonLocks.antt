@@ -14,7 +14,7 @@ use borrow.Author.Tests.{eqb-true, eq-eqb, ne-eqb}
 use Rattle.bundle.specs.Lists.{upTo, any}
 use Rattle.bundle.specs.Locks.{holds, commonLock}
 use Rattle.bundle.proofs.Tests.{both, and-left, and-right, same-test, false-of-not, not-of-false, not-both}
-use Rattle.bundle.proofs.ListLaws.{any-elim, any-intro, upTo-intro}
+use Rattle.bundle.proofs.ListLaws.{any-elim, any-intro, upTo-elim, upTo-intro}
 
 -- a bit of what both have set
 bit-of-both : (a b k : ℕ) → bitAnd a b / 2 ^ k % 2 ≡ min (a / 2 ^ k % 2) (b / 2 ^ k % 2)
@@ -60,6 +60,14 @@ module _ (n a b : ℕ) where
       let e = bit-of-both a b (p .element) in
       let w : bitAnd a b / 2 ^ p .element % 2 ≡ 0 = rw (z, zero-div) in
       omega arith
+
+-- a lock that both have
+pub common-lock-elim : (a b : ℕ) → commonLock a b ≡ true → (lock : ℕ) × (lock < 64) × (holds lock a ≡ true) × (holds lock b ≡ true)
+unfolding commonLock
+common-lock-elim a b e =
+    let f = any-elim (λ l. holds l a && holds l b) (upTo 64) e in
+    let l = f .element in
+    (l, upTo-elim 64 (f .present), and-left (holds l a) (holds l b) (f .passes), and-right (holds l a) (holds l b) (f .passes))
 
 pub common-bits : (a b : ℕ) → a < 2 ^ 64 → not (eqb (bitAnd a b) 0) ≡ commonLock a b
 unfolding commonLock

@@ -3,15 +3,12 @@ use mathlib.Core.Path.{_≡_, refl, sym, ap, _∙_}
 use mathlib.Core.Bool.{Bool, true, false, cond, _||_}
 use mathlib.Core.List.{List, [], _∷_, _++_, append-assoc, append-nil}
 use Rattle.bundle.specs.Lists.{any}
+use Rattle.bundle.proofs.Tests.{or-assoc}
 use Rattle.tray.specs.declared.word.Outcome.{Outcome}
 use Rattle.tray.specs.declared.word.Outcome.the-variants as Out
 use Rattle.tray.specs.declared.word.Word.{Word}
 use Rattle.tray.specs.declared.word.Word.the-variants as Wor
 use Rattle.tray.specs.Words.{isRace, isRefused, wordOf, afterOutcome, afterAll, Onward}
-
-or-assoc : (a b c : Bool) → (a || b || c) ≡ (a || (b || c))
-or-assoc true b c = refl
-or-assoc false b c = refl
 
 any-snoc : (p : Outcome → Bool) (os : List Outcome) (o : Outcome) → any p (os ++ (o ∷ [])) ≡ (any p os || p o)
 any-snoc p [] o = go (p o)

@@ -33,7 +33,7 @@ use Rattle.bundle.proofs.Onward.{legible, team-falls, entry-stands}
 use Rattle.bundle.proofs.SegmentRuns.{nodeOf, segments-distinct}
 use Rattle.order.specs.Labels.{lastTriple, forkLabel, segmentLabel, labelOf}
 use Rattle.order.specs.Climbing.{Climbable}
-use Rattle.order.proofs.Climbs.{root-unforked, climbs}
+use Rattle.order.proofs.Climbs.{fork-known, root-unforked, climbs}
 use Rattle.verdict.specs.Graph.{ofChunk, ofBarrier, ofRegion, Segment, segmentsIn, segmentsOf}
 use Rattle.verdict.proofs.ForkJoin.{OneChunk, Onward, at-end, at-barrier, at-region, ForkedBy, Parent, InChunk, ForkJoin}
 use Rattle.verdict.proofs.SegmentChains.{ChunkRun, chunk-run, of-run, onward-in, last-in, opened-region-in, opened-barrier-in, passed-in, at-number, Forks, fork-of, forked-of}
@@ -238,10 +238,6 @@ module _ (s : List ℕ) (ok : Accepted s) where
   unfolding sizeOf
   unforked t e q = rw (ne-eqb t 0 e, q)
 
-  found : (t : ℕ) {f : Fork} → forkOf fs t ≡ some f → List·Memᴰ f fs × (f .team ≡ t)
-  unfolding forkOf
-  found t {f} q = let w = first-some (λ (x : Fork). eqb (x .team) t) fs q in (w .0, eqb-true (f .team) t (w .1))
-
   pub forker : {f : Fork} → List·Memᴰ f fs → (x : Segment) × List·Memᴰ x ss × Forks x f
   unfolding forksOf segmentsOf
   forker {f} l =
@@ -261,7 +257,7 @@ module _ (s : List ℕ) (ok : Accepted s) where
   parent-of : {g : Segment} → List·Memᴰ g ss → (g .node .team ≡ 0 → ⊥) → Parent ss (g .node .team)
   parent-of {g} m e =
       let q = team-forked m e in
-      let w = found (g .node .team) (q .1) in
+      let w = fork-known fs (g .node .team) (q .1) in
       let x = forker (w .0) in
       let t = x .2 .parent in
       let below = team-falls s ok (q .0) (w .0) in
@@ -326,7 +322,7 @@ module _ (s : List ℕ) (ok : Accepted s) where
       go : (b : Bool) (o : Option Fork) → forkOf fs t ≡ o → cond b 1 (fromOption 0 (λ (f : Fork). f .size) o) ≤ 64
       go true o e = omega arith
       go false none e = omega arith
-      go false (some f) e = size-small f (found t e .0)
+      go false (some f) e = size-small f (fork-known fs t e .0)
 
   pub root-size : sizeOf fs 0 ≡ 1
   unfolding sizeOf

@@ -19,7 +19,7 @@ use Rattle.bundle.specs.Check.{forkOf, checkOf, Accepted}
 use Rattle.bundle.specs.Index.{chunkRowAt, forkRowAt, rowsFrom, chunkRows, Indexed}
 use Rattle.bundle.specs.declared.index.Fork.{Fork}
 use Rattle.bundle.specs.declared.refusal.Cause.{Cause}
-use Rattle.bundle.proofs.Tables.{table-length}
+use Rattle.bundle.proofs.Tables.{table-length, table-in}
 use Rattle.bundle.proofs.Reorder.{distinct-members}
 use Rattle.bundle.proofs.Onward.{team-falls}
 use Rattle.order.proofs.Climbs.{fork-none}
@@ -48,7 +48,6 @@ use Rattle.verdict.specs.Edges.{Tables, Reached}
 use Rattle.verdict.specs.declared.fill.Counts.{Counts}
 use Rattle.verdict.proofs.Regularity.{regular}
 use Rattle.verdict.proofs.ListPlaces.{below-at, at-below, at-mem}
-use Rattle.verdict.proofs.LinkLaws.{table-in}
 use Rattle.verdict.proofs.AccessSegments.{stands}
 use Rattle.verdict.proofs.BundleForkJoin.{forker, team-forked}
 use Rattle.verdict.proofs.RowRaces.{row-range}

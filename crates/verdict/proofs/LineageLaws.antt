@@ -13,9 +13,9 @@ use Rattle.bundle.specs.Lists.{upTo, any, fromOption}
 use Rattle.bundle.specs.Locks.{holds, commonLock}
 use Rattle.bundle.specs.Check.{forkOf}
 use Rattle.bundle.specs.declared.index.Fork.{Fork}
-use Rattle.bundle.proofs.ListLaws.{any-elim, any-intro, upTo-elim, upTo-intro, first-some}
-use Rattle.bundle.proofs.Tests.{both, and-left, and-right, or-one}
-use Rattle.order.proofs.Climbs.{fork-team}
+use Rattle.bundle.proofs.ListLaws.{any-intro, upTo-intro}
+use Rattle.bundle.proofs.Tests.{both, and-swap, or-assoc, or-one}
+use Rattle.order.proofs.Climbs.{fork-known, fork-team}
 use Rattle.verdict.specs.Lineages.{Holder, aboveFrom, lineage, hasTeam, upToParting, countsLock}
 use Rattle.verdict.specs.RaceLists.{commonCounted}
 use Rattle.verdict.specs.Linking.{climbed}
@@ -25,21 +25,11 @@ use Rattle.verdict.proofs.WordBits.{bit-or}
 abbrev pub forker : Fork → Holder
 forker f = record { team = f .parent; member = f .member; locks = f .state .locks }
 
-or-assoc : (a b c : Bool) → (a || (b || c)) ≡ ((a || b) || c)
-or-assoc true b c = refl
-or-assoc false b c = refl
-
-pub and-swap : (a b : Bool) → (a && b) ≡ (b && a)
-and-swap true true = refl
-and-swap true false = refl
-and-swap false true = refl
-and-swap false false = refl
-
 held-or : (lock a b : ℕ) → holds lock (bitOr a b) ≡ (holds lock a || holds lock b)
 unfolding holds
 held-or lock a b = bit-or a b lock
 
--- what is counted on a side does not look beyond its own chunk
+-- own locks always count, and in one team nothing else does
 module _ (fs : List Fork) (a b : Holder) (lock : ℕ) where
   pub own-counted : holds lock (a .locks) ≡ true → countsLock fs a b lock ≡ true
   unfolding countsLock lineage upToParting
@@ -77,7 +67,7 @@ module _ (fs : List Fork) (none-held : (f : Fork) → List·Memᴰ f fs → f .s
           → held (upToParting (step o) other) ≡ false
       go none e ih = refl
       go (some f) e ih =
-          rw (ap (holds lock) (none-held f (unfold forkOf in (first-some (λ (g : Fork). eqb (g .team) t) fs e .0))) ∙ nothing)
+          rw (ap (holds lock) (none-held f (fork-known fs t e .0)) ∙ nothing)
           (stopped (hasTeam other (f .parent)) (upToParting (aboveFrom fuel fs (f .parent)) other) (ih (f .parent) other))
 
   pub none-counted : (a b : Holder) → countsLock fs a b lock ≡ holds lock (a .locks)
@@ -161,20 +151,20 @@ module _ (fs : List Fork) (falls : (f : Fork) → List·Memᴰ f fs → f .paren
             let lower = fork-team fs falls e in
             rw (has-team (g .parent) (omega arith), ih (g .parent) (omega arith))
 
-    -- what the lower side countsLock
+    -- what the lower side counts
     pub lower-counts : (lock : ℕ) → countsLock fs a b lock ≡ countsLock fs a (climbed b f) lock
     unfolding countsLock lineage upToParting
     lower-counts lock =
         ap₂ (λ (x : Bool) (hs : List Holder). any (λ (h : Holder). holds lock (h .locks)) (a ∷ cond x [] hs)) (has-team (a .team) below)
         (above-counted (suc (a .team)) (a .team) (omega arith))
 
-    -- what the side that climbs countsLock
+    -- what the side that climbs counts
     pub upper-counts : (lock : ℕ) → countsLock fs b a lock ≡ countsLock fs (climbed b f) a lock
     unfolding countsLock lineage upToParting
     upper-counts lock =
         ap₂ (λ (x : Bool) (hs : List Holder). held (b ∷ cond x [] (upToParting hs (lineage fs a)))) (lineage-low a (b .team) below)
         (above-forked (b .team) forked)
-        ∙ or-assoc (holds lock (b .locks)) (holds lock (f .state .locks)) rest
+        ∙ sym (or-assoc (holds lock (b .locks)) (holds lock (f .state .locks)) rest)
         ∙ ap (λ (x : Bool). x || rest) (sym (held-or lock (b .locks) (f .state .locks)))
       where
         held : List Holder → Bool
@@ -182,16 +172,6 @@ module _ (fs : List Fork) (falls : (f : Fork) → List·Memᴰ f fs → f .paren
 
         rest : Bool
         rest = held (cond (hasTeam (lineage fs a) (f .parent)) [] (upToParting (aboveFrom (suc (f .parent)) fs (f .parent)) (lineage fs a)))
-
--- a lock in common
-module _ (a b : ℕ) where
-  pub common-lock-elim :
-      commonLock a b ≡ true → (lock : ℕ) × (lock < 64) × (holds lock a ≡ true) × (holds lock b ≡ true)
-  unfolding commonLock
-  common-lock-elim e =
-      let f = any-elim (λ l. holds l a && holds l b) (upTo 64) e in
-      let l = f .element in
-      (l, upTo-elim 64 (f .present), and-left (holds l a) (holds l b) (f .passes), and-right (holds l a) (holds l b) (f .passes))
 
 -- whether two sides count a lock in common
 module _ (fs : List Fork) where

@@ -1,20 +1,19 @@
 -- Climbing by links: what each step and each loop over the table of links gives.
-use Prim.Native.Nat.{ℕ, zero, suc, _+_, _≤_, _<_}
+use Prim.Native.Nat.{ℕ, _+_, _≤_, _<_}
 use mathlib.Core.Path.{_≡_, refl, sym, _∙_, ap, ap₂}
-use mathlib.Core.Logic.{⊎-elim}
 use mathlib.Core.Bool.{Bool, true, false, not}
-use mathlib.Core.List.{List, [], _∷_, _++_, List·Memᴰ, List·Memᴰ·head, List·Memᴰ·not-nil, Memᴰ·append-left, Memᴰ·append-right, List·Memᴰ·append-cases, List·Memᴰ·eq-of-singleton}
+use mathlib.Core.List.{List}
 use mathlib.Core.Option.{some}
 use native.Mathlib.Omega.{arith}
-use native.Mathlib.Decide.{ℕ-discrete}
 use lib.ListN.{length, getD, set, length-set}
 use lib.Seq.{getD-set-same, getD-set-other}
 use borrow.Author.Count.{below-more}
 use Rattle.bundle.specs.Locks.{commonLock}
 use Rattle.bundle.specs.Check.{forkOf}
-use Rattle.bundle.specs.Index.{forkRowAt, table}
+use Rattle.bundle.specs.Index.{forkRowAt}
 use Rattle.bundle.specs.declared.index.Fork.{Fork}
-use Rattle.bundle.proofs.Tables.{table-more, table-none}
+use Rattle.bundle.proofs.Tests.{false-is-true}
+use Rattle.bundle.proofs.Tables.{table-each}
 use Rattle.order.proofs.Climbs.{fork-some, fork-team}
 use Rattle.verdict.specs.Lineages.{Holder}
 use Rattle.verdict.specs.RaceLists.{commonCounted}
@@ -203,24 +202,7 @@ pub unheld-apart :
 unheld-apart {forks = forks} {regions = regions} a one other =
     ap not (common-unheld (forksIn forks regions) (a .all .linked .unheld refl .none) (rowHolder one) (rowHolder other))
 
--- the REGIONs of a table, one by one
-table-each :
-    {A : Type 0} (P : A → Type 0) (f : ℕ → A) (n : ℕ) → ((k : ℕ) → k < n → P (f k)) → (x : A) → List·Memᴰ x (table f n) → P x
-table-each P f zero h x m = absurd (List·Memᴰ·not-nil (rw (table-none f) at m))
-table-each P f (suc n) h x m =
-    ⊎-elim
-    (λ l. table-each P f n (λ k b. h k (omega arith)) x l)
-    (λ l. let e : x ≡ f n = List·Memᴰ·eq-of-singleton l in rw e (h n (omega arith)))
-    (List·Memᴰ·append-cases (table f n) (rw (table-more f n) at m))
-
-pub table-in : {A : Type 0} (f : ℕ → A) (n k : ℕ) → k < n → List·Memᴰ (f k) (table f n)
-table-in f zero k h = absurd (omega arith)
-table-in f (suc n) k h = rw (table-more f n) (go (ℕ-discrete k n) (table-in f n k))
-  where
-    go : Dec (k ≡ n) → (k < n → List·Memᴰ (f k) (table f n)) → List·Memᴰ (f k) (table f n ++ (f n ∷ []))
-    go (yes e) ih = Memᴰ·append-right (table f n) (List·Memᴰ·head (ap f e))
-    go (no ne) ih = Memᴰ·append-left (f n ∷ []) (ih (omega arith))
-
+-- no lock is held at the REGIONs of a table
 pub none-held-all :
     (forks : List ℕ) (regions i : ℕ)
     → i ≤ regions
@@ -230,9 +212,6 @@ pub none-held-all :
     → NoneHeld forks regions
 none-held-all forks regions i a b h e =
     record { none = table-each (λ (f : Fork). f .state .locks ≡ 0) (forkRowAt forks) regions (λ k l. h k (omega arith)) }
-
-pub no-answer : {A : Type 0} → true ≡ false → A
-no-answer e = absurd (let z : _≡_ {A = ℕ} 0 1 = cc in omega arith)
 
 -- the loop over the accesses
 module _ (rows forks : List ℕ) (regions : ℕ) where
@@ -313,7 +292,7 @@ all-linked p a f =
     record {
       long = f .long;
       few = p .few-regions;
-      unheld = no-answer;
+      unheld = λ e. false-is-true (sym e);
       accesses = λ e. record { linked = λ j h. f .kept j (omega (arith, p .few)) ∙ a .linked j h };
       regions-up = λ e. f .written;
     }
@@ -325,6 +304,6 @@ not-linked p h =
       long = p .long;
       few = p .few-regions;
       unheld = λ e. h;
-      accesses = λ e. no-answer (sym e);
-      regions-up = λ e. no-answer (sym e);
+      accesses = false-is-true;
+      regions-up = false-is-true;
     }

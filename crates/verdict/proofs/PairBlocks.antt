@@ -15,7 +15,7 @@ use Rattle.bundle.specs.Locks.{commonLock}
 use Rattle.bundle.specs.declared.index.Fork.{Fork}
 use Rattle.bundle.proofs.Tests.{or-false, same-test, not-both, refuted, fails}
 use Rattle.order.specs.Ranges.{sharedByte}
-use Rattle.order.proofs.CommonLocks.{common-bits}
+use Rattle.order.proofs.CommonLocks.{common-lock-elim, common-bits}
 use Rattle.verdict.specs.Matrix.{bitAt, Within}
 use Rattle.verdict.specs.Working.{accessRowAt, RowIn}
 use Rattle.verdict.specs.Tallying.{
@@ -48,7 +48,7 @@ use Rattle.verdict.specs.declared.rows.AccessRow.{AccessRow}
 use Rattle.verdict.specs.declared.pairs.Key.{Key}
 use Rattle.verdict.specs.declared.pairs.Tally.{Tally}
 use Rattle.verdict.specs.declared.pairs.Sum.{Sum}
-use Rattle.verdict.proofs.LineageLaws.{common-lock-elim, own-common}
+use Rattle.verdict.proofs.LineageLaws.{own-common}
 use Rattle.verdict.proofs.PairCases.{pair-count, row-more, row-count, fewer-rows}
 
 -- the code's test of two halves of a lock set

@@ -15,7 +15,7 @@ use Rattle.bundle.specs.declared.command.AccessKind.{AccessKind}
 use Rattle.bundle.specs.declared.command.AccessKind.the-variants as Kind
 use Rattle.bundle.specs.declared.command.Range.{Range}
 use Rattle.bundle.specs.declared.index.Fork.{Fork}
-use Rattle.bundle.proofs.Tests.{both, not-both, is-false}
+use Rattle.bundle.proofs.Tests.{both, and-swap, not-both, is-false}
 use Rattle.order.specs.Ranges.{Touches, sharedByte, lowestElement}
 use Rattle.order.proofs.SharedByte.{shared-some, shared-swap}
 use Rattle.order.proofs.Elements.{element-by}
@@ -29,7 +29,7 @@ use Rattle.verdict.specs.Tallying.{rowRange, rowName, boundsMeet, kindsC
 use Rattle.verdict.specs.declared.race.Race.{Race}
 use Rattle.verdict.specs.declared.rows.AccessRow.{AccessRow}
 use Rattle.verdict.proofs.Lexical.{Compared, less, same, more, compare, less-asymmetric}
-use Rattle.verdict.proofs.LineageLaws.{and-swap, common-swap}
+use Rattle.verdict.proofs.LineageLaws.{common-swap}
 
 -- a touched byte lies between the first and the last
 touched-within : (r : Range) (byte : ℕ) → Touches r byte → (r .base ≤ byte) × (byte ≤ lastByte r)

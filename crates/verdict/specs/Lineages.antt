@@ -36,8 +36,8 @@ lineage fs h = h ∷ aboveFrom (suc (h .team)) fs (h .team)
 unfoldable pub hasTeam : List Holder → ℕ → Bool
 hasTeam hs t = any (λ (h : Holder). eqb (h .team) t) hs
 
--- "every chunk above it up to and including that member": two lineages part in the first team on the way up that both have a chunk of;
--- of unordered accesses these are "different members" of it (`Parting`)
+-- "the team where their lineages part into different members": on the way up, the first that both have a chunk of; that unordered accesses
+-- have different members of it is a theorem (`Parting`). What a lineage has "up to and including that member"
 unfoldable pub upToParting : List Holder → List Holder → List Holder
 upToParting [] other = []
 upToParting (h ∷ hs) other = h ∷ cond (hasTeam other (h .team)) [] (upToParting hs other)

@@ -5,7 +5,8 @@ use native.Mathlib.Omega.{arith}
 use borrow.Author.Needs.{needs}
 use borrow.Author.Count.{below-more}
 use Rattle.bundle.specs.Index.{forkRowAt}
-use Rattle.verdict.proofs.LinkLaws.{none-held-all, no-answer}
+use Rattle.bundle.proofs.Tests.{false-is-true}
+use Rattle.verdict.proofs.LinkLaws.{none-held-all}
 use Rattle.verdict.proofs.lineage.some_held.Statement.{statement}
 use Rattle.verdict.proofs.lineage.some_held.Tie as tie
 
@@ -19,7 +20,7 @@ loop-holds : tie.Need-loop-holds Inv-loop μ-loop
 loop-holds c = (search needs, λ k h. absurd (omega arith))
 
 returns : tie.Need-returns Inv-loop μ-loop
-returns c = no-answer
+returns c = λ e. false-is-true (sym e)
 
 loop-again : tie.Need-loop-again Inv-loop μ-loop
 loop-again c =
