@@ -2,7 +2,7 @@
 use Prim.Native.Nat.{ℕ, suc, _+_, _*_, _≤_, _<_}
 use mathlib.Core.Path.{_≡_, refl, sym, _∙_, ap, ap₂, subst}
 use mathlib.Core.Logic.{_⊎_, inl, inr}
-use mathlib.Core.Bool.{Bool, true, false, cond, not, _&&_}
+use mathlib.Core.Bool.{Bool, true, false, cond, _&&_}
 use mathlib.Core.List.{List, [], _∷_, _++_, List·Memᴰ, List·Memᴰ·head, List·Memᴰ·tail, List·Memᴰ·not-nil, List·Memᴰ·cases-cons, List·Memᴰ·eq-of-singleton, Memᴰ·map}
 use mathlib.Core.Option.{Option, none, some}
 use native.Mathlib.Omega.{arith}
@@ -17,8 +17,8 @@ use Rattle.bundle.specs.declared.command.Command.{Command}
 use Rattle.bundle.specs.declared.command.Command.the-variants as Com
 use Rattle.bundle.specs.Lists.{first, concatMap, fromOption}
 use Rattle.bundle.specs.Chunks.{Placed, Chunk, fresh, commandsOf, chunksOf, isOf, chunkOf}
-use Rattle.bundle.specs.Walk.{Entry, entriesFrom, entriesOf, barriersOf, forkAt, forksIn, forksOf}
-use Rattle.bundle.specs.Check.{Accepted, forkOf, sizeOf, depthOf, unlikeFirst}
+use Rattle.bundle.specs.Walk.{Entry, entriesFrom, entriesOf, forkAt, forksIn, forksOf}
+use Rattle.bundle.specs.Check.{Accepted, forkOf, sizeOf, depthOf}
 use Rattle.bundle.specs.declared.chunk.ChunkState.{ChunkState}
 use Rattle.bundle.specs.declared.index.Fork.{Fork}
 use Rattle.bundle.proofs.Tests.{both, and-right}
@@ -37,10 +37,6 @@ use Rattle.order.proofs.Climbs.{fork-known, root-unforked, climbs}
 use Rattle.verdict.specs.Graph.{ofChunk, ofBarrier, ofRegion, Segment, segmentsIn, segmentsOf}
 use Rattle.verdict.proofs.ForkJoin.{OneChunk, Onward, at-end, at-barrier, at-region, ForkedBy, Parent, InChunk, ForkJoin}
 use Rattle.verdict.proofs.SegmentChains.{ChunkRun, chunk-run, of-run, onward-in, last-in, opened-region-in, opened-barrier-in, passed-in, at-number, Forks, fork-of, forked-of}
-
-true-of-not : (t : Bool) → not t ≡ false → t ≡ true
-true-of-not true e = refl
-true-of-not false e = sym e
 
 module _ (s : List ℕ) (ok : Accepted s) where
   abbrev cs : List Chunk
@@ -155,33 +151,6 @@ module _ (s : List ℕ) (ok : Accepted s) where
       let p = passed-in i (o .run .runs) (o .inside) (let z = o .run .barriers in omega arith) l in
       record { segment = p .behind-it; present = back o (p .behind-in); chunk = together o (p .behind-in); holds = (p .behind-opened, p .behind-early) }
 
-  -- all members of a team pass the same barriers
-  as-first : (c : Chunk) → List·Memᴰ c cs → barriersOf c ≡ fromOption 0 barriersOf (chunkOf cs (c .team) 0)
-  unfolding unlikeFirst
-  as-first c l =
-      let x = barriersOf c in
-      let y = fromOption 0 barriersOf (chunkOf cs (c .team) 0) in
-      eqb-true x y (true-of-not (eqb x y) (legible s ok .shaped .alike c l))
-
-  alike : (c d : Chunk) → List·Memᴰ c cs → List·Memᴰ d cs → c .team ≡ d .team → barriersOf c ≡ barriersOf d
-  alike c d l m t = as-first c l ∙ ap (λ (u : ℕ). fromOption 0 barriersOf (chunkOf cs u 0)) t ∙ sym (as-first d m)
-
-  ends-of :
-      {g h : Segment} {i : ℕ}
-      → List·Memᴰ g ss
-      → List·Memᴰ h ss
-      → g .node .team ≡ h .node .team
-      → i < h .state .barriers
-      → InChunk ss g (λ z. z .ended ≡ ofBarrier i)
-  ends-of {g} {h} {i} m n t l =
-      let o = of m in
-      let q = of n in
-      let z = last-in (o .run .runs) in
-      let y = of-run (q .run .runs) (q .inside) in
-      let w = alike (o .chunk) (q .chunk) (o .present) (q .present) (sym (o .team) ∙ t ∙ q .team) in
-      let p = passed-in i (o .run .runs) (z .present) (let a = o .run .barriers in omega arith) (omega (arith, z .barriers, y .most)) in
-      record { segment = p .before; present = back o (p .before-in); chunk = together o (p .before-in); holds = p .before-ended }
-
   -- the REGION of a team
   pub fork-at : {p : Segment} {u : ℕ} → List·Memᴰ p ss → p .ended ≡ ofRegion u → (f : Fork) × List·Memᴰ f fs × Forks p f × (f .team ≡ u)
   unfolding forksOf
@@ -275,7 +244,6 @@ module _ (s : List ℕ) (ok : Accepted s) where
         opened-region = region-of;
         opened-barrier = barrier-of;
         opens-barrier = opens-of;
-        ends-barrier = ends-of;
         parent = parent-of;
         forks-once = once-of;
         fork-label = label-of;

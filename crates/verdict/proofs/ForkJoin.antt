@@ -3,7 +3,6 @@ use Prim.Native.Nat.{ℕ, zero, suc, _+_, _-_, _≤_, _<_}
 use mathlib.Core.Path.{_≡_, refl, sym, _∙_, ap, subst}
 use mathlib.Core.List.{List, [], List·Memᴰ}
 use native.Mathlib.Omega.{arith}
-use native.Mathlib.Decide.{decLt}
 use Rattle.bundle.specs.Check.{sizeOf}
 use Rattle.bundle.specs.declared.index.Fork.{Fork}
 use Rattle.order.specs.Labels.{forkLabel, segmentLabel}
@@ -69,13 +68,6 @@ pub record ForkJoin (ss : List Segment) (fs : List Fork) : Type 0 where
   pub opened-region : {h : Segment} {u : ℕ} → List·Memᴰ h ss → h .opened ≡ ofRegion u → ForkedBy ss h u
   pub opened-barrier : {h : Segment} {i : ℕ} → List·Memᴰ h ss → h .opened ≡ ofBarrier i → h .state .barriers ≡ suc i
   pub opens-barrier : {g : Segment} {i : ℕ} → List·Memᴰ g ss → i < g .state .barriers → InChunk ss g (λ z. (z .opened ≡ ofBarrier i) × (z .node .number ≤ g .node .number))
-  pub ends-barrier :
-      {g h : Segment} {i : ℕ}
-      → List·Memᴰ g ss
-      → List·Memᴰ h ss
-      → g .node .team ≡ h .node .team
-      → i < h .state .barriers
-      → InChunk ss g (λ z. z .ended ≡ ofBarrier i)
   pub parent : {g : Segment} → List·Memᴰ g ss → (g .node .team ≡ 0 → ⊥) → Parent ss (g .node .team)
   pub forks-once : {p q : Segment} {u : ℕ} → List·Memᴰ p ss → List·Memᴰ q ss → p .ended ≡ ofRegion u → q .ended ≡ ofRegion u → p ≡ q
   pub fork-label :
@@ -180,43 +172,64 @@ module _ {ss : List Segment} {fs : List Fork} (k : ForkJoin ss fs) where
     fewer-barriers : g .state .barriers < h .state .barriers → Ahead g h
     fewer-regions : g .node .member ≡ h .node .member → g .state .barriers ≡ h .state .barriers → g .state .regions < h .state .regions → Ahead g h
 
-  through-barrier : {g h : Segment} → In g → In h → g .node .team ≡ h .node .team → g .state .barriers < h .state .barriers → Path g h
-  through-barrier {g} {h} p q t l =
-      let i = g .state .barriers in
-      let e = k .ends-barrier p q t l in
-      let o = k .opens-barrier q l in
-      let z = e .segment in
-      let y = o .segment in
-      let join : Joined z y =
-      Joined.barrier i (sym (e .chunk .team) ∙ t ∙ o .chunk .team) (e .holds) (o .holds .0)
-      in
-      path-trans (up-to z (e .present) (e .chunk) (e .holds))
-      (path-trans (edge (e .present) (o .present) join) (in-chunk (o .present) q (chunk-sym (o .chunk)) (o .holds .1) .path))
+  -- from a segment on to the barrier behind it: there its chunk passes on, or ends before it; or a REGION comes first
+  up-to-barrier :
+      {g h : Segment}
+      → In g
+      → In h
+      → g .node .team ≡ h .node .team
+      → g .state .barriers < h .state .barriers
+      → ((n : Segment) → In n → OneChunk g n → n .state .barriers ≡ g .state .barriers → n .node .number ≡ suc (g .node .number) → Path n h)
+      → Path g h
+  up-to-barrier {g} {h} p q t l past = go (k .onward p)
     where
-      -- the segment that ends at the barrier has passed as many
-      ended-at : (z : Segment) → In z → z .ended ≡ ofBarrier (g .state .barriers) → (z .state .barriers ≡ g .state .barriers) × ((n : Segment) × In n × OneChunk z n × (n .state .barriers ≡ suc (z .state .barriers)) × (n .state .regions ≡ z .state .regions))
-      ended-at z m e = go (k .onward m)
-        where
-          go : Onward ss z → (z .state .barriers ≡ g .state .barriers) × ((n : Segment) × In n × OneChunk z n × (n .state .barriers ≡ suc (z .state .barriers)) × (n .state .regions ≡ z .state .regions))
-          go (at-end f most) = absurd (let w : ofChunk ≡ ofBarrier (g .state .barriers) = sym f ∙ e in let x : _≡_ {A = ℕ} 0 1 = cc in omega arith)
-          go (at-barrier n i d f b r) =
-              let w : ofBarrier (z .state .barriers) ≡ ofBarrier (g .state .barriers) = sym f ∙ e in
-              let x : z .state .barriers ≡ g .state .barriers = cc in
-              (x, (n, i, d, b, r))
-          go (at-region u n i d f o b r) = absurd (let w : ofRegion u ≡ ofBarrier (g .state .barriers) = sym f ∙ e in let x : _≡_ {A = ℕ} 0 1 = cc in omega arith)
+      o : InChunk ss h (λ z. (z .opened ≡ ofBarrier (g .state .barriers)) × (z .node .number ≤ h .node .number))
+      o = k .opens-barrier q l
 
-      up-to : (z : Segment) → In z → OneChunk g z → z .ended ≡ ofBarrier (g .state .barriers) → Path g z
-      up-to z m c e = go (decLt (z .node .number) (g .node .number))
-        where
-          go : Dec (z .node .number < g .node .number) → Path g z
-          go (yes lower) =
-              let w = ended-at z m e in
-              let n = w .1 in
-              let a = k .number m in
-              let b = k .number (n .1) in
-              let r = in-chunk (n .1) p (chunk-trans (chunk-sym (n .2)) (chunk-sym c)) (omega (arith, n .3, n .4)) in
-              absurd (omega (arith, r .barriers, n .3, w .0))
-          go (no l) = in-chunk p m c (omega arith) .path
+      same : g .node .team ≡ o .segment .node .team
+      same = t ∙ o .chunk .team
+
+      across : Joined g (o .segment) → Path g h
+      across j = path-trans (edge p (o .present) j) (in-chunk (o .present) q (chunk-sym (o .chunk)) (o .holds .1) .path)
+
+      go : Onward ss g → Path g h
+      go (at-end e most) = across (Joined.missing (g .state .barriers) (sym same) e (omega arith) (o .holds .0))
+      go (at-barrier n i d e b r) = across (Joined.barrier (g .state .barriers) same e (o .holds .0))
+      go (at-region u n i d e w b r) =
+          let x = k .number p in
+          let y = k .number i in
+          let more : n .node .number ≡ suc (g .node .number) = omega arith in
+          path-trans (edge p i (Joined.next (d .team) (d .member) more)) (past n i d b more)
+
+  -- no segment of the chunk has a higher number
+  abbrev Most : Segment → ℕ → Type 0
+  Most g most = (z : Segment) → In z → OneChunk g z → z .node .number ≤ most
+
+  past-regions :
+      (d : ℕ) {g h : Segment}
+      → In g
+      → In h
+      → g .node .team ≡ h .node .team
+      → g .state .barriers < h .state .barriers
+      → Most g (g .node .number + d)
+      → Path g h
+  past-regions zero {g} p q t l most = up-to-barrier p q t l (λ n i c b e. absurd (omega (arith, most n i c)))
+  past-regions (suc d) {g} p q t l most =
+      up-to-barrier p q t l
+      (λ n i c b e. past-regions d i q (sym (c .team) ∙ t) (omega arith) (λ z m f. omega (arith, most z m (chunk-trans c f))))
+
+  last-most : {g : Segment} → In g → (m : ℕ) × Most g m
+  last-most {g} p = let f = k .finishes p in (f .segment .node .number, go f (k .onward (f .present)))
+    where
+      go : (f : InChunk ss g (λ z. (z .ended ≡ ofChunk) × (g .node .number ≤ z .node .number))) → Onward ss (f .segment) → Most g (f .segment .node .number)
+      go f (at-end e most) = λ z m c. most z m (chunk-trans (chunk-sym (f .chunk)) c)
+      go f (at-barrier n i d e b r) = absurd (let w : ofBarrier (f .segment .state .barriers) ≡ ofChunk = sym e ∙ f .holds .0 in let x : _≡_ {A = ℕ} 0 1 = cc in omega arith)
+      go f (at-region u n i d e o b r) = absurd (let w : ofRegion u ≡ ofChunk = sym e ∙ f .holds .0 in let x : _≡_ {A = ℕ} 0 1 = cc in omega arith)
+
+  through-barrier : {g h : Segment} → In g → In h → g .node .team ≡ h .node .team → g .state .barriers < h .state .barriers → Path g h
+  through-barrier p q t l =
+      let m = last-most p in
+      past-regions (m .0) p q t l (λ z i c. omega (arith, m .1 z i c))
 
   -- what is ahead reaches
   pub ahead-path : {g h : Segment} → In g → In h → g .node .team ≡ h .node .team → Ahead g h → Path g h

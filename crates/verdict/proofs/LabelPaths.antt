@@ -311,6 +311,8 @@ module _ {ss : List Segment} {fs : List Fork} (k : ForkJoin ss fs) where
       (grown-before (p .by) h (lastOf g) t earlier)
   edge-before {g} {h} i j (Joined.barrier n t e o) =
       team-before g h t (ahead-earlier i j t (fewer-barriers (let a = ended-barriers i e in let b = k .opened-barrier j o in omega arith)))
+  edge-before {g} {h} i j (Joined.missing n t e l o) =
+      team-before g h (sym t) (ahead-earlier i j (sym t) (fewer-barriers (let b = k .opened-barrier j o in omega arith)))
 
   -- a path goes to the same label, or to one that its first is before
   pub data Leads (g h : Segment) : Type 0 where

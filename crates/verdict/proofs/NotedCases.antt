@@ -21,7 +21,7 @@ use Rattle.bundle.specs.declared.command.Command.the-variants as Com
 use Rattle.bundle.proofs.Ranges.{in-range-ok}
 use Rattle.bundle.proofs.Tests.{false-is-true}
 use Rattle.bundle.proofs.Ranges.{range-parts, size-within}
-use Rattle.verdict.specs.Working.{eventCode, endCode, openCode, nodeCode, accessRowAt, RowIn}
+use Rattle.verdict.specs.Working.{forkCode, barrierCode, joinCode, endCode, openCode, nodeCode, accessRowAt, RowIn}
 use Rattle.verdict.specs.Filling.{entered, left, advanced, cursorAfter, onCrossing, endsAfter, opensAfter, nodesAfter, rowHere, SegmentOpened, Countable, Notable, Noted}
 use Rattle.verdict.specs.declared.fill.Cursor.{Cursor}
 use Rattle.verdict.specs.declared.rows.AccessRow.{AccessRow}
@@ -133,7 +133,7 @@ module _ {p : Cursor} {c : Command} {next : ℕ} {r : Cursor} {ends opens nodes 
       {t m code : ℕ} {opens′ nodes′ : List ℕ}
       → c ≡ Com.Member t m
       → r ≡ entered p t m next
-      → code ≡ eventCode 0 0 t
+      → code ≡ forkCode t
       → SegmentOpened r code opens nodes opens′ nodes′
       → Noted p c next r ends opens nodes rows ends opens′ nodes′ rows
   unfolding cursorAfter endsAfter opensAfter nodesAfter openCode
@@ -152,7 +152,7 @@ module _ {p : Cursor} {c : Command} {next : ℕ} {r : Cursor} {ends opens nodes 
       {code : ℕ}
       → c ≡ Com.End
       → r ≡ left p next
-      → code ≡ eventCode 1 0 (p .team)
+      → code ≡ 1 + 2 * barrierCode (p .state .barriers) (p .team)
       → Noted p c next r ends opens nodes rows (set ends (p .segment) code) opens nodes rows
   unfolding cursorAfter endsAfter opensAfter nodesAfter endCode
   noted-end w e q =
@@ -171,12 +171,12 @@ module _ {p : Cursor} {c : Command} {next : ℕ} {r : Cursor} {ends opens nodes 
       (d : Command) (b : Border) {k : ChunkState} {code code′ : ℕ} {opens′ nodes′ : List ℕ}
       → c ≡ d
       → cursorAfter p d next ≡ advanced p (afterCommand (p .state) d) 1 0 next
-      → endsAfter p d ends ≡ set ends (p .segment) (endCode (p .team) b)
+      → endsAfter p d ends ≡ set ends (p .segment) (endCode (p .team) (p .state .barriers) b)
       → opensAfter p d opens ≡ set opens (p .segment + 1) (openCode (p .team) b)
       → nodesAfter p d nodes ≡ set nodes (p .segment + 1) (nodeCode (record { team = p .team; member = p .member; number = p .number + 1 }))
       → addsAccess d ≡ 0
       → k ≡ afterCommand (p .state) d
-      → code ≡ endCode (p .team) b
+      → code ≡ endCode (p .team) (p .state .barriers) b
       → r ≡ advanced p k 1 0 next
       → code′ ≡ openCode (p .team) b
       → SegmentOpened r code′ opens nodes opens′ nodes′
@@ -196,9 +196,9 @@ module _ {p : Cursor} {c : Command} {next : ℕ} {r : Cursor} {ends opens nodes 
       {t z : ℕ} {k : ChunkState} {code code′ : ℕ} {opens′ nodes′ : List ℕ}
       → c ≡ Com.Region t z
       → k ≡ cond (ltb (p .state .regions) 4294967295) (afterJoin (p .state)) (p .state)
-      → code ≡ eventCode 0 0 t
+      → code ≡ 2 * forkCode t
       → r ≡ advanced p k 1 0 next
-      → code′ ≡ eventCode 1 0 t
+      → code′ ≡ joinCode t
       → SegmentOpened r code′ opens nodes opens′ nodes′
       → Noted p c next r ends opens nodes rows (set ends (p .segment) code) opens′ nodes′ rows
   unfolding cursorAfter endsAfter opensAfter nodesAfter onCrossing opensSegment addsAccess afterCommand endCode openCode
@@ -207,17 +207,18 @@ module _ {p : Cursor} {c : Command} {next : ℕ} {r : Cursor} {ends opens nodes 
       noted-crossing (Com.Region t z) (ofRegion t) w refl refl refl refl refl (joins-on (p .state) k few s)
 
   pub noted-barrier :
-      {k : ChunkState} {code : ℕ} {opens′ nodes′ : List ℕ}
+      {k : ChunkState} {code code′ : ℕ} {opens′ nodes′ : List ℕ}
       → c ≡ Com.Barrier
       → k ≡ cond (ltb (p .state .barriers) 4294967295) (afterBarrier (p .state)) (p .state)
-      → code ≡ eventCode 2 (p .state .barriers) (p .team)
+      → code ≡ 2 * barrierCode (p .state .barriers) (p .team)
       → r ≡ advanced p k 1 0 next
-      → SegmentOpened r code opens nodes opens′ nodes′
+      → code′ ≡ barrierCode (p .state .barriers) (p .team)
+      → SegmentOpened r code′ opens nodes opens′ nodes′
       → Noted p c next r ends opens nodes rows (set ends (p .segment) code) opens′ nodes′ rows
   unfolding cursorAfter endsAfter opensAfter nodesAfter onCrossing opensSegment addsAccess afterCommand endCode openCode
-  noted-barrier {k} w s q e =
+  noted-barrier {k} w s =
       let few : p .state .barriers < 4294967295 = omega (arith, n .opened, n .number, n .segment) in
-      noted-crossing Com.Barrier (ofBarrier (p .state .barriers)) w refl refl refl refl refl (passes-on (p .state) k few s) q e q
+      noted-crossing Com.Barrier (ofBarrier (p .state .barriers)) w refl refl refl refl refl (passes-on (p .state) k few s)
 
   -- ACQUIRE and RELEASE, which change the state alone
   noted-still :

@@ -1,6 +1,6 @@
 -- What the judge's tables hold while the pass goes on.
 use Prim.Native.Nat.{ℕ, _+_, _≤_, _<_}
-use mathlib.Core.Path.{_≡_, refl, _∙_}
+use mathlib.Core.Path.{_≡_, refl, _∙_, ap}
 use mathlib.Core.Bool.{Bool, true, false}
 use mathlib.Core.List.{List, [], _∷_, _++_}
 use native.Mathlib.Omega.{arith}
@@ -21,12 +21,13 @@ use Rattle.verdict.proofs.ListPlaces.{at-seam}
 use Rattle.verdict.proofs.TableRows.{tables-kept, tables-more}
 use Rattle.verdict.proofs.PassStanding.{endedAt, firstOpening, Open}
 
--- the tables hold what is done, and of the open segment where it is opened and its node
+-- the tables hold what is done, and of the open segment where it is opened and its node; since it was opened no barrier was passed
 pub record Holding (ss : List Segment) (n : ℕ) (inside : Bool) (o : Opening) (p : Cursor) (done : List Segment) (seen : List NamedAccess) (ends opens nodes rows : List ℕ) : Type 0 where
   pub segment-tables : SegmentTables done ends opens nodes
   pub access-table : AccessTable ss seen rows
   pub open-code : inside ≡ true → getD opens (p .segment) 0 ≡ openCode (p .team) (o .border)
   pub node-code : inside ≡ true → getD nodes (p .segment) 0 ≡ nodeCode (nodeHere p)
+  pub barriers : inside ≡ true → p .state .barriers ≡ o .state .barriers
   pub room : Room ends opens nodes rows
   pub long : length rows ≡ n
 
@@ -56,6 +57,7 @@ module _ {ss : List Segment} {n : ℕ} {o : Opening} {p : Cursor} {done : List S
         access-table = h .access-table;
         open-code = λ e. getD-set-same opens (p .segment) code 0 (omega arith);
         node-code = λ e. getD-set-same nodes (p .segment) node 0 (omega arith);
+        barriers = λ e. refl;
         room =
             record {
               end-table = h .room .end-table;
@@ -72,12 +74,14 @@ module _ {ss : List Segment} {n : ℕ} {o : Opening} {p : Cursor} {done : List S
       → Holding ss n true o p done seen ends opens nodes rows
       → ((j : ℕ) → j ≤ p .segment → getD opens′ j 0 ≡ getD opens j 0)
       → ((j : ℕ) → j ≤ p .segment → getD nodes′ j 0 ≡ getD nodes j 0)
-      → SegmentTables (done ++ endedAt p o b ∷ []) (set ends (p .segment) (endCode (p .team) b)) opens′ nodes′
+      → SegmentTables (done ++ endedAt p o b ∷ []) (set ends (p .segment) (endCode (p .team) (p .state .barriers) b)) opens′ nodes′
   ended b opens′ nodes′ h x y =
-      let code = endCode (p .team) b in
+      let code = endCode (p .team) (p .state .barriers) b in
       let l = h .room .end-table in
       let ends′ = set ends (p .segment) code in
-      let end-at : getD ends′ (length done) 0 ≡ code = rw here (getD-set-same ends (p .segment) code 0 (omega arith)) in
+      let end-at : getD ends′ (length done) 0 ≡ endCode (p .team) (o .state .barriers) b =
+      (rw here (getD-set-same ends (p .segment) code 0 (omega arith))) ∙ ap (λ (n : ℕ). endCode (p .team) n b) (h .barriers refl)
+      in
       let open-at : getD opens′ (length done) 0 ≡ openCode (p .team) (o .border) = rw here (x (p .segment) (omega arith) ∙ h .open-code refl) in
       let node-at : getD nodes′ (length done) 0 ≡ nodeCode (nodeHere p) = rw here (y (p .segment) (omega arith) ∙ h .node-code refl) in
       tables-more (endedAt p o b)
@@ -94,7 +98,7 @@ module _ {ss : List Segment} {n : ℕ} {o : Opening} {p : Cursor} {done : List S
       (next : ℕ)
       → Holding ss n true o p done seen ends opens nodes rows
       → Holding ss n false o (left p next) (done ++ endedAt p o ofChunk ∷ []) seen
-      (set ends (p .segment) (endCode (p .team) ofChunk))
+      (set ends (p .segment) (endCode (p .team) (p .state .barriers) ofChunk))
       opens
       nodes
       rows
@@ -104,9 +108,10 @@ module _ {ss : List Segment} {n : ℕ} {o : Opening} {p : Cursor} {done : List S
         access-table = h .access-table;
         open-code = λ e. false-is-true e;
         node-code = λ e. false-is-true e;
+        barriers = λ e. false-is-true e;
         room =
             record {
-              end-table = length-set ends (p .segment) (endCode (p .team) ofChunk) ∙ h .room .end-table;
+              end-table = length-set ends (p .segment) (endCode (p .team) (p .state .barriers) ofChunk) ∙ h .room .end-table;
               open-table = h .room .open-table;
               node-table = h .room .node-table;
               row-table = h .room .row-table;
@@ -120,7 +125,7 @@ module _ {ss : List Segment} {n : ℕ} {o : Opening} {p : Cursor} {done : List S
       → p .segment + 1 < 512
       → Holding ss n true o p done seen ends opens nodes rows
       → Holding ss n true (record { border = b; state = k }) (advanced p k 1 0 next) (done ++ endedAt p o b ∷ []) seen
-      (set ends (p .segment) (endCode (p .team) b))
+      (set ends (p .segment) (endCode (p .team) (p .state .barriers) b))
       (set opens (p .segment + 1) (openCode (p .team) b))
       (set nodes (p .segment + 1) (nodeCode (record { team = p .team; member = p .member; number = p .number + 1 })))
       rows
@@ -138,9 +143,10 @@ module _ {ss : List Segment} {n : ℕ} {o : Opening} {p : Cursor} {done : List S
         access-table = h .access-table;
         open-code = λ e. getD-set-same opens i code 0 (omega arith);
         node-code = λ e. getD-set-same nodes i node 0 (omega arith);
+        barriers = λ e. refl;
         room =
             record {
-              end-table = length-set ends (p .segment) (endCode (p .team) b) ∙ h .room .end-table;
+              end-table = length-set ends (p .segment) (endCode (p .team) (p .state .barriers) b) ∙ h .room .end-table;
               open-table = length-set opens i code ∙ l;
               node-table = length-set nodes i node ∙ f;
               row-table = h .room .row-table;
@@ -152,16 +158,18 @@ module _ {ss : List Segment} {n : ℕ} {o : Opening} {p : Cursor} {done : List S
 pub holds-still :
     {ss : List Segment} {n : ℕ} {o : Opening} {p : Cursor} {done : List Segment} {seen seen′ : List NamedAccess} {ends opens nodes rows rows′ : List ℕ}
     (k : ChunkState) (adds next : ℕ)
+    → k .barriers ≡ p .state .barriers
     → AccessTable ss seen′ rows′
     → length rows′ ≡ length rows
     → Holding ss n true o p done seen ends opens nodes rows
     → Holding ss n true o (advanced p k 0 adds next) done seen′ ends opens nodes rows′
-holds-still {p = p} k adds next t l h =
+holds-still {p = p} k adds next same t l h =
     record {
       segment-tables = h .segment-tables;
       access-table = t;
       open-code = λ e. rw (add-zero (p .segment)) (h .open-code e);
       node-code = λ e. rw (add-zero (p .segment), add-zero (p .number)) (h .node-code e);
+      barriers = λ e. same ∙ h .barriers e;
       room =
           record {
             end-table = h .room .end-table;

@@ -1,16 +1,16 @@
 -- Reaching in the graph: the tests say what the relations say, and Warshall's closure has exactly the paths.
-use Prim.Native.Nat.{ℕ, suc}
+use Prim.Native.Nat.{ℕ, suc, _≤_}
 use mathlib.Core.Path.{_≡_, refl, sym, _∙_, ap, subst}
 use mathlib.Core.Logic.{_↔_, _⊎_, inl, inr, ⊎-elim}
 use mathlib.Core.Bool.{Bool, true, not, _&&_, _||_, or-true}
 use mathlib.Core.List.{List, [], _∷_, map, List·Memᴰ, List·Memᴰ·not-nil, List·Memᴰ·cases-cons, List·Memᴰ·append-cases, Memᴰ·cast, Memᴰ·append-left, Memᴰ·append-right, Memᴰ·map, Memᴰ·of-map}
 use lib.Dec.{eqb}
-use borrow.Author.Tests.{eqb-true, eq-eqb}
+use borrow.Author.Tests.{eqb-true, eq-eqb, leb-true, le-leb}
 use Rattle.bundle.specs.Lists.{passing, concatMap}
 use Rattle.bundle.proofs.Tests.{false-is-true, both, and-left, and-right, or-cases, or-one, or-other, decide, not-of-false, same-test}
 use Rattle.bundle.proofs.ListLaws.{any-elim, any-intro, passing-elim, passing-intro, concatMap-elim, concatMap-intro}
-use Rattle.verdict.specs.Graph.{Node, Border, ofChunk, ofBarrier, ofRegion, Segment, Joined, next, fork, join, barrier, Edge, GraphPath, here, step}
-use Rattle.verdict.specs.GraphTests.{sameNode, sameBorder, isBarrier, joins, NodePair, samePair, linked, edgesOf, through, closed, closureOf, reaches}
+use Rattle.verdict.specs.Graph.{Node, Border, ofChunk, ofBarrier, ofRegion, Segment, Joined, next, fork, join, barrier, missing, Edge, GraphPath, here, step}
+use Rattle.verdict.specs.GraphTests.{sameNode, sameBorder, isBarrier, barrierFrom, joins, NodePair, samePair, linked, edgesOf, through, closed, closureOf, reaches}
 
 -- tests and records in parts
 all-three : (a b c : Bool) → (a && b && c) ≡ true → (a ≡ true) × (b ≡ true) × (c ≡ true)
@@ -62,7 +62,18 @@ barrier-number ofChunk e = false-is-true e
 barrier-number (ofBarrier n) e = (n, refl)
 barrier-number (ofRegion t) e = false-is-true e
 
--- the test for an edge, its four cases by name
+-- a barrier from a number on has such a number
+from-number : (k : ℕ) (o : Border) → barrierFrom k o ≡ true → (n : ℕ) × (k ≤ n) × (o ≡ ofBarrier n)
+unfolding barrierFrom
+from-number k ofChunk e = false-is-true e
+from-number k (ofBarrier n) e = (n, leb-true k n e, refl)
+from-number k (ofRegion t) e = false-is-true e
+
+number-from : {k n : ℕ} {o : Border} → k ≤ n → o ≡ ofBarrier n → barrierFrom k o ≡ true
+unfolding barrierFrom
+number-from {k} {n} h e = rw e (le-leb k n h)
+
+-- the test for an edge, its five cases by name
 module _ (a b : Segment) where
   abbrev isNext : Bool
   isNext =
@@ -78,6 +89,9 @@ module _ (a b : Segment) where
 
   abbrev atBarrier : Bool
   atBarrier = eqb (a .node .team) (b .node .team) && isBarrier (a .ended) && sameBorder (a .ended) (b .opened)
+
+  abbrev isMissing : Bool
+  isMissing = eqb (b .node .team) (a .node .team) && sameBorder (a .ended) ofChunk && barrierFrom (a .state .barriers) (b .opened)
 
   isNext-true : isNext ≡ true → Joined a b
   isNext-true e =
@@ -108,9 +122,17 @@ module _ (a b : Segment) where
       let n = barrier-number (a .ended) (t .1) in
       barrier (n .0) (eqb-true _ _ (t .0)) (n .1) (sym (sameBorder-true _ _ (t .2)) ∙ n .1)
 
+  isMissing-true : isMissing ≡ true → Joined a b
+  isMissing-true e =
+      let t = all-three (eqb (b .node .team) (a .node .team)) (sameBorder (a .ended) ofChunk) (barrierFrom (a .state .barriers) (b .opened)) e in
+      let n = from-number (a .state .barriers) (b .opened) (t .2) in
+      missing (n .0) (eqb-true _ _ (t .0)) (sameBorder-true _ _ (t .1)) (n .1) (n .2)
+
   pub joins-true : joins a b ≡ true → Joined a b
   unfolding joins
   joins-true e =
+      ⊎-elim
+      (λ m.
       ⊎-elim
       (λ l.
       ⊎-elim
@@ -118,7 +140,9 @@ module _ (a b : Segment) where
       isJoin-true
       (or-cases (isNext || isFork) isJoin l))
       atBarrier-true
-      (or-cases (isNext || isFork || isJoin) atBarrier e)
+      (or-cases (isNext || isFork || isJoin) atBarrier m))
+      isMissing-true
+      (or-cases (isNext || isFork || isJoin || atBarrier) isMissing e)
 
   pub joined-joins : Joined a b → joins a b ≡ true
   unfolding joins isBarrier
@@ -126,6 +150,7 @@ module _ (a b : Segment) where
   joined-joins (fork e n) = simp (eq-sameBorder _ _ e, eq-eqb _ _ n, or-true)
   joined-joins (join e o) = simp (eq-sameBorder _ _ e, eq-sameBorder _ _ o, or-true)
   joined-joins (barrier n t e o) = simp (eq-eqb _ _ t, ap isBarrier e, eq-sameBorder _ _ (e ∙ sym o), or-true)
+  joined-joins (missing n t e h o) = simp (eq-eqb _ _ t, eq-sameBorder _ _ e, number-from h o, or-true)
 
 abbrev pub pairOf : Node → Node → NodePair
 pairOf a b = record { from = a; to = b }

@@ -9,7 +9,7 @@ use native.Mathlib.Nat.{add-zero}
 use lib.ListN.{length, set, getElem?}
 use Rattle.bundle.specs.Answer.{gives, refuses}
 use Rattle.bundle.specs.Commands.{rangeOk, operandsOk, readAt}
-use Rattle.bundle.specs.Chunks.{Placed, fresh, afterCommand, frontOf, gatherOne, gather, chunksOf}
+use Rattle.bundle.specs.Chunks.{Placed, fresh, afterAcquire, afterRelease, afterCommand, frontOf, gatherOne, gather, chunksOf}
 use Rattle.bundle.specs.Walk.{Border, ofChunk, ofBarrier, ofRegion, borders, opensSegment, addsAccess, entriesFrom, Opening, openingAt, segmentsFrom}
 use Rattle.bundle.specs.Scan.{isMember, misplaced, misusesLock, start}
 use Rattle.bundle.specs.Check.{Accepted}
@@ -133,7 +133,7 @@ module _ {s : List ℕ} (a : Accepted s) where
           Stands true c
           → Step c true true o crossedTo p crossedHere ps (endedAt p o b ∷ []) []
           → cursorAfter p c next ≡ crossedHere
-          → endsAfter p c ends ≡ set ends (p .segment) (endCode (p .team) b)
+          → endsAfter p c ends ≡ set ends (p .segment) (endCode (p .team) (p .state .barriers) b)
           → opensAfter p c opens ≡ set opens (p .segment + 1) (openCode (p .team) b)
           → nodesAfter p c nodes ≡ set nodes (p .segment + 1) (nodeCode (record { team = p .team; member = p .member; number = p .number + 1 }))
           → onCrossing {A = ℕ} (p .state) 0 (λ b. 1) c ≡ 1
@@ -192,13 +192,14 @@ module _ {s : List ℕ} (a : Accepted s) where
           → opensAfter p c opens ≡ opens
           → nodesAfter p c nodes ≡ nodes
           → onCrossing {A = ℕ} (p .state) 0 (λ b. 1) c ≡ 0
+          → afterCommand (p .state) c .barriers ≡ p .state .barriers
           → ((rows′ : List ℕ)
           → (addsAccess c ≡ 0 → rows′ ≡ rows)
           → ((a : Access) → c ≡ Com.Access a → Added accessRowAt rows rows′ (p .accesses) (rowHere p a))
           → AccessTable (segmentsOf (chunksOf s)) (seen ++ accs) rows′ × (length rows′ ≡ length rows))
           → Holds true
           → Advance s n p c next ends opens nodes rows
-      advance-still accs v st u x y z none table h =
+      advance-still accs v st u x y z none same-barriers table h =
           let w = stands-on v st (sym (append-nil done)) refl in
           let few : p .segment < 512 = segment-room a v in
           let more : p .accesses + addsAccess c ≤ 1024 = access-room a w in
@@ -217,7 +218,7 @@ module _ {s : List ℕ} (a : Accepted s) where
                   seen = seen ++ accs;
                   onwards = onwards;
                   stands = w;
-                  holds = holds-still (afterCommand (p .state) c) (addsAccess c) next (t .0) (t .1) h;
+                  holds = holds-still (afterCommand (p .state) c) (addsAccess c) next same-barriers (t .0) (t .1) h;
                 });
           }
 
@@ -231,28 +232,28 @@ module _ {s : List ℕ} (a : Accepted s) where
     same-rows c none h rows′ same = rw (same none, append-nil seen) (h .access-table, refl)
 
     advance-acquire : (l : ℕ) → Stands true (Com.Acquire l) → Holds true → Advance s n p (Com.Acquire l) next ends opens nodes rows
-    unfolding cursorAfter endsAfter opensAfter nodesAfter onCrossing opensSegment addsAccess plain gather gatherOne entriesFrom openingAt borders segmentsFrom accessAt
+    unfolding cursorAfter endsAfter opensAfter nodesAfter onCrossing opensSegment addsAccess plain gather gatherOne entriesFrom openingAt borders segmentsFrom accessAt afterCommand afterAcquire
     advance-acquire l v h =
         advance-still (Com.Acquire l) [] v
         (step-inside p next ps o (Com.Acquire l) o [] [] refl (rw (add-zero (p .number))) refl refl refl)
-        refl refl refl refl refl (λ rows′ same row. same-rows (Com.Acquire l) refl h rows′ same) h
+        refl refl refl refl refl refl (λ rows′ same row. same-rows (Com.Acquire l) refl h rows′ same) h
 
     advance-release : (l : ℕ) → Stands true (Com.Release l) → Holds true → Advance s n p (Com.Release l) next ends opens nodes rows
-    unfolding cursorAfter endsAfter opensAfter nodesAfter onCrossing opensSegment addsAccess plain gather gatherOne entriesFrom openingAt borders segmentsFrom accessAt
+    unfolding cursorAfter endsAfter opensAfter nodesAfter onCrossing opensSegment addsAccess plain gather gatherOne entriesFrom openingAt borders segmentsFrom accessAt afterCommand afterRelease
     advance-release l v h =
         advance-still (Com.Release l) [] v
         (step-inside p next ps o (Com.Release l) o [] [] refl (rw (add-zero (p .number))) refl refl refl)
-        refl refl refl refl refl (λ rows′ same row. same-rows (Com.Release l) refl h rows′ same) h
+        refl refl refl refl refl refl (λ rows′ same row. same-rows (Com.Release l) refl h rows′ same) h
 
     advance-access : (x : Access) → Stands true (Com.Access x) → Holds true → Advance s n p (Com.Access x) next ends opens nodes rows
-    unfolding cursorAfter endsAfter opensAfter nodesAfter onCrossing opensSegment addsAccess plain gather gatherOne entriesFrom openingAt borders segmentsFrom accessAt
+    unfolding cursorAfter endsAfter opensAfter nodesAfter onCrossing opensSegment addsAccess plain gather gatherOne entriesFrom openingAt borders segmentsFrom accessAt afterCommand
     advance-access x v h =
         let st = step-inside p next ps o (Com.Access x) o [] (accessHere p x ∷ []) refl (rw (add-zero (p .number))) refl refl refl in
         let w = stands-on v st (sym (append-nil done)) refl in
         let more : p .accesses + 1 ≤ 1024 = access-room a w in
         let range = orderly-head (scanHere true p) (Com.Access x) (commandsIn ps) (v .order) .in-range in
         let good : rangeOk (x .range) ≡ true = unfold operandsOk in (in-range-ok (Com.Access x) range) in
-        advance-still (Com.Access x) (accessHere p x ∷ []) v st refl refl refl refl refl
+        advance-still (Com.Access x) (accessHere p x ∷ []) v st refl refl refl refl refl refl
         (λ rows′ same row.
         let d = row x refl in (
           rows-more (accessHere p x) (h .access-table) (rw (v .access-count) d) (omega (arith, v .access-count)) (row-of x (stands-open v) (v .segment-count) good),
@@ -337,6 +338,7 @@ filling-start {s} {p} {ends} {opens} {nodes} {rows} a room e =
             access-table = record { few = omega arith; rows = λ i q. nothing-at i q };
             open-code = λ q. false-is-true q;
             node-code = λ q. false-is-true q;
+            barriers = λ q. false-is-true q;
             room = room;
             long = refl;
           };

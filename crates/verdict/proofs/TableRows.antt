@@ -34,7 +34,7 @@ pub tables-more :
     {ss : List Segment} {ends opens nodes : List ℕ} (s : Segment)
     → SegmentTables ss ends opens nodes
     → length ss < 512
-    → getD ends (length ss) 0 ≡ endCode (s .node .team) (s .ended)
+    → getD ends (length ss) 0 ≡ endCode (s .node .team) (s .state .barriers) (s .ended)
     → getD opens (length ss) 0 ≡ openCode (s .node .team) (s .opened)
     → getD nodes (length ss) 0 ≡ nodeCode (s .node)
     → SegmentTables (ss ++ s ∷ []) ends opens nodes
@@ -42,7 +42,7 @@ tables-more {ss} {ends} {opens} {nodes} s t h e o n =
     let long : length (ss ++ s ∷ []) ≡ length ss + 1 = length-append ss (s ∷ []) in
     record {
       few = omega arith;
-      end-codes = λ i q. more-behind (λ (i : ℕ) (x : Segment). getD ends i 0 ≡ endCode (x .node .team) (x .ended)) ss s (λ j y e′. t .end-codes j e′) e i _ q;
+      end-codes = λ i q. more-behind (λ (i : ℕ) (x : Segment). getD ends i 0 ≡ endCode (x .node .team) (x .state .barriers) (x .ended)) ss s (λ j y e′. t .end-codes j e′) e i _ q;
       open-codes = λ i q. more-behind (λ (i : ℕ) (x : Segment). getD opens i 0 ≡ openCode (x .node .team) (x .opened)) ss s (λ j y e′. t .open-codes j e′) o i _ q;
       node-codes = λ i q. more-behind (λ (i : ℕ) (x : Segment). getD nodes i 0 ≡ nodeCode (x .node)) ss s (λ j y e′. t .node-codes j e′) n i _ q;
     }

@@ -93,9 +93,9 @@ onCrossing k other crosses = onOpening other other (λ t. crosses (ofRegion t)) 
 unfoldable pub endsAfter : Cursor → Command → List ℕ → List ℕ
 endsAfter p c ends =
     onDelimiter
-    (onCrossing (p .state) ends (λ b. set ends (p .segment) (endCode (p .team) b)) c)
+    (onCrossing (p .state) ends (λ b. set ends (p .segment) (endCode (p .team) (p .state .barriers) b)) c)
     (λ t m. ends)
-    (set ends (p .segment) (endCode (p .team) ofChunk))
+    (set ends (p .segment) (endCode (p .team) (p .state .barriers) ofChunk))
     c
 
 unfoldable pub opensAfter : Cursor → Command → List ℕ → List ℕ

@@ -1,6 +1,6 @@
 -- The graph: its nodes are the segments (of `Walk` in bundle); its edges are drawn without labels. The tests that compute the same stand
 -- in `GraphTests`.
-use Prim.Native.Nat.{ℕ, suc}
+use Prim.Native.Nat.{ℕ, suc, _≤_}
 use mathlib.Core.Path.{_≡_}
 use mathlib.Core.List.{List, List·Memᴰ}
 unfoldable pub use Rattle.bundle.specs.Walk.{segmentsIn, segmentsOf}
@@ -8,7 +8,7 @@ pub use Rattle.bundle.specs.Walk.{Node, Border, ofChunk, ofBarrier, ofRegion, S
 -- for the layers above
 unfoldable pub use Rattle.verdict.specs.GraphTests.{closureOf}
 
--- the edges, one case for each of the four in docs/FORMAT.md
+-- the edges, one case for each of the five in docs/FORMAT.md
 pub data Joined (a b : Segment) : Type 0 where
   -- "each segment to the next of its chunk"
   next :
@@ -25,6 +25,15 @@ pub data Joined (a b : Segment) : Type 0 where
       (number : ℕ)
       → a .node .team ≡ b .node .team
       → a .ended ≡ ofBarrier number
+      → b .opened ≡ ofBarrier number
+      → Joined a b
+  -- "A barrier missing from a cut chunk is taken to come after its last command" (A.4): the last segment of a chunk to every segment of its
+  -- team that is opened at a barrier whose number the chunk lacks. Complete members lack none that another has (12, 19)
+  missing :
+      (number : ℕ)
+      → b .node .team ≡ a .node .team
+      → a .ended ≡ ofChunk
+      → a .state .barriers ≤ number
       → b .opened ≡ ofBarrier number
       → Joined a b
 

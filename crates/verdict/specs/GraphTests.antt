@@ -1,9 +1,9 @@
 -- The graph's edges and paths as tests that compute. What edges and paths are stands in `Graph`; laws of `proofs/Reachability` say that the
 -- tests agree with it.
-use Prim.Native.Nat.{suc}
+use Prim.Native.Nat.{ℕ, suc}
 use mathlib.Core.Bool.{Bool, true, false, not, _&&_, _||_}
 use mathlib.Core.List.{List, [], _∷_, _++_, map}
-use lib.Dec.{eqb}
+use lib.Dec.{eqb, leb}
 use Rattle.bundle.specs.Lists.{any, passing, concatMap}
 use Rattle.bundle.specs.Walk.{Node, Border, ofChunk, ofBarrier, ofRegion, Segment}
 
@@ -27,6 +27,12 @@ isBarrier ofChunk = false
 isBarrier (ofBarrier n) = true
 isBarrier (ofRegion t) = false
 
+-- a barrier whose number is not below k
+unfoldable pub barrierFrom : ℕ → Border → Bool
+barrierFrom k ofChunk = false
+barrierFrom k (ofBarrier n) = leb k n
+barrierFrom k (ofRegion t) = false
+
 -- `Joined` as a test, one line for each of its cases: by joins-true and joined-joins the same
 unfoldable pub joins : Segment → Segment → Bool
 joins a b =
@@ -36,6 +42,7 @@ joins a b =
     || sameBorder (a .ended) (ofRegion (b .node .team)) && eqb (b .node .number) 0
     || sameBorder (a .ended) ofChunk && sameBorder (b .opened) (ofRegion (a .node .team))
     || eqb (a .node .team) (b .node .team) && isBarrier (a .ended) && sameBorder (a .ended) (b .opened)
+    || eqb (b .node .team) (a .node .team) && sameBorder (a .ended) ofChunk && barrierFrom (a .state .barriers) (b .opened)
 
 -- a pair of nodes
 pub record NodePair : Type 0 where

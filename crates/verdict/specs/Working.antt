@@ -12,23 +12,31 @@ use Rattle.bundle.specs.Walk.{Node, Border, ofChunk, ofBarrier, ofRegion, Segme
 use Rattle.verdict.specs.Accesses.{NamedAccess}
 use Rattle.verdict.specs.declared.rows.AccessRow.{AccessRow}
 
--- an event at which segments end and are opened, as a number: the fork of a team (0), its join (1), its barrier of a number (2).
--- In an accepted bundle a barrier's number is below 512, and the remainder changes nothing; with it these numbers have 32 bits whatever the
--- barrier's number is
-abbrev pub eventCode : ℕ → ℕ → ℕ → ℕ
-eventCode kind number team = kind + 4 * (number % 512 + 512 * team)
+-- an event at which segments end and are opened, as a number: a team's events have 1024 numbers, the fork first, the join last, and the
+-- barriers between in their order. In an accepted bundle a barrier's number is below 512, and the remainder changes nothing; with it these
+-- numbers have 32 bits whatever the barrier's number is
+abbrev pub forkCode : ℕ → ℕ
+forkCode team = 1024 * team
 
--- where a segment of a team ends: the join of its own team, the barrier, or the fork of another team
-unfoldable pub endCode : ℕ → Border → ℕ
-endCode team ofChunk = eventCode 1 0 team
-endCode team (ofBarrier n) = eventCode 2 n team
-endCode team (ofRegion t) = eventCode 0 0 t
+abbrev pub barrierCode : ℕ → ℕ → ℕ
+barrierCode number team = 1 + number % 512 + 1024 * team
+
+abbrev pub joinCode : ℕ → ℕ
+joinCode team = 1023 + 1024 * team
+
+-- where a segment ends that has passed so many barriers. Twice an event: at that event, the barrier or the fork of another team. Twice an
+-- event and one: at the end of the chunk, and all events of its team from that one on come after it, the barriers that the chunk lacks and
+-- the join
+unfoldable pub endCode : ℕ → ℕ → Border → ℕ
+endCode team passed ofChunk = 1 + 2 * barrierCode passed team
+endCode team passed (ofBarrier n) = 2 * barrierCode n team
+endCode team passed (ofRegion t) = 2 * forkCode t
 
 -- where it is opened: the fork of its own team, the barrier, or the join of another team
 unfoldable pub openCode : ℕ → Border → ℕ
-openCode team ofChunk = eventCode 0 0 team
-openCode team (ofBarrier n) = eventCode 2 n team
-openCode team (ofRegion t) = eventCode 1 0 t
+openCode team ofChunk = forkCode team
+openCode team (ofBarrier n) = barrierCode n team
+openCode team (ofRegion t) = joinCode t
 
 -- a segment's team, member and number as one number. In an accepted bundle the segment's number is below 512 and the member's below 64, and
 -- the remainders change nothing; with them the number has 32 bits whatever the segment is. By 1024 and not 512, so that one more than the
@@ -39,7 +47,7 @@ nodeCode n = n .number % 1024 + 1024 * (n .member % 64 + 64 * n .team)
 -- the tables hold the segments' numbers
 pub record SegmentTables (segments : List Segment) (ends opens nodes : List ℕ) : Type 0 where
   pub few : length segments ≤ 512
-  pub end-codes : (i : ℕ) {s : Segment} → getElem? segments i ≡ some s → getD ends i 0 ≡ endCode (s .node .team) (s .ended)
+  pub end-codes : (i : ℕ) {s : Segment} → getElem? segments i ≡ some s → getD ends i 0 ≡ endCode (s .node .team) (s .state .barriers) (s .ended)
   pub open-codes : (i : ℕ) {s : Segment} → getElem? segments i ≡ some s → getD opens i 0 ≡ openCode (s .node .team) (s .opened)
   pub node-codes : (i : ℕ) {s : Segment} → getElem? segments i ≡ some s → getD nodes i 0 ≡ nodeCode (s .node)
 

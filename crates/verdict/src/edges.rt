@@ -1,11 +1,13 @@
-// The edges of the fork-join graph as bits, from three numbers of each segment: the event that ends it, the event that opens it, and its
-// node (team, member and number).
+// The edges of the fork-join graph as bits, from three numbers of each segment: the events to which it leads, the event that opens it, and
+// its node (team, member and number).
 use crate::matrix::close;
 ghost use mathlib.Core.Path.{_≡_};
 ghost use Prim.Native.Nat.{_<_};
 ghost use lib.ListN.{length};
 ghost use Rattle.verdict.specs.Matrix.{TestWord};
 ghost use Rattle.verdict.specs.Edges.{
+  firstEvent,
+  lastEvent,
   edgeTest,
   edgeColumn,
   tableEdge,
@@ -16,22 +18,39 @@ ghost use Rattle.verdict.specs.Edges.{
   Reached,
 };
 
-// Whether a segment has an edge to another: it ends where the other is opened, or the other is the next of its chunk.
-fn edge(end: u32, next: u32, opened: u32, node: u32) -> bool
-    ensures { λ r. ⌜ r ≡ edgeTest end next opened node ⌝ }
+// The first event to which a segment leads, by the number of where it ends.
+fn first_event(end: u32) -> u32
+    ensures { λ r. ⌜ r ≡ firstEvent end ⌝ }
 {
-    (end == opened) | (next == node)
+    end / 2
+}
+
+// The last: the same, or the join of its team where it is the last of its chunk.
+fn last_event(end: u32) -> u32
+    ensures { λ r. ⌜ r ≡ lastEvent end ⌝ }
+{
+    if end % 2 == 0 {
+        return end / 2;
+    }
+    end / 2048 * 1024 + 1023
+}
+
+// Whether a segment has an edge to another: it leads to where the other is opened, or the other is the next of its chunk.
+fn edge(low: u32, high: u32, next: u32, opened: u32, node: u32) -> bool
+    ensures { λ r. ⌜ r ≡ edgeTest low high next opened node ⌝ }
+{
+    (low <= opened) & (opened <= high) | (next == node)
 }
 
 // The edges of a segment to 32 others, the first of them lowest.
-fn edge_word(opens: &[u32], nodes: &[u32], end: u32, next: u32, first: usize) -> u32
+fn edge_word(opens: &[u32], nodes: &[u32], low: u32, high: u32, next: u32, first: usize) -> u32
     requires { ⌜ Columns (now opens) (now nodes) first ⌝ }
-    ensures { λ r. ⌜ TestWord (edgeColumn (now (opens .entry)) (now (nodes .entry)) end next) first r ⌝ }
+    ensures { λ r. ⌜ TestWord (edgeColumn (now (opens .entry)) (now (nodes .entry)) low high next) first r ⌝ }
 {
     let mut word: u32 = 0;
     let mut k: usize = 0;
     while k < 32 {
-        word = word | ((edge(end, next, opens[first + k], nodes[first + k]) as u32) << k);
+        word = word | ((edge(low, high, next, opens[first + k], nodes[first + k]) as u32) << k);
         k += 1;
     }
     word
@@ -43,10 +62,12 @@ fn fill_row(ends: &[u32], opens: &[u32], nodes: &[u32], n: usize, matrix: &mut [
     ensures { λ _. ⌜ RowFilled (tableEdge (now (ends .entry)) (now (opens .entry)) (now (nodes .entry)) i) n i (now (matrix .entry)) (now (matrix .exit)) ⌝ }
 {
     let end = ends[i];
+    let low = first_event(end);
+    let high = last_event(end);
     let next = nodes[i] + 1;
     let mut word = 0;
     while 32 * word < n {
-        matrix[16 * i + word] = edge_word(opens, nodes, end, next, 32 * word);
+        matrix[16 * i + word] = edge_word(opens, nodes, low, high, next, 32 * word);
         word += 1;
     }
 }

@@ -10,11 +10,11 @@ use bundle::command::Reading;
 use bundle::command::read_command;
 ghost use mathlib.Core.Path.{_≡_};
 ghost use mathlib.Core.Bool.{true};
-ghost use Prim.Native.Nat.{_<_};
+ghost use Prim.Native.Nat.{_+_, _*_, _<_};
 ghost use lib.ListN.{length};
 ghost use Rattle.bundle.specs.Commands.{rangeOk, lastByte};
 ghost use Rattle.bundle.specs.Check.{Accepted};
-ghost use Rattle.verdict.specs.Working.{eventCode, nodeCode, kindCode};
+ghost use Rattle.verdict.specs.Working.{forkCode, barrierCode, joinCode, nodeCode, kindCode};
 ghost use Rattle.verdict.specs.Filling.{beginning, entered, left, Countable, advanced, rowHere, SegmentOpened, Notable, Noted, Room, Filled};
 
 // How many segments and accesses a bundle has.
@@ -51,10 +51,42 @@ fn begin() -> Cursor
     }
 }
 
-fn event_code(kind: u8, number: u32, team: u16) -> u32
-    ensures { λ r. ⌜ r ≡ eventCode kind number team ⌝ }
+// The events of a team: its fork, its barriers, its join.
+fn fork_code(team: u16) -> u32
+    ensures { λ r. ⌜ r ≡ forkCode team ⌝ }
 {
-    kind as u32 + 4 * (number % 512 + 512 * (team as u32))
+    1024 * (team as u32)
+}
+
+fn barrier_code(number: u32, team: u16) -> u32
+    ensures { λ r. ⌜ r ≡ barrierCode number team ⌝ }
+{
+    1 + number % 512 + 1024 * (team as u32)
+}
+
+fn join_code(team: u16) -> u32
+    ensures { λ r. ⌜ r ≡ joinCode team ⌝ }
+{
+    1023 + 1024 * (team as u32)
+}
+
+// Where a segment ends: at a fork, at a barrier, or with its chunk, which lacks the barriers from one on.
+fn fork_end(team: u16) -> u32
+    ensures { λ r. ⌜ r ≡ 2 * forkCode team ⌝ }
+{
+    2 * fork_code(team)
+}
+
+fn barrier_end(number: u32, team: u16) -> u32
+    ensures { λ r. ⌜ r ≡ 2 * barrierCode number team ⌝ }
+{
+    2 * barrier_code(number, team)
+}
+
+fn chunk_end(passed: u32, team: u16) -> u32
+    ensures { λ r. ⌜ r ≡ 1 + 2 * barrierCode passed team ⌝ }
+{
+    1 + 2 * barrier_code(passed, team)
 }
 
 fn node_code(cursor: Cursor) -> u32
@@ -187,24 +219,23 @@ fn note(
     match command {
         Command::Member { team, member } => {
             let after = enter(cursor, team, member, next);
-            open_segment(after, event_code(0, 0, team), opens, nodes);
+            open_segment(after, fork_code(team), opens, nodes);
             after
         }
         Command::End => {
-            ends[segment] = event_code(1, 0, team);
+            ends[segment] = chunk_end(state.barriers, team);
             leave(cursor, next)
         }
         Command::Region { team, size: _ } => {
-            ends[segment] = event_code(0, 0, team);
+            ends[segment] = fork_end(team);
             let after = advance(cursor, state.after_join(), 1, 0, next);
-            open_segment(after, event_code(1, 0, team), opens, nodes);
+            open_segment(after, join_code(team), opens, nodes);
             after
         }
         Command::Barrier => {
-            let code = event_code(2, state.barriers, team);
-            ends[segment] = code;
+            ends[segment] = barrier_end(state.barriers, team);
             let after = advance(cursor, state.after_barrier(), 1, 0, next);
-            open_segment(after, code, opens, nodes);
+            open_segment(after, barrier_code(state.barriers, team), opens, nodes);
             after
         }
         Command::Acquire(lock) => advance(cursor, state.after_acquire(lock), 0, 0, next),

@@ -7,10 +7,10 @@ use Rattle.verdict.proofs.edges.edge_word.Statement.{statement}
 use Rattle.verdict.proofs.edges.edge_word.Tie as tie
 
 abbrev Inv-loop : tie.InvT-loop
-Inv-loop opens nodes end next first word₀ k₀ word k = (k ≤ 32) × BitsTo (edgeColumn opens nodes end next) first word k
+Inv-loop opens nodes low high next first word₀ k₀ word k = (k ≤ 32) × BitsTo (edgeColumn opens nodes low high next) first word k
 
 abbrev μ-loop : tie.MeasureT-loop
-μ-loop opens nodes end next first word₀ k₀ word k = 32 - k
+μ-loop opens nodes low high next first word₀ k₀ word k = 32 - k
 
 loop-holds : tie.Need-loop-holds Inv-loop μ-loop
 loop-holds c = (search needs, bits-none _ _)

@@ -10,17 +10,17 @@ use Rattle.verdict.proofs.edges.fill_row.Statement.{statement}
 use Rattle.verdict.proofs.edges.fill_row.Tie as tie
 
 abbrev Inv-loop : tie.InvT-loop
-Inv-loop ends opens nodes n matrix₀ i end next word₀ matrix word =
+Inv-loop ends opens nodes n matrix₀ i end low high next word₀ matrix word =
     (word ≤ 16)
     × (length matrix ≡ length matrix₀)
-    × CellsTo (edgeColumn opens nodes end next) i matrix₀ matrix word
+    × CellsTo (edgeColumn opens nodes low high next) i matrix₀ matrix word
 
 abbrev μ-loop : tie.MeasureT-loop
-μ-loop ends opens nodes n matrix₀ i end next word₀ matrix word = 16 - word
+μ-loop ends opens nodes n matrix₀ i end low high next word₀ matrix word = 16 - word
 
 add-next : tie.Need-add-next Inv-loop μ-loop
 add-next c =
-    let start = c .before .before .before .before .before .before in
+    let start = c .before .before .before .before .before .before .before .before in
     omega (arith, start .pre .0 .codes (start .args .i) (start .pre .2))
 
 loop-holds : tie.Need-loop-holds Inv-loop μ-loop
@@ -38,7 +38,11 @@ loop-again c =
     )
 
 returns : tie.Need-returns Inv-loop μ-loop
-returns c = cells-all _ _ (c .before .loop .word) (c .before .loop .inv .0) (c .loop-test .left) (c .before .loop .inv .1) (c .before .loop .inv .2)
+returns c =
+    let low = c .before .before .before .before .first-event .ensures in
+    let high = c .before .before .before .last-event .ensures in
+    rw (← low, ← high)
+    (cells-all _ _ (c .before .loop .word) (c .before .loop .inv .0) (c .loop-test .left) (c .before .loop .inv .1) (c .before .loop .inv .2))
 
 pub fill-row-spec : {M : Type 1} → statement M
 fill-row-spec =
@@ -48,6 +52,8 @@ fill-row-spec =
     μ-loop
     (λ c. search needs)
     (λ c. search needs)
+    (λ c κs. tt)
+    (λ c κs. tt)
     (λ c. search needs)
     (λ c. search needs)
     add-next

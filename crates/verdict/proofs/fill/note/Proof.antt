@@ -11,7 +11,7 @@ open-segment-requires-2 : tie.Need-open-segment-requires-2
 open-segment-requires-2 c κs = region-room (c .before .before .before .before .before .before .before .before .before .before .before .before .before .before .before .pre) (c .before .before .before .before .before .before .before .command2 .given .1) (c .before .before .before .advance .ensures)
 
 open-segment-requires-3 : tie.Need-open-segment-requires-3
-open-segment-requires-3 c κs = barrier-room (c .before .before .before .before .before .before .before .before .before .before .before .before .before .pre) (c .before .before .before .before .before .enum-told2 .given .1) (c .before .before .advance2 .ensures)
+open-segment-requires-3 c κs = barrier-room (c .before .before .before .before .before .before .before .before .before .before .before .before .before .before .pre) (c .before .before .before .before .before .before .enum-told2 .given .1) (c .before .before .before .advance2 .ensures)
 
 row-here-requires : tie.Need-row-here-requires
 row-here-requires c κs = access-room (c .before .before .before .before .before .before .before .before .before .before .pre) (c .before .before .command5 .given .1)
@@ -23,16 +23,16 @@ advance-requires-5 : tie.Need-advance-requires-5
 advance-requires-5 c κs = access-counts (c .before .before .before .before .before .before .before .before .before .before .before .before .before .before .pre) (c .before .before .before .before .before .before .command5 .given .1)
 
 returns : tie.Need-returns
-returns c = noted-member (c .before .before .before .before .before .before .before .before .before .before .before .before .before .before .before .before .before .before .pre) (c .before .before .before .before .before .before .before .before .before .before .command .given .1) (c .before .before .before .before .before .before .before .before .enter .ensures) (c .before .before .before .before .before .before .before .event-code .ensures) (c .before .before .before .before .open-segment .ensures)
+returns c = noted-member (c .before .before .before .before .before .before .before .before .before .before .before .before .before .before .before .before .before .before .pre) (c .before .before .before .before .before .before .before .before .before .before .command .given .1) (c .before .before .before .before .before .before .before .before .enter .ensures) (c .before .before .before .before .before .before .before .fork-code .ensures) (c .before .before .before .before .open-segment .ensures)
 
 returns-2 : tie.Need-returns-2
-returns-2 c = noted-end (c .before .before .before .before .before .before .before .before .before .before .pre) (c .before .before .enum-told .given .1) (c .leave .ensures) (c .before .event-code2 .ensures)
+returns-2 c = noted-end (c .before .before .before .before .before .before .before .before .before .before .pre) (c .before .before .enum-told .given .1) (c .leave .ensures) (c .before .chunk-end .ensures)
 
 returns-3 : tie.Need-returns-3
-returns-3 c = noted-region (c .before .before .before .before .before .before .before .before .before .before .before .before .before .before .before .before .before .before .before .before .pre) (c .before .before .before .before .before .before .before .before .before .before .before .before .command2 .given .1) (c .before .before .before .before .before .before .before .before .before .after-join .ensures) (c .before .before .before .before .before .before .before .before .before .before .event-code3 .ensures) (c .before .before .before .before .before .before .before .before .advance .ensures) (c .before .before .before .before .before .before .before .event-code4 .ensures) (c .before .before .before .before .open-segment2 .ensures)
+returns-3 c = noted-region (c .before .before .before .before .before .before .before .before .before .before .before .before .before .before .before .before .before .before .before .before .pre) (c .before .before .before .before .before .before .before .before .before .before .before .before .command2 .given .1) (c .before .before .before .before .before .before .before .before .before .after-join .ensures) (c .before .before .before .before .before .before .before .before .before .before .fork-end .ensures) (c .before .before .before .before .before .before .before .before .advance .ensures) (c .before .before .before .before .before .before .before .join-code .ensures) (c .before .before .before .before .open-segment2 .ensures)
 
 returns-4 : tie.Need-returns-4
-returns-4 c = noted-barrier (c .before .before .before .before .before .before .before .before .before .before .before .before .before .before .before .before .before .before .pre) (c .before .before .before .before .before .before .before .before .before .before .enum-told2 .given .1) (c .before .before .before .before .before .before .before .before .after-barrier .ensures) (c .before .before .before .before .before .before .before .before .before .event-code5 .ensures) (c .before .before .before .before .before .before .before .advance2 .ensures) (c .before .before .before .before .open-segment3 .ensures)
+returns-4 c = noted-barrier (c .before .before .before .before .before .before .before .before .before .before .before .before .before .before .before .before .before .before .before .pre) (c .before .before .before .before .before .before .before .before .before .before .before .enum-told2 .given .1) (c .before .before .before .before .before .before .before .before .before .after-barrier .ensures) (c .before .before .before .before .before .before .before .before .before .before .barrier-end .ensures) (c .before .before .before .before .before .before .before .before .advance2 .ensures) (c .before .before .before .before .before .before .before .barrier-code .ensures) (c .before .before .before .before .open-segment3 .ensures)
 
 returns-5 : tie.Need-returns-5
 returns-5 c = noted-acquire (c .before .before .before .before .before .before .before .before .before .before .before .pre) (c .before .before .before .command3 .given .1) (c .before .after-acquire .ensures) (c .advance3 .ensures)
@@ -71,6 +71,7 @@ note-spec =
     (λ c. search needs)
     (λ c κs. tt)
     (λ c κs. search needs)
+    (λ c κs. tt)
     open-segment-requires-3
     (λ c. search needs)
     (λ c κs. tt)
