@@ -4,7 +4,7 @@ and pairs of ranges aimed at the elements that cover their lowest shared byte.
 Each case is a title, the refusal's number (None if accepted) and the bundle
 as text, with * at the place of the refusal; one that is accepted has its
 chunks, segments and accesses. All these numbers are taken from document 01
-by hand, and those of elements from document 02.
+by hand, and those of cut chunks and of elements from document 02.
 """
 
 from collections import namedtuple
@@ -30,6 +30,13 @@ E_LATE_READ = """
 member 0 0; region 1 2; end
 member 1 0; write 10 4096 8 2 4; barrier; end
 member 1 1; barrier; read 20 4106 0 1 4; end
+"""
+
+# The same where the run was stopped: member 0 has not met its barrier.
+E_STOPPED = """
+member 0 0; region 1 2; cut
+member 1 0; write 10 4096 8 2 4; cut
+member 1 1; barrier; read 20 4106 0 1 4; cut
 """
 
 ACCESS = "read 1 0 0 1 1"
@@ -76,7 +83,7 @@ ACCEPTED = [
 TOO_LONG = [
     Case("65,537 good bytes", 1, "*" + FULL_BYTES + "; barrier; end"),
     Case("1 before 2", 1, "*times 65537 raw 00"),
-    Case("1 before 3", 1, "*" + FULL_BYTES + "; end; cut 1 member 0 0"),
+    Case("1 before 3", 1, "*" + FULL_BYTES + "; end; torn 1 member 0 0"),
     Case("1 before 4", 1, "*" + FULL_BYTES + "; barrier; barrier"),
     Case("1 before 7", 1, "*member 0 0; times 66000 barrier; end"),
     Case("1 before 10", 1, "*" + FULL_BYTES + "; region 1 1; end"),
@@ -86,36 +93,36 @@ TOO_LONG = [
 
 UNKNOWN = [
     Case("alone", 2, "*raw 00"),
-    Case("inside a chunk", 2, "member 0 0; barrier; *raw 03; end"),
+    Case("inside a chunk", 2, "member 0 0; barrier; *raw 05; end"),
     Case("behind a good bundle", 2, "member 0 0; end; *raw ff"),
     Case("2 before 3: nothing follows", 2, "member 0 0; *raw 34"),
     Case("2 before 4: outside a chunk", 2, "*raw 12; end"),
-    Case("2 at a lower offset than 3", 2, "member 0 0; *raw 22; cut 1 acquire 1"),
+    Case("2 at a lower offset than 3", 2, "member 0 0; *raw 22; torn 1 acquire 1"),
     Case("2 at a lower offset than 4", 2, "member 0 0; *raw 2f"),
     Case("2 before 8 to 12 at lower offsets", 2, "member 0 1; region 1 2; region 1 2; end; *raw 0f"),
 ]
 
-CUT_OFF = [
-    Case("MEMBER cut after 1", 3, "*cut 1 member 0 0"),
-    Case("MEMBER cut after 3", 3, "*cut 3 member 0 0"),
-    Case("a second MEMBER cut", 3, "member 0 0; end; *cut 2 member 1 0"),
-    Case("REGION cut after 1", 3, "member 0 0; *cut 1 region 1 1"),
-    Case("REGION cut after 3", 3, "member 0 0; *cut 3 region 1 1"),
-    Case("ACQUIRE cut", 3, "member 0 0; *cut 1 acquire 1"),
-    Case("RELEASE cut", 3, "member 0 0; *cut 1 release 1"),
-    Case("access cut after 1", 3, "member 0 0; *cut 1 read 1 0 0 1 1"),
-    Case("access cut after 11", 3, "member 0 0; *cut 11 atomic-write 1 0 0 1 1"),
-    Case("3 before 4: access outside a chunk", 3, "*cut 5 write 1 0 0 1 1"),
-    Case("3 before 4: ACQUIRE outside a chunk", 3, "member 0 0; end; *cut 1 acquire 1"),
-    Case("3 before 4: REGION outside a chunk", 3, "*cut 2 region 1 1"),
-    Case("3 before 4: MEMBER inside a chunk", 3, "member 0 0; *cut 3 member 1 0"),
-    Case("3 before 5: team 0", 3, "member 0 0; *cut 3 region 0 1"),
-    Case("3 before 5: own-team rule", 3, "member 5 0; *cut 3 region 5 1"),
-    Case("3 before 5: count 0", 3, "member 0 0; *cut 11 write 1 0 0 0 1"),
-    Case("3 before 6: an unheld lock cut off", 3, "member 0 0; acquire 1; *cut 1 release 2"),
-    Case("3 before 7: the 513th segment cut off", 3, "member 0 0; times 511 barrier; *cut 2 region 1 1"),
-    Case("3 before 7: the 1,025th access cut off", 3, f"member 0 0; times 1024 {ACCESS}; *cut 11 {ACCESS}"),
-    Case("3 before 8 to 12 at lower offsets", 3, "member 0 1; region 1 2; region 1 2; end; *cut 1 member 0 0"),
+TORN = [
+    Case("MEMBER torn after 1", 3, "*torn 1 member 0 0"),
+    Case("MEMBER torn after 3", 3, "*torn 3 member 0 0"),
+    Case("a second MEMBER torn", 3, "member 0 0; end; *torn 2 member 1 0"),
+    Case("REGION torn after 1", 3, "member 0 0; *torn 1 region 1 1"),
+    Case("REGION torn after 3", 3, "member 0 0; *torn 3 region 1 1"),
+    Case("ACQUIRE torn", 3, "member 0 0; *torn 1 acquire 1"),
+    Case("RELEASE torn", 3, "member 0 0; *torn 1 release 1"),
+    Case("access torn after 1", 3, "member 0 0; *torn 1 read 1 0 0 1 1"),
+    Case("access torn after 11", 3, "member 0 0; *torn 11 atomic-write 1 0 0 1 1"),
+    Case("3 before 4: access outside a chunk", 3, "*torn 5 write 1 0 0 1 1"),
+    Case("3 before 4: ACQUIRE outside a chunk", 3, "member 0 0; end; *torn 1 acquire 1"),
+    Case("3 before 4: REGION outside a chunk", 3, "*torn 2 region 1 1"),
+    Case("3 before 4: MEMBER inside a chunk", 3, "member 0 0; *torn 3 member 1 0"),
+    Case("3 before 5: team 0", 3, "member 0 0; *torn 3 region 0 1"),
+    Case("3 before 5: own-team rule", 3, "member 5 0; *torn 3 region 5 1"),
+    Case("3 before 5: count 0", 3, "member 0 0; *torn 11 write 1 0 0 0 1"),
+    Case("3 before 6: an unheld lock cut off", 3, "member 0 0; acquire 1; *torn 1 release 2"),
+    Case("3 before 7: the 513th segment cut off", 3, "member 0 0; times 511 barrier; *torn 2 region 1 1"),
+    Case("3 before 7: the 1,025th access cut off", 3, f"member 0 0; times 1024 {ACCESS}; *torn 11 {ACCESS}"),
+    Case("3 before 8 to 12 at lower offsets", 3, "member 0 1; region 1 2; region 1 2; end; *torn 1 member 0 0"),
 ]
 
 MISPLACED = [
@@ -148,7 +155,7 @@ MISPLACED = [
     Case("4 before 7: 513th segment by BARRIER outside", 4, "member 0 0; times 511 barrier; end; *barrier"),
     Case("4 before 7: 1,025th access outside", 4, f"member 0 0; times 1024 {ACCESS}; end; *{ACCESS}"),
     Case("4 at a lower offset than 2", 4, "*barrier; raw 00"),
-    Case("4 at a lower offset than 3", 4, "*end; cut 1 member 0 0"),
+    Case("4 at a lower offset than 3", 4, "*end; torn 1 member 0 0"),
     Case("4 before 8 to 12 at lower offsets", 4, "member 0 1; region 1 2; region 1 2; end; *end"),
 ]
 
@@ -331,9 +338,143 @@ BARRIERS = [
         member 3 0; region 4 2; end; member 4 0; barrier; end; *member 4 1; end"""),
 ]
 
+# -------------------------------------------------------------- cut chunks
+
+TEAM_OF_2, TEAM_OF_3 = "member 0 0; region 1 2; end; ", "member 0 0; region 1 3; end; "
+
+# Every chunk but one is cut: behind a region, behind MEMBER, behind a barrier.
+STOPPED = """
+member 0 0; region 1 2; cut
+member 1 0; barrier; region 4 1; region 2 2; cut
+member 1 1; cut
+member 4 0; end
+member 2 0; barrier; cut
+member 2 1; acquire 3; cut
+"""
+
+CUT_ACCEPTED = [
+    Case("chunks cut at each kind of place", None, STOPPED, (6, 11, 0)),
+    Case("E with a late read, stopped", None, E_STOPPED, (3, 5, 2)),
+    Case("only a cut root", None, "member 0 0; cut", (1, 1, 0)),
+    Case("a root cut behind a barrier", None, "member 0 0; barrier; cut", (1, 2, 0)),
+    Case("a lock held at CUT", None, "member 0 0; acquire 63; cut", (1, 1, 0)),
+    Case("two of three locks held at CUT", None, "member 0 0; acquire 0; acquire 1; release 0; acquire 63; cut", (1, 1, 0)),
+    Case("a lock held at CUT is not the next chunk's", None,
+         "member 0 0; region 1 1; acquire 3; cut; member 1 0; acquire 3; release 3; end", (2, 3, 0)),
+    Case("all cut directly behind MEMBER or REGION", None, "member 1 1; cut; member 0 0; region 1 2; cut; member 1 0; cut", (3, 4, 0)),
+    Case("one cut behind MEMBER, the other complete", None, TEAM_OF_2 + "member 1 0; barrier; end; member 1 1; cut", (3, 5, 0)),
+    Case("fewer barriers than the complete one", None,
+         TEAM_OF_2 + "member 1 0; barrier; barrier; end; member 1 1; barrier; cut", (3, 7, 0)),
+    Case("as many barriers", None, TEAM_OF_2 + "member 1 0; barrier; end; member 1 1; barrier; cut", (3, 6, 0)),
+    Case("member 0 cut with fewer", None,
+         TEAM_OF_3 + "member 1 0; cut; member 1 1; barrier; barrier; end; member 1 2; barrier; barrier; end", (4, 9, 0)),
+    Case("member 0 cut with fewer than a cut one", None,
+         TEAM_OF_3 + "member 1 0; cut; member 1 1; barrier; cut; member 1 2; barrier; end", (4, 7, 0)),
+    Case("two cut chunks lack different barriers", None,
+         TEAM_OF_3 + "member 1 0; barrier; barrier; end; member 1 1; cut; member 1 2; barrier; cut", (4, 8, 0)),
+    Case("no complete member, unlike barriers", None,
+         TEAM_OF_3 + "member 1 0; barrier; cut; member 1 1; cut; member 1 2; barrier; barrier; cut", (4, 8, 0)),
+    Case("regions of a cut chunk are not barriers", None,
+         TEAM_OF_2 + "member 1 0; end; member 1 1; region 2 1; region 3 1; cut; member 2 0; cut; member 3 0; end", (5, 8, 0)),
+    Case("a region inside a cut chunk", None, "member 0 0; region 1 1; cut; member 1 0; region 2 1; cut; member 2 0; cut", (3, 5, 0)),
+    Case("exactly 65,536 bytes, cut", None, FULL_BYTES + "; cut", (1, 4, 0)),
+    Case("exactly 512 segments, cut", None, "member 0 0; times 511 barrier; acquire 1; cut", (1, 512, 0)),
+]
+
+CUT_MISPLACED = [
+    Case("CUT outside", 4, "*cut"),
+    Case("CUT between chunks", 4, "member 0 0; region 1 1; end; *cut; member 1 0; end"),
+    Case("a second CUT", 4, "member 0 0; cut; *cut"),
+    Case("END behind CUT", 4, "member 0 0; cut; *end"),
+    Case("BARRIER behind CUT", 4, "member 0 0; cut; *barrier; end"),
+    Case("REGION behind CUT", 4, "member 0 0; cut; *region 1 1; end; member 1 0; end"),
+    Case("an access behind CUT", 4, f"member 0 0; cut; *{ACCESS}; end"),
+    Case("RELEASE behind CUT of a lock held there", 4, "member 0 0; acquire 1; cut; *release 1"),
+    Case("MEMBER inside, not CUT", 4, "member 0 0; *member 1 0; cut; cut"),
+    Case("ending inside the chunk behind a cut one", 4, "member 0 0; region 1 1; cut; member 1 0; *"),
+    Case("4 by CUT at a lower offset than 2", 4, "member 0 0; end; *cut; raw 00"),
+    Case("3 behind CUT, which has no operands", 3, "member 0 0; cut; *torn 1 member 0 0"),
+    Case("2 behind CUT", 2, "member 0 0; cut; *raw 05"),
+]
+
+CUT_LOCKS = [
+    Case("held at END beside a chunk that holds it at CUT", 6, "member 0 0; acquire 3; region 1 1; cut; member 1 0; acquire 3; *end"),
+    Case("a held lock acquired before CUT", 6, "member 0 0; acquire 3; *acquire 3; cut"),
+    Case("an unheld lock released before CUT", 6, "member 0 0; *release 3; cut"),
+    Case("a lock held at CUT released in the next chunk", 6, "member 0 0; region 1 1; acquire 3; cut; member 1 0; *release 3; end"),
+    Case("7 in a cut chunk", 7, "member 0 0; times 511 barrier; *barrier; cut"),
+    Case("7 by MEMBER behind a cut chunk", 7, "member 0 0; times 511 barrier; cut; *member 1 0; cut"),
+]
+
+CUT_SHAPES = [
+    Case("forked again in a cut chunk", 8, "member 0 0; region 1 1; *region 1 1; cut; member 1 0; cut"),
+    Case("a second chunk, the first one cut", 9, "member 0 0; cut; *member 0 0; end"),
+    Case("a second chunk, itself cut", 9, "member 0 0; end; *member 0 0; cut"),
+    Case("never forked and cut", 9, "member 0 0; cut; *member 1 0; cut"),
+    Case("a cut chunk's team lacks a member", 10, "member 0 0; *region 1 2; cut; member 1 0; cut"),
+    Case("too deep below cut chunks", 11, CHAIN_4.replace("end", "cut") + "member 4 0; *region 5 1; cut; member 5 0; cut"),
+    Case("8 before 19 at a lower offset", 8,
+         "member 1 1; barrier; cut; member 1 0; end; member 0 0; region 1 2; region 2 1; *region 2 1; end; member 2 0; end"),
+    Case("9 before 19 at a lower offset", 9, TEAM_OF_2 + "member 1 0; end; member 1 1; barrier; cut; *member 2 0; cut"),
+    Case("10 before 19 at a lower offset", 10, "member 1 1; barrier; cut; member 1 0; end; member 0 0; region 1 2; *region 2 1; cut"),
+    Case("11 before 19 at a lower offset", 11, "member 5 1; barrier; cut; member 5 0; end; " + CHAIN_4 + "member 4 0; *region 5 2; end"),
+]
+
+CUT_UNLIKE = [
+    Case("member 0 cut, the complete ones unlike", 12,
+         TEAM_OF_3 + "member 1 0; barrier; cut; member 1 1; barrier; barrier; end; *member 1 2; barrier; end"),
+    Case("member 0 cut, like the last one alone", 12,
+         TEAM_OF_3 + "member 1 0; cut; member 1 1; barrier; end; *member 1 2; end"),
+    Case("members 0 and 1 cut, the lowest complete one stands last", 12, """
+        *member 1 4; end; member 1 3; barrier; end; member 1 0; cut; member 1 1; cut
+        member 0 0; region 1 5; end; member 1 2; barrier; end"""),
+    Case("several unlike the lowest complete one, the lower offset", 12, """
+        member 0 0; region 1 4; cut
+        member 1 0; cut; *member 1 3; end; member 1 2; barrier; barrier; end; member 1 1; barrier; end"""),
+    Case("12 before 19 at a lower offset", 12,
+         "member 1 0; barrier; barrier; cut; member 0 0; region 1 3; end; member 1 1; end; *member 1 2; barrier; end"),
+    Case("12 before 19 at a lower offset, in another team", 12, """
+        member 1 0; end; member 1 1; barrier; cut
+        member 0 0; region 1 2; region 2 2; cut; member 2 0; end; *member 2 1; barrier; end"""),
+    Case("12 before 19, more than one complete one and fewer than another", 12,
+         TEAM_OF_3 + "member 1 0; end; member 1 1; barrier; cut; *member 1 2; barrier; barrier; end"),
+]
+
+CUT_TOO_MANY = [
+    Case("one more", 19, TEAM_OF_2 + "member 1 0; end; *member 1 1; barrier; cut"),
+    Case("member 0 cut with one more", 19, TEAM_OF_2 + "*member 1 0; barrier; cut; member 1 1; end"),
+    Case("two more", 19, TEAM_OF_2 + "member 1 0; barrier; end; *member 1 1; barrier; barrier; barrier; cut"),
+    Case("two cut chunks, the lower offset", 19, """
+        member 0 0; region 1 4; end; member 1 0; barrier; end; member 1 2; cut
+        *member 1 3; barrier; barrier; cut; member 1 1; barrier; barrier; barrier; cut"""),
+    Case("two cut chunks, one as many and one more", 19,
+         TEAM_OF_3 + "member 1 0; barrier; end; member 1 1; barrier; cut; *member 1 2; barrier; barrier; cut"),
+    Case("two cut chunks with as many as each other", 19,
+         TEAM_OF_3 + "*member 1 1; barrier; barrier; cut; member 1 0; barrier; barrier; cut; member 1 2; barrier; end"),
+    Case("only the last member is complete", 19,
+         TEAM_OF_3 + "member 1 0; barrier; cut; *member 1 1; barrier; barrier; cut; member 1 2; barrier; end"),
+    Case("two teams, the lower offset", 19, """
+        member 0 0; region 1 2; region 2 2; cut
+        member 2 0; end; *member 2 1; barrier; cut; member 1 0; end; member 1 1; barrier; cut"""),
+    Case("a team without complete members beside it", 19, """
+        member 0 0; region 1 2; region 2 2; cut
+        member 1 0; cut; member 1 1; barrier; cut; member 2 0; end; *member 2 1; barrier; cut"""),
+    Case("before its fork", 19, "*member 1 1; barrier; cut; member 1 0; end; member 0 0; region 1 2; cut"),
+    Case("barriers around a region", 19,
+         TEAM_OF_2 + "member 1 0; barrier; end; *member 1 1; barrier; region 2 1; barrier; cut; member 2 0; end"),
+    Case("in the fourth level", 19, """
+        member 0 0; region 1 1; end; member 1 0; region 2 1; end; member 2 0; region 3 1; end
+        member 3 0; region 4 2; end; member 4 0; end; *member 4 1; barrier; cut"""),
+    Case("6 before 19 at a lower offset", 6,
+         "member 1 1; barrier; cut; member 0 0; region 1 2; end; member 1 0; acquire 1; *end"),
+    Case("4 before 19 at a lower offset", 4, TEAM_OF_2 + "member 1 0; end; member 1 1; barrier; cut; *cut"),
+    Case("ending before 19", 4, "member 1 1; barrier; cut; member 0 0; region 1 2; end; member 1 0; *"),
+]
+
 REFUSED = (
-    TOO_LONG + UNKNOWN + CUT_OFF + MISPLACED + OUT_OF_RANGE + LOCKS
+    TOO_LONG + UNKNOWN + TORN + MISPLACED + OUT_OF_RANGE + LOCKS
     + TOO_MANY + FORKED_BEFORE + STRAY + LACKING + TOO_DEEP + BARRIERS
+    + CUT_MISPLACED + CUT_LOCKS + CUT_SHAPES + CUT_UNLIKE + CUT_TOO_MANY
 )
 
 # ---------------------------------------------------------------- elements
@@ -399,6 +540,6 @@ OVERLAPS = SHORT_RANGES + LONG_RANGES
 
 def check_cases():
     """All cases as (title, number, place, bytes)."""
-    for case in ACCEPTED + REFUSED:
+    for case in ACCEPTED + CUT_ACCEPTED + REFUSED:
         data, place = assemble(case.text)
         yield case.title, case.number, place, data

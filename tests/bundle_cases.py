@@ -12,7 +12,7 @@ from second_reader import Range
 from vector_frames import check_frame, compare_frame, find_frame, label_frame, shared_frame
 
 SHORT = 1000  # bytes; longer aimed bundles go to large_frames
-E = aimed_cases.E_BYTES
+E, STOPPED = aimed_cases.E_BYTES, bundle(aimed_cases.STOPPED)
 
 
 def aimed_bundles():
@@ -36,20 +36,30 @@ def locked_nests(rng, count):
     return [generators.locked_nest_bundle(rng) for _ in range(count)]
 
 
+def stopped_runs(rng, count):
+    return [generators.stopped_run_bundle(rng) for _ in range(count)]
+
+
+def unlike_teams(rng, count):
+    return [generators.bundle_bytes(generators.unlike_members(rng)) for _ in range(count)]
+
+
 def small_damaged(rng, count):
     return [generators.damaged_bundle(rng, generators.SMALL) for _ in range(count)]
 
 
 # ------------------------------------------------- check, find and labels
 
+CHECK_SEED = 103  # of the stored frames
+
 
 def check_frames(seed):
     rng = random.Random(seed)
     for data in short_aimed_bundles() + listed_bundles():
         yield check_frame(data)
-    for cut in range(len(E)):
-        yield check_frame(E[:cut])
-    for data in small_good(rng, 400) + small_damaged(rng, 1600):
+    for length in range(len(E)):
+        yield check_frame(E[:length])
+    for data in small_good(rng, 400) + small_damaged(rng, 1400) + stopped_runs(rng, 30) + unlike_teams(rng, 200):
         yield check_frame(data)
     for style in generators.STYLES * 3:
         yield check_frame(generators.random_bundle(rng, style))
@@ -65,7 +75,7 @@ def member_names(data):
 
 def find_frames(seed):
     rng = random.Random(seed)
-    for data in [E] + small_good(rng, 20):
+    for data in [E, STOPPED] + small_good(rng, 20) + stopped_runs(rng, 3):
         for team, member in (*member_names(data), *NO_MEMBERS):
             yield find_frame(team, member, data)
     for data in short_aimed_bundles() + small_damaged(rng, 100):
@@ -78,7 +88,7 @@ def find_frames(seed):
 
 def label_frames(seed):
     rng = random.Random(seed)
-    for data in [E] + small_good(rng, 12):
+    for data in [E, STOPPED] + small_good(rng, 12) + stopped_runs(rng, 3):
         yield from labels_of_all(data)
         for team, member in NO_MEMBERS:
             yield label_frame(team, member, 0, data)

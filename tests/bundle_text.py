@@ -1,10 +1,10 @@
 """Bundles written as text.
 
 Commands are parted by ";" or line ends and written as in the vectors:
-"member T M", "end", "region T S", "barrier", "acquire L", "release L",
+"member T M", "end", "cut", "region T S", "barrier", "acquire L", "release L",
 "read SITE BASE STRIDE COUNT SIZE" and so on. Further forms:
     raw HEX              these bytes
-    cut N command        the first N bytes of the command
+    torn N command       the first N bytes of the command
     times N a, b         the commands a and b, N times
     *command             marks the place of the command
     *                    alone: marks the place reached
@@ -27,7 +27,7 @@ def item_bytes(text):
     head, _, rest = text.partition(" ")
     if head == "raw":
         return bytes.fromhex(rest)
-    if head == "cut":
+    if head == "torn":
         length, _, command = rest.partition(" ")
         return item_bytes(command)[: int(length)]
     if head == "times":

@@ -61,8 +61,7 @@ def compare_fixed(program, tally):
 def compare_random(program, seed, tally):
     """Fresh bundles; all orders of a few chunks and some of many come out as one, and stay so."""
     rng = random.Random(seed)
-    for style in generators.STYLES:
-        chunks = generators.random_chunks(rng, style)
+    for chunks in (*(generators.random_chunks(rng, style) for style in generators.STYLES), generators.stopped_run(rng)):
         few = generators.all_orders(chunks) if len(chunks) <= 4 else (generators.shuffled(rng, chunks) for _ in range(6))
         results = {held(program, "an order of chunks", generators.bundle_bytes(order), tally) for order in few}
         if len(results) != 1:

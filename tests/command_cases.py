@@ -12,10 +12,11 @@ FAR_POSITIONS = (
     HIGHEST - 12, HIGHEST - 11, HIGHEST - 10, HIGHEST - 3, HIGHEST - 2, HIGHEST - 1, HIGHEST,
 )
 
-# One good command of each kind; no operand byte is 0 but those of END and BARRIER.
+# One good command of each kind; no operand byte is 0.
 GOOD = (
     Command(sr.MEMBER, (0x0201, 3)),
     Command(sr.END, ()),
+    Command(sr.CUT, ()),
     Command(sr.REGION, (0x0504, 6)),
     Command(sr.BARRIER, ()),
     Command(sr.ACQUIRE, (7,)),
@@ -42,6 +43,7 @@ SHAPES = ((0, 1), (1, 2), (2, 2), (1, 65535), (65535, 2), (255, 257), (65535, 65
 def limit_commands():
     """Commands with each operand at, below and above each limit."""
     yield Command(sr.END, ())
+    yield Command(sr.CUT, ())
     yield Command(sr.BARRIER, ())
     for code in (sr.MEMBER, sr.REGION):
         for team in TEAMS:
@@ -143,7 +145,7 @@ def read_frames(seed):
     yield from read_every_byte()
     for command in limit_commands():
         yield read_frame(0, sr.command_bytes(command))
-    yield from read_cut()
+    yield from read_torn()
     yield from read_positions()
     yield from read_precedence()
     yield from read_rows(rng)
@@ -157,8 +159,8 @@ def read_every_byte():
         yield read_frame(2, b"\x11\x02" + bytes([byte]) + b"\x02\x00\x03\x00\x00\x00\x01\x00\x02\x00\x04")
 
 
-def read_cut():
-    """Every command cut to every length, alone and behind three bytes."""
+def read_torn():
+    """Every command torn at every length, alone and behind three bytes."""
     for command in (*GOOD, *bad_commands()):
         data = sr.command_bytes(command)
         for length in range(len(data) + 1):
@@ -179,10 +181,10 @@ def read_positions():
 
 
 def read_precedence():
-    unknown = b"\x00\x03\xff"
+    unknown = b"\x00\x05\xff"
     for position in range(5):  # 18 before 2
         yield read_frame(position, unknown)
-    for byte in (0x00, 0x03, 0x0F, 0x12, 0x1F, 0x22, 0x2F, 0x34, 0xFF):  # 2 before 3
+    for byte in (0x00, 0x05, 0x0F, 0x12, 0x1F, 0x22, 0x2F, 0x34, 0xFF):  # 2 before 3
         yield read_frame(0, bytes([byte]))
         yield read_frame(1, b"\x02" + bytes([byte]))
     yield read_frame(0, b"\x10\x00\x00")  # 3 before 5: team 0, size cut off

@@ -22,6 +22,7 @@ def checked_bundles():
 # (bytes, position). A REGION's team may be any but 0; its own-team rule is not tested where a command is read alone.
 READ = [(bytes.fromhex(text), position) for text, position in (
     ("10000002", 0), ("10010001", 0), ("1001000000", 0), ("10ffff40", 0), ("10010041", 0), ("1100100000", 1),
+    ("03", 0), ("0301", 0), ("0203", 1),
     ("01000040", 0), ("0100003f", 0), ("2040", 0), ("213f", 0), ("2140", 0), ("1111", 1), ("1111", 2), ("1112", 1), ("100100", 0),
 )]
 
@@ -48,6 +49,7 @@ LABELLED = (
     )],
     (CHAIN, 3, 0, 1),
     (CHAIN, 4, 0, 1),
+    *[(bundle(aimed_cases.STOPPED), *place) for place in ((1, 0, 3), (1, 1, 0), (1, 1, 1), (2, 0, 1), (2, 1, 1))],
 )
 
 # ------------------------------------------------------------- comparisons

@@ -16,9 +16,11 @@ from second_reader import Command
 # segment openings; locks: how many are in use; addresses: how many bases;
 # far: whether some ranges are long or at the end of memory; dense: whether
 # ranges have many elements, most of which overlap each other; around:
-# whether locks are acquired just before a REGION and released behind it.
+# whether locks are acquired just before a REGION and released behind it;
+# cuts: one bundle in so many has cut chunks, 0 standing for none.
 Style = namedtuple(
-    "Style", "depth sizes regions barriers actions locks addresses far segments accesses dense around", defaults=[False, False])
+    "Style", "depth sizes regions barriers actions locks addresses far segments accesses dense around cuts",
+    defaults=[False, False, 5])
 
 SMALL = Style(2, (1, 2, 2), 1, 1, 2, 2, 6, False, 14, 8)
 MIDDLE = Style(4, (1, 2, 2, 3), 2, 2, 3, 3, 12, False, 60, 80)
@@ -161,11 +163,23 @@ def far_range(rng):
 
 
 def random_chunks(rng, style):
-    return Maker(rng, style).make()
+    chunks = Maker(rng, style).make()
+    return with_cuts(rng, chunks) if style.cuts and rng.randrange(style.cuts) == 0 else chunks
 
 
 def bundle_bytes(chunks):
     return b"".join(sr.command_bytes(c) for chunk in chunks for c in chunk)
+
+
+def chunks_of(data):
+    """The chunks of a good bundle, each as its commands."""
+    chunks, position = [], 0
+    while position < len(data):
+        command, position = sr.read_command(data, position)
+        if command.code == sr.MEMBER:
+            chunks.append([])
+        chunks[-1].append(command)
+    return chunks
 
 
 def shuffled(rng, chunks):
@@ -179,6 +193,108 @@ def all_orders(chunks):
 def random_bundle(rng, style):
     """A good bundle in a random order of its chunks."""
     return bundle_bytes(shuffled(rng, random_chunks(rng, style)))
+
+
+# -------------------------------------------------------------- cut chunks
+
+CUT = Command(sr.CUT, ())
+
+
+def cut_at(chunk, at):
+    """The chunk without its commands from this place on."""
+    return chunk[:at] + [CUT]
+
+
+def first_place(chunk):
+    """The lowest place at which a chunk is cut without losing a REGION."""
+    return max((at + 1 for at, command in enumerate(chunk) if command.code == sr.REGION), default=1)
+
+
+def place_of_cut(rng, chunk, first):
+    """Any place from the first one on, each end of these more often."""
+    return rng.choice((first, len(chunk) - 1, *range(first, len(chunk))))
+
+
+def cut_some(rng, chunks):
+    """At least one chunk cut, at command ends, with no REGION lost."""
+    some = rng.sample(range(len(chunks)), rng.choice((1, (len(chunks) + 1) // 2, rng.randint(1, len(chunks)))))
+    return [cut_at(chunk, place_of_cut(rng, chunk, first_place(chunk))) if k in some else chunk for k, chunk in enumerate(chunks)]
+
+
+def cut_with_regions(rng, chunks):
+    """One chunk cut anywhere; the teams of the REGIONs that it loses have no chunks then."""
+    which = rng.randrange(len(chunks))
+    chunk = chunks[which]
+    at = rng.randrange(1, len(chunk))
+    lost = {command.operands[0] for command in chunk[at:] if command.code == sr.REGION}
+    return without_teams([*chunks[:which], cut_at(chunk, at), *chunks[which + 1 :]], lost)
+
+
+def without_teams(chunks, lost):
+    """Without these teams and those below them."""
+    while lost:
+        inner = {c.operands[0] for chunk in chunks if chunk[0].operands[0] in lost for c in chunk if c.code == sr.REGION}
+        chunks, lost = [chunk for chunk in chunks if chunk[0].operands[0] not in lost], inner
+    return chunks
+
+
+def with_cuts(rng, chunks):
+    """A good bundle with cut chunks, made from a good one; some have lost REGIONs too."""
+    return cut_some(rng, chunks if rng.randrange(3) else cut_with_regions(rng, chunks))
+
+
+class StoppedRun:
+    """Makes one bundle: a team, the root's or one below it, with several barriers, whose members touch few bytes in their intervals
+    and fork teams of one or two with barriers of their own; then many chunks are cut. A forking chunk goes on behind the join."""
+
+    def __init__(self, rng):
+        self.rng = rng
+        self.last_team = 0
+        self.chunks = []
+
+    def make(self):
+        self.add_chunk(0, 0, 0, self.rng.randint(0, 1))
+        chunks = self.chunks
+        for _ in range(self.rng.randint(1, 2)):
+            chunks = cut_some(self.rng, chunks)
+        return chunks
+
+    def add_chunk(self, team, member, depth, barriers):
+        rng = self.rng
+        chunk, locked = [Command(sr.MEMBER, (team, member))], rng.randrange(4) == 0
+        self.chunks.append(chunk)
+        if locked:
+            chunk.append(Command(sr.ACQUIRE, (rng.randrange(2),)))
+        for interval in range(barriers + 1):
+            chunk += [Command(sr.BARRIER, ())] if interval else []
+            self.add_access(chunk)
+            if depth == 0 and interval == 0 or depth < 3 and rng.randrange(5) == 0:
+                self.add_region(chunk, depth)
+                self.add_access(chunk)
+        chunk += [Command(sr.RELEASE, chunk[1].operands)] if locked else []
+        chunk.append(Command(sr.END, ()))
+
+    def add_region(self, chunk, depth):
+        self.last_team += 1
+        team = self.last_team
+        size, barriers = (self.rng.choice((2, 2, 3, 4)), self.rng.randint(1, 3)) if depth == 0 else self.rng.choice(((1, 1), (2, 1)))
+        chunk.append(Command(sr.REGION, (team, size)))
+        for member in range(size):
+            self.add_chunk(team, member, depth + 1, barriers)
+
+    def add_access(self, chunk):
+        if self.rng.randrange(2):
+            code = self.rng.choice((sr.READ, sr.WRITE, sr.WRITE))
+            chunk.append(Command(code, (self.rng.randrange(100), BASE + self.rng.randrange(2), 0, 1, 1)))
+
+
+def stopped_run(rng):
+    return StoppedRun(rng).make()
+
+
+def stopped_run_bundle(rng):
+    """In a random order of its chunks."""
+    return bundle_bytes(shuffled(rng, stopped_run(rng)))
 
 
 # ------------------------------------------------- races of one interval
@@ -352,14 +468,15 @@ def damage_bytes(rng, data):
     end = min(len(data), at + rng.choice((1, 1, 2, 4, 12)))
     turn = rng.randrange(6)
     if turn == 0:
-        return bytes(data[:at])  # cut
+        return bytes(data[:at])  # torn
     if turn == 1:
         return flip_bit(rng, data)
     if turn == 2 and data:
-        data[rng.randrange(len(data))] = rng.randrange(256)
+        data[rng.randrange(len(data))] = rng.choice((rng.randrange(256), rng.randrange(256), sr.CUT))
         return bytes(data)
     if turn == 3:
-        return bytes(data[:at]) + rng.randbytes(rng.randint(1, 4)) + bytes(data[at:])  # inserted
+        more = rng.choice((rng.randbytes(rng.randint(1, 4)), rng.randbytes(1), bytes([sr.CUT])))
+        return bytes(data[:at]) + more + bytes(data[at:])  # inserted
     if turn == 4:
         return bytes(data[:at] + data[end:])  # dropped
     return bytes(data[:end] + data[at:])  # doubled
@@ -377,7 +494,7 @@ def damage_chunks(rng, chunks):
     chunks = [list(c) for c in shuffled(rng, chunks)]
     chunk = rng.choice(chunks)
     at = rng.randrange(len(chunk))
-    turn = rng.randrange(7)
+    turn = rng.randrange(8)
     if turn == 0:
         del chunk[at]
     elif turn == 1:
@@ -390,6 +507,8 @@ def damage_chunks(rng, chunks):
         chunks.remove(chunk)
     elif turn == 5:
         chunks.insert(rng.randint(0, len(chunks)), chunk)
+    elif turn == 6:
+        chunk[-1] = Command(sr.END if chunk[-1] == CUT else sr.CUT, ())
     else:
         other = rng.randrange(len(chunk))
         chunk[at], chunk[other] = chunk[other], chunk[at]
@@ -401,6 +520,7 @@ def random_extra(rng):
     return rng.choice((
         Command(sr.BARRIER, ()),
         Command(sr.END, ()),
+        CUT,
         Command(sr.MEMBER, (rng.randrange(4), rng.randrange(4))),
         Command(sr.REGION, (rng.randrange(1, 6), rng.randint(1, 3))),
         Command(sr.ACQUIRE, (rng.randrange(3),)),
@@ -419,7 +539,31 @@ def change_operand(rng, command):
     return Command(command.code, tuple(operands))
 
 
+def unlike_members(rng):
+    """Teams whose members, complete or cut, passed about as many barriers: accepted, 12, 19 or, with a member too many or too few,
+    an earlier refusal."""
+    root, chunks = [Command(sr.MEMBER, (0, 0))], []
+    for team in range(1, rng.randint(2, 3)):
+        size, barriers = rng.randint(2, 4), rng.randint(0, 2)
+        root.append(Command(sr.REGION, (team, size)))
+        for member in range(size + (rng.randrange(12) == 0)):
+            body = [Command(sr.BARRIER, ())] * max(0, barriers + rng.choice((0, 0, 0, 0, -1, 1)))
+            if rng.randrange(6) == 0:
+                body.insert(rng.randint(0, len(body)), Command(sr.ACQUIRE, (3,)))
+            if rng.randrange(6) == 0:
+                inner = 10 * team + member
+                body.insert(rng.randint(0, len(body)), Command(sr.REGION, (inner, 1)))
+                chunks.append([Command(sr.MEMBER, (inner, 0)), rng.choice((CUT, Command(sr.END, ())))])
+            held = any(command.code == sr.ACQUIRE for command in body) and rng.randrange(8)
+            chunks.append([Command(sr.MEMBER, (team, member)), *body, CUT if held else rng.choice((CUT, Command(sr.END, ())))])
+    if rng.randrange(12) == 0:
+        chunks.pop()
+    return shuffled(rng, [root + [Command(sr.END, ())], *chunks])
+
+
 def damaged_bundle(rng, style):
+    if rng.randrange(8) == 0:
+        return bundle_bytes(unlike_members(rng))
     chunks = random_chunks(rng, style)
     if rng.randrange(2):
         return damage_chunks(rng, chunks)

@@ -92,7 +92,7 @@ ODD_NAMES = (
 
 def random_data(rng):
     """The bytes of a file."""
-    kind = rng.randrange(10)
+    kind = rng.randrange(11)
     style = rng.choice((
         generators.SMALL, generators.SMALL, generators.MIDDLE, generators.QUIET, generators.LOCKED, generators.NESTED, generators.AROUND))
     if kind < 3:
@@ -102,18 +102,21 @@ def random_data(rng):
     if kind < 6:
         return generators.damaged_bundle(rng, style)
     if kind == 6:
-        return listing_cases.cut(rng, generators.random_bundle(rng, style))
+        return listing_cases.torn(rng, generators.random_bundle(rng, style))
     if kind == 7:
         return rng.choice((b"", E, E[:40], b"\0", E + b"\n"))
     if kind == 8:
         return race_free(rng)
+    if kind == 9:
+        return generators.stopped_run_bundle(rng)
     return rng.choice((bytes(65536), bytes(65537), bytes(70000), (E * 2000)[:70000], b"\x11" * 200000))
 
 
 def race_free(rng):
-    """A root alone with accesses, or a team that only reads: no race."""
+    """A root alone with accesses, or a team that only reads, some of it cut: no race."""
     accesses = [listing_cases.access(sr.READ, listing_cases.WORD, n) for n in range(rng.randrange(5))]
-    return generators.bundle_bytes(listing_cases.one_team(rng.randint(1, 4), lambda member: accesses))
+    chunks = listing_cases.one_team(rng.randint(1, 4), lambda member: accesses)
+    return generators.bundle_bytes(chunks if rng.randrange(4) else generators.cut_some(rng, chunks))
 
 
 def random_name(rng, number):

@@ -8,8 +8,8 @@ commands; nothing of the second reader's check is used. Lock 62 and the teams fr
 import second_reader as sr
 from second_reader import Command
 
-LENGTHS = {0x01: 4, 0x02: 1, 0x10: 4, 0x11: 1, 0x20: 2, 0x21: 2, 0x30: 12, 0x31: 12, 0x32: 12, 0x33: 12}
-END, BARRIER = Command(sr.END, ()), Command(sr.BARRIER, ())
+LENGTHS = {0x01: 4, 0x02: 1, 0x03: 1, 0x10: 4, 0x11: 1, 0x20: 2, 0x21: 2, 0x30: 12, 0x31: 12, 0x32: 12, 0x33: 12}
+END, CUT, BARRIER = Command(sr.END, ()), Command(sr.CUT, ()), Command(sr.BARRIER, ())
 FREE_LOCK = 62
 FREE_TEAM = 65000
 
@@ -36,7 +36,7 @@ def changed(chunks, index, chunk):
 
 
 def any_place(rng, chunks):
-    """A chunk and a place in it, behind MEMBER and not behind END."""
+    """A chunk and a place in it, behind MEMBER and not behind END or CUT."""
     index = rng.randrange(len(chunks))
     return index, rng.randrange(1, len(chunks[index]))
 
@@ -64,17 +64,17 @@ def unknown_byte(rng, chunks):
     index, at = any_place(rng, chunks)
     place = offset(chunks, index, at)
     data = written(chunks)
-    return data[:place] + bytes([rng.choice((0x00, 0x03, 0x0F, 0x12, 0x22, 0x2F, 0x34, 0xFF))]) + data[place:], 2, place
+    return data[:place] + bytes([rng.choice((0x00, 0x05, 0x0F, 0x12, 0x22, 0x2F, 0x34, 0xFF))]) + data[place:], 2, place
 
 
-def cut_in_command(rng, chunks):
+def torn_in_command(rng, chunks):
     places = [(index, at) for index, chunk in enumerate(chunks) for at, c in enumerate(chunk) if LENGTHS[c.code] > 1]
     index, at = rng.choice(places)
     place = offset(chunks, index, at)
     return written(chunks)[: place + rng.randrange(1, LENGTHS[chunks[index][at].code])], 3, place
 
 
-def cut_between_commands(rng, chunks):
+def torn_between_commands(rng, chunks):
     index, at = any_place(rng, chunks)
     place = offset(chunks, index, at)
     return written(chunks)[:place], 4, place
@@ -88,7 +88,7 @@ def member_inside(rng, chunks):
 
 def between_chunks(rng, chunks):
     index = rng.randrange(len(chunks) + 1)
-    command = rng.choice((END, BARRIER, Command(sr.REGION, (0, 0)), Command(sr.RELEASE, (64,)), Command(sr.READ, (0, 0, 0, 0, 3))))
+    command = rng.choice((END, CUT, BARRIER, Command(sr.REGION, (0, 0)), Command(sr.RELEASE, (64,)), Command(sr.READ, (0, 0, 0, 0, 3))))
     return written([*chunks[:index], [command], *chunks[index:]]), 4, sum(length(chunk) for chunk in chunks[:index])
 
 
@@ -127,12 +127,15 @@ def released_unheld(rng, chunks):
 
 
 def held_at_end(rng, chunks):
+    """At END alone; CUT allows it."""
     index, at = any_place(rng, chunks)
+    if chunks[index][-1] != END:
+        return None
     result, _ = with_command(chunks, index, at, Command(sr.ACQUIRE, (FREE_LOCK,)))
     return written(result), 6, offset(result, index, len(result[index]) - 1)
 
 
-# ----------------------------------------------------------------- 8 to 12
+# --------------------------------------------------------- 8 to 12, and 19
 
 
 def regions_of(chunks):
@@ -216,19 +219,95 @@ def too_deep(rng, chunks):
     return written(result), 11, place
 
 
+def complete_others(chunks, index):
+    """The other complete members of a chunk's team, by their indices."""
+    team = chunks[index][0].operands[0]
+    return [i for i, chunk in enumerate(chunks) if chunk[0].operands[0] == team and i != index and chunk[-1] == END]
+
+
+def barriers_in(chunk):
+    return sum(command == BARRIER for command in chunk)
+
+
+def place_of_unlike(chunks, index, others):
+    """Where a complete member unlike all others is told: at itself, or where it is the lowest-numbered, at the first of the others."""
+    member = chunks[index][0].operands[1]
+    lowest = all(member < chunks[i][0].operands[1] for i in others)
+    return offset(chunks, min(others) if lowest else index)
+
+
 def unlike_barriers(rng, chunks):
-    """A barrier more: told at that member, or where it is member 0, at the first of the others."""
+    """A barrier more in one of several complete members."""
     index, at = any_place(rng, chunks)
-    team, member = chunks[index][0].operands
-    others = [i for i, chunk in enumerate(chunks) if chunk[0].operands[0] == team and i != index]
-    if not others:
+    others = complete_others(chunks, index)
+    if not others or chunks[index][-1] != END:
         return None
     result, _ = with_command(chunks, index, at, BARRIER)
-    return written(result), 12, offset(result, index if member else min(others))
+    return written(result), 12, place_of_unlike(result, index, others)
+
+
+def unlike_beside_cut(rng, chunks):
+    """As unlike_barriers, with member 0 cut behind its MEMBER or REGIONs, so that it has no barriers to be compared."""
+    index, at = any_place(rng, chunks)
+    team, member = chunks[index][0].operands
+    others = [i for i in complete_others(chunks, index) if chunks[i][0].operands[1]]
+    if not others or not member or chunks[index][-1] != END:
+        return None
+    result, _ = with_command(chunks, index, at, BARRIER)
+    result = [stopped(chunk) if chunk[0].operands == (team, 0) else chunk for chunk in result]
+    return written(result), 12, place_of_unlike(result, index, others)
+
+
+def stopped(chunk):
+    """MEMBER and the REGIONs, then CUT."""
+    return [chunk[0], *(command for command in chunk if command.code == sr.REGION), CUT]
+
+
+def too_many_barriers(rng, chunks):
+    """A chunk is cut behind barriers of which the last one or two are more than the complete members have."""
+    index = rng.randrange(len(chunks))
+    others = complete_others(chunks, index)
+    if not others:
+        return None
+    return written(changed(chunks, index, with_barriers(rng, chunks[index], barriers_in(chunks[others[0]])))), 19, offset(chunks, index)
+
+
+def with_barriers(rng, chunk, most):
+    """The chunk with one or two barriers more than so many, then CUT."""
+    result = list(chunk[:-1])
+    for _ in range(most - barriers_in(chunk) + rng.randint(1, 2)):
+        result.insert(rng.randint(1, len(result)), BARRIER)
+    return [*result, CUT]
+
+
+def too_many_in_two(rng, chunks):
+    """The same in two chunks, of one team or of two: told at the lower offset."""
+    first, second = sorted(rng.sample(range(len(chunks)), 2)) if len(chunks) > 1 else (0, 0)
+    others = [[i for i in complete_others(chunks, index) if i not in (first, second)] for index in (first, second)]
+    if not all(others):
+        return None
+    result = list(chunks)
+    for index, complete in zip((first, second), others):
+        result[index] = with_barriers(rng, chunks[index], barriers_in(chunks[complete[0]]))
+    return written(result), 19, offset(result, first)
+
+
+def unlike_and_too_many(rng, chunks):
+    """Both faults: 12 is told, wherever 19 would be."""
+    index, cut = (rng.randrange(len(chunks)) for _ in range(2))
+    others = [i for i in complete_others(chunks, index) if i != cut]
+    if not others or index == cut or chunks[index][-1] != END:
+        return None
+    result, _ = with_command(chunks, index, rng.randrange(1, len(chunks[index])), BARRIER)
+    team = chunks[cut][0].operands[0]
+    most = max((barriers_in(chunk) for chunk in result if chunk[0].operands[0] == team and chunk[-1] == END), default=0)
+    result[cut] = with_barriers(rng, chunks[cut], most)
+    return written(result), 12, place_of_unlike(result, index, others)
 
 
 MAKERS = (
-    unknown_byte, cut_in_command, cut_between_commands, member_inside, between_chunks, out_of_range, member_too_high,
+    unknown_byte, torn_in_command, torn_between_commands, member_inside, between_chunks, out_of_range, member_too_high,
     acquired_twice, released_unheld, held_at_end, forked_twice, never_forked, beyond_size, second_chunk, lacking_chunk,
-    unforked_by_lacking_chunk, too_deep, unlike_barriers,
+    unforked_by_lacking_chunk, too_deep, unlike_barriers, unlike_beside_cut, too_many_barriers, too_many_in_two,
+    unlike_and_too_many,
 )

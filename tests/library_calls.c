@@ -195,6 +195,7 @@ static const char *command_name(uint32_t byte) {
     switch (byte) {
     case DEZHAKOM_MEMBER: return "member";
     case DEZHAKOM_END: return "end";
+    case DEZHAKOM_CUT: return "cut";
     case DEZHAKOM_REGION: return "region";
     case DEZHAKOM_BARRIER: return "barrier";
     case DEZHAKOM_ACQUIRE: return "acquire";
@@ -217,6 +218,7 @@ static size_t fields_of(dezhakom_command *c, uint32_t **fields, size_t *widths) 
     case DEZHAKOM_ACQUIRE:
     case DEZHAKOM_RELEASE: HAS(lock, 1); break;
     case DEZHAKOM_END:
+    case DEZHAKOM_CUT:
     case DEZHAKOM_BARRIER: break;
     default: HAS(site, 2), HAS(base, 4), HAS(stride, 2), HAS(count, 2), HAS(size, 1);
     }

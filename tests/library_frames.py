@@ -9,7 +9,7 @@ import aimed_cases
 import generators
 import second_reader as sr
 import verdict_cases
-from bundle_cases import listed_bundles, locked_nests, short_aimed_bundles, small_damaged, small_good
+from bundle_cases import listed_bundles, locked_nests, short_aimed_bundles, small_damaged, small_good, stopped_runs
 from bundle_text import bundle
 from command_cases import limit_commands, random_command
 from second_reader import Command
@@ -28,6 +28,7 @@ FIELDS = {
     sr.ACQUIRE: ("lock",),
     sr.RELEASE: ("lock",),
     sr.END: (),
+    sr.CUT: (),
     sr.BARRIER: (),
     **{code: ACCESS_FIELDS for code in sr.ACCESSES},
 }
@@ -174,7 +175,7 @@ def list_frames(seed):
             yield list_frame(area, 0xFFFFFFFF, needed(data), 1, data)
     bundles = [e, late, verdict_cases.ALIKE] + listed_bundles() + small_good(rng, 40) + locked_nests(rng, 20) + short_aimed_bundles()
     styles = (*generators.STYLES, generators.DENSE, generators.MANY_DENSE)
-    bundles += [generators.random_bundle(rng, style) for style in styles] + small_damaged(rng, 30)
+    bundles += [generators.random_bundle(rng, style) for style in styles] + small_damaged(rng, 30) + stopped_runs(rng, 20)
     for data in bundles:
         for lengths in some_lengths(rng, data):
             filler = rng.choice((0, 1, 0x5A5A5A5A, 0xFFFFFFFF))

@@ -12,7 +12,8 @@ RUST = ROOT / "bindings" / "rust" / "src" / "ffi.rs"
 NUMBERS = {"u8": "uint8_t", "u16": "uint16_t", "u32": "uint32_t", "u64": "uint64_t", "usize": "size_t"}
 
 CONSTANTS = {
-    "MEMBER": sr.MEMBER, "END": sr.END, "REGION": sr.REGION, "BARRIER": sr.BARRIER, "ACQUIRE": sr.ACQUIRE, "RELEASE": sr.RELEASE,
+    "MEMBER": sr.MEMBER, "END": sr.END, "CUT": sr.CUT, "REGION": sr.REGION, "BARRIER": sr.BARRIER,
+    "ACQUIRE": sr.ACQUIRE, "RELEASE": sr.RELEASE,
     "READ": sr.READ, "WRITE": sr.WRITE, "ATOMIC_READ": sr.ATOMIC_READ, "ATOMIC_WRITE": sr.ATOMIC_WRITE,
     "MOST_BYTES": sr.MOST_BYTES, "MOST_SEGMENTS": sr.MOST_SEGMENTS, "MOST_ACCESSES": sr.MOST_ACCESSES,
     "MOST_RACES": sr.MOST_ACCESSES * (sr.MOST_ACCESSES - 1) // 2, "MOST_TEAM": 65535, "MOST_MEMBERS": 64,

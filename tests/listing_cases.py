@@ -114,6 +114,22 @@ def intervals(size, barriers, accesses):
     return one_team(size, commands)
 
 
+def cut_all(chunk):
+    """CUT in place of END."""
+    return generators.cut_at(chunk, len(chunk) - 1)
+
+
+def stairs(size, barriers, accesses):
+    """As intervals, with member m cut at the end of interval m modulo one more than the barriers; the last interval's are complete."""
+    root, *members = intervals(size, barriers, accesses)
+    for member, chunk in enumerate(members):
+        interval = member % (barriers + 1)
+        if interval < barriers:
+            ends = [at for at, command in enumerate(chunk) if command == BARRIER]
+            members[member] = generators.cut_at(chunk, ends[interval])
+    return [root, *members]
+
+
 def nested(rng, size, accesses, locks=0):
     """Teams of a size, each of whose members forks another, four deep; so many accesses in each chunk. With locks, each chunk
     holds one of so many, around the region or not, or none."""
@@ -174,10 +190,10 @@ def fixed_bundles():
         yield title, data
     for case in race_cases.ALL:
         yield case.title, bundle(case.text)
-    for cut in range(len(E)):
-        yield f"the first {cut} bytes of E", E[:cut]
+    for length in range(len(E)):
+        yield f"the first {length} bytes of E", E[:length]
     for place in range(len(E)):
-        for byte in (0x00, 0x11, 0xFF):
+        for byte in (0x00, 0x03, 0x11, 0xFF):
             yield f"E with {byte:#04x} at {place}", E[:place] + bytes([byte]) + E[place + 1 :]
     yield from limit_bundles()
     for length in (65536, 65537, 65538, 65540, 66000, 131072, 131073, 200000, 1000000):
@@ -211,6 +227,10 @@ def limit_bundles():
         ("teams of 4 four deep with locks", nested(rng, 4, 2, 2)),
         ("teams of 2 four deep with locks", nested(rng, 2, 12, 3)),
         ("coprime strides", coprime_strides(rng, 16, 12)),
+        ("all limits reached, then cut", generators.cut_some(rng, full)),
+        ("64 members, 6 barriers, cut one after the other", stairs(64, 6, 2)),
+        ("64 members, 6 barriers, none complete", [cut_all(chunk) for chunk in intervals(64, 6, 2)]),
+        ("teams of 4 four deep, all cut", [cut_all(chunk) for chunk in nested(rng, 4, 3)]),
         ("one byte too many", with_barrier(full)),
     )
     for title, chunks in shaped:
@@ -220,20 +240,20 @@ def limit_bundles():
 def with_barrier(chunks):
     """One command of one byte more, in the root."""
     root = generators.root_of(chunks)
-    return [chunk[:-1] + [BARRIER, END] if chunk is root else chunk for chunk in chunks]
+    return [chunk[:-1] + [BARRIER, chunk[-1]] if chunk is root else chunk for chunk in chunks]
 
 
 # -------------------------------------------------------- fresh in each run
 
 
 def random_bundles(seed):
-    """Some hundred bundles made from the seed: good, damaged and cut, and some at the limits."""
+    """Some hundred bundles made from the seed: good, damaged and torn, and some at the limits."""
     rng = random.Random(seed)
     for style in generators.STYLES:
         for _ in range(12):
             yield "good", generators.random_bundle(rng, style)
             yield "damaged", generators.damaged_bundle(rng, style)
-        yield "cut", cut(rng, generators.random_bundle(rng, style))
+        yield "torn", torn(rng, generators.random_bundle(rng, style))
         yield "damaged twice", generators.damage_bytes(rng, generators.damaged_bundle(rng, style))
     for style in (generators.SMALL, generators.MIDDLE):
         chunks = generators.shuffled(rng, generators.random_chunks(rng, style))
@@ -244,14 +264,17 @@ def random_bundles(seed):
         yield "races of one interval", generators.bundle_bytes(generators.shuffled(rng, generators.one_interval(rng)))
     for _ in range(12):
         yield "locks around regions", generators.locked_nest_bundle(rng)
+        yield "cut chunks", generators.stopped_run_bundle(rng)
+        yield "unlike members", generators.bundle_bytes(generators.unlike_members(rng))
     yield "any bytes", rng.randbytes(rng.randrange(200))
     yield "any commands", b"".join(bytes([rng.choice(list(sr.WIDTHS)), *rng.choices((0, 1, 2, 4), k=rng.randrange(12))])
                                    for _ in range(rng.randrange(30)))
     for title, chunks in large_chunks(rng):
         data = generators.bundle_bytes(generators.shuffled(rng, chunks))
         yield title, data
+        yield title + ", cut", generators.bundle_bytes(generators.shuffled(rng, generators.with_cuts(rng, chunks)))
         yield title + ", damaged", generators.damage_bytes(rng, data)
-        yield title + ", cut", cut(rng, data)
+        yield title + ", torn", torn(rng, data)
     yield from too_long(rng)
 
 
@@ -271,7 +294,7 @@ def large_chunks(rng):
         yield title, make()
 
 
-def cut(rng, data):
+def torn(rng, data):
     return data[: rng.randrange(len(data) + 1)]
 
 

@@ -2,7 +2,7 @@
 
 from collections import namedtuple
 
-from aimed_cases import E, E_LATE_READ
+from aimed_cases import E, E_LATE_READ, E_STOPPED
 
 # elements has two numbers for each race; where it is not given, all are 0
 Listing = namedtuple("Listing", "title text lines elements", defaults=[None])
@@ -116,6 +116,34 @@ AROUND = [
             races_of("5 8 3", "1.1.0 2 2.0.0 1")),
     Listing("held around the chunk's own region, not at the access",
             sides(f"{W1}; {held(3, 'region 2 1')}", held(3, W2), "2 0"), races_of("4 6 2", "1.0.0 1 1.1.0 2")),
+]
+
+
+
+def team(*chunks, before="", after="", close="end"):
+    """A root and team 1; each member's commands end with its END or CUT."""
+    members = "".join(f"\n        member 1 {number}; {commands}" for number, commands in enumerate(chunks))
+    return f"""
+        member 0 0; {before}; region 1 {len(chunks)}; {after}; {close}""" + members
+
+
+# Cut chunks. These are computed too.
+CUT = [
+    Listing("a missing barrier comes after the last command", team(f"{W1}; cut", f"barrier; {W2}; end"), races_of("3 5 2")),
+    Listing("a missing barrier does not come before the chunk", team(f"{W1}; cut", f"{W2}; barrier; {write(4)}; end"),
+            races_of("3 5 3", "1.0.0 1 1.1.0 2")),
+    Listing("a second missing barrier", team(f"{W1}; cut", f"barrier; barrier; {W2}; end"), races_of("3 6 2")),
+    Listing("behind as many barriers", team(f"barrier; {W1}; cut", f"barrier; {W2}; end"), races_of("3 6 2", "1.0.0 1 1.1.0 2")),
+    Listing("no complete member", team(f"{W1}; cut", f"barrier; {W2}; cut"), races_of("3 5 2")),
+    Listing("the join from the last segment", team(f"barrier; {W1}; cut", "barrier; end", after=write(9)), races_of("3 6 2")),
+    Listing("two cut chunks lack different barriers",
+            team(f"{W1}; cut", f"barrier; {W2}; cut", f"barrier; {write(4)}; barrier; {write(5)}; end"),
+            races_of("4 8 4", "1.1.0 2 1.2.0 4")),
+    Listing("a barrier that one member lacks orders the others", team("cut", f"{W1}; barrier; end", f"barrier; {W2}; end"),
+            races_of("4 7 2")),
+    Listing("an access behind a region of a cut chunk", team(f"region 2 1; {W2}; cut", "end") + f"\n        member 2 0; {W1}; end",
+            races_of("4 6 2")),
+    Listing("a lock held at CUT", team(f"acquire 3; {W1}; cut", f"{held(3, W2)}; end"), races_of("3 4 2")),
 ]
 
 ORDERED = [
@@ -247,7 +275,7 @@ COVERED = [
             [(0, 0), (1, 0), (7, 0)]),
 ]
 
-LISTINGS = ORDERED + KINDS + LOCKED + AROUND + SHARED + SORTED + COVERED
+LISTINGS = ORDERED + KINDS + LOCKED + AROUND + CUT + SHARED + SORTED + COVERED
 
 # The same with long ranges, which the computed examples leave out.
 LONG = [
@@ -436,4 +464,79 @@ DEEP = [
 
 LOCKED_AROUND = AT_REGIONS + IN_MEMBERS + OF_THE_LINEAGE + TOGETHER + WITH_ORDER + DEEP
 
-ALL = LISTINGS + LONG + LOCKED_AROUND
+# More cut chunks, which the computed examples leave out. First: what a missing barrier orders.
+MISSING = [
+    Listing("the openings of all members", team(f"{W1}; cut", f"barrier; {W2}; end", f"barrier; {write(4)}; end"),
+            races_of("4 7 3", "1.1.0 2 1.2.0 4")),
+    Listing("the opening in a cut chunk", team(f"{W1}; cut", f"barrier; {W2}; cut", "barrier; barrier; end"), races_of("4 8 2")),
+    Listing("the opening of a higher member, all cut", team(f"barrier; {W1}; cut", f"barrier; barrier; {W2}; cut"), races_of("3 7 2")),
+    Listing("the opening of a lower member, all cut", team(f"barrier; barrier; {W1}; cut", f"barrier; {W2}; cut"), races_of("3 7 2")),
+    Listing("the second of three, from behind the first",
+            team(f"barrier; {W1}; cut", f"barrier; barrier; {W2}; barrier; end"), races_of("3 8 2")),
+    Listing("the first of three is there and orders nothing behind it",
+            team(f"barrier; {W1}; cut", f"{write(4)}; barrier; {W2}; barrier; barrier; end"), races_of("3 8 3", "1.0.0 1 1.1.1 2")),
+    Listing("more barriers than member 0 has",
+            team("barrier; cut", f"barrier; {W1}; barrier; end", f"barrier; barrier; {W2}; end"), races_of("4 10 2")),
+    Listing("from all segments of the chunk", team(f"{W1}; barrier; {write(4)}; cut", f"barrier; barrier; {W2}; end"), races_of("3 7 3")),
+    Listing("from the segment that a REGION opens",
+            team(f"region 2 1; {W1}; cut", f"barrier; {W2}; end") + "\n        member 2 0; end", races_of("4 7 2")),
+    Listing("the intervals of three cut chunks",
+            team(f"{W1}; cut", f"{W2}; barrier; {write(4)}; cut", f"{write(5)}; barrier; {write(6)}; barrier; {write(7)}; cut"),
+            races_of("4 8 6", "1.0.0 1 1.1.0 2", "1.0.0 1 1.2.0 5", "1.1.0 2 1.2.0 5", "1.1.1 4 1.2.1 6")),
+    Listing("chunks back to front", f"""
+        member 1 1; barrier; {W2}; end
+        member 1 0; {W1}; cut
+        member 0 0; region 1 2; cut""", races_of("3 5 2")),
+    Listing("E, member 1 cut behind its read", team("write 10 4096 8 2 4; barrier; end", "read 20 4106 0 1 4; cut"),
+            listing("3 5 2", "0000100a 1.0.0 10 1.1.0 20"), [(1, 0)]),
+    Listing("E with a late read, stopped", E_STOPPED, listing("3 5 2")),
+]
+
+# Joins, and regions inside cut chunks.
+CUT_REGIONS = [
+    Listing("the join from a chunk cut behind MEMBER", team("cut", f"{W1}; end", after=write(9)), races_of("3 4 2")),
+    Listing("the join from a chunk that lacks a barrier", team(f"{W1}; cut", "barrier; end", after=write(9)), races_of("3 5 2")),
+    Listing("the join from two cut chunks", team(f"barrier; {W1}; cut", f"barrier; {W2}; cut", after=write(9)),
+            races_of("3 6 3", "1.0.0 1 1.1.0 2")),
+    Listing("the join below a cut root", team(f"barrier; {W1}; end", "barrier; end", after=write(9), close="cut"), races_of("3 6 2")),
+    Listing("the fork by a cut root", team(f"barrier; {W1}; cut", "barrier; end", before=write(9), close="cut"), races_of("3 6 2")),
+    Listing("the join of an inner team from its last segments",
+            team(f"region 2 2; {write(9)}; end", "end") + f"\n        member 2 0; barrier; {W1}; cut\n        member 2 1; barrier; end",
+            races_of("5 9 2")),
+    Listing("an inner chunk before its forking chunk's missing barrier",
+            team("region 2 1; cut", f"barrier; {W2}; end") + f"\n        member 2 0; {W1}; cut", races_of("4 7 2")),
+    Listing("an inner chunk, and the interval before the missing barrier",
+            team("region 2 1; cut", f"{W2}; barrier; end") + f"\n        member 2 0; {W1}; cut", races_of("4 7 2", "1.1.0 2 2.0.0 1")),
+    Listing("inner teams on both sides of a missing barrier",
+            team("region 2 1; cut", "barrier; region 3 1; end") + f"\n        member {IN_2}; end\n        member {IN_3}; end",
+            races_of("5 9 2")),
+    Listing("inner teams on one side of a missing barrier",
+            team("region 2 1; cut", "region 3 1; barrier; end") + f"\n        member {IN_2}; end\n        member {IN_3}; end",
+            races_of("5 9 2", "2.0.0 1 3.0.0 2")),
+    Listing("an inner missing barrier does not order an outer sibling",
+            team("region 2 2; cut", f"{W2}; end") + f"\n        member 2 0; {W1}; cut\n        member 2 1; barrier; end",
+            races_of("5 8 2", "1.1.0 2 2.0.0 1")),
+    Listing("two regions of a cut chunk", team("region 2 1; region 3 1; cut", "end") + f"""
+        member {IN_2}; cut
+        member {IN_3}; cut""", races_of("5 8 2")),
+]
+
+# Locks that are held where a chunk is cut.
+HELD_AT_CUT = [
+    Listing("different locks held at CUT", team(f"acquire 3; {W1}; cut", f"acquire 4; {W2}; cut"), races_of("3 4 2", "1.0.0 1 1.1.0 2")),
+    Listing("one of two locks released before CUT",
+            team(f"acquire 3; acquire 4; release 3; {W1}; cut", f"acquire 3; {W2}; cut"), races_of("3 4 2", "1.0.0 1 1.1.0 2")),
+    Listing("held around a region up to CUT",
+            team("acquire 3; region 2 1; cut", "acquire 3; region 3 1; cut") + f"\n        member {IN_2}; cut\n        member {IN_3}; end",
+            NEITHER),
+    Listing("held around one region up to CUT",
+            team("acquire 3; region 2 1; cut", "acquire 4; region 3 1; cut") + f"\n        member {IN_2}; cut\n        member {IN_3}; end",
+            BOTH_INNER),
+    Listing("acquired behind the REGION and held at CUT",
+            team("region 2 1; acquire 3; cut", "acquire 3; region 3 1; cut") + f"\n        member {IN_2}; cut\n        member {IN_3}; end",
+            BOTH_INNER),
+]
+
+STOPPED = MISSING + CUT_REGIONS + HELD_AT_CUT
+
+ALL = LISTINGS + LONG + LOCKED_AROUND + STOPPED

@@ -1,5 +1,6 @@
 """The races of a good bundle by another way than the second reader's: from the commands that a generator made, by labels
-and tables of bytes. Nothing of the second reader's bundles, graph and races is used; ranges must be short.
+and tables of bytes. Nothing of the second reader's bundles, graph and races is used; ranges must be short. A barrier missing from a
+cut chunk has no label: all that the chunk did is in lower intervals.
 """
 
 from collections import namedtuple

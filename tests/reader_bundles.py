@@ -3,8 +3,8 @@
 from collections import Counter, namedtuple
 
 from reader_commands import (
-    ACCESSES, ACQUIRE, BARRIER, END, MEMBER, OPENS_SEGMENT, REGION, RELEASE,
-    Range, Refused, cut_command, operands_are_good,
+    ACCESSES, ACQUIRE, BARRIER, CLOSES_CHUNK, END, MEMBER, OPENS_SEGMENT, REGION, RELEASE,
+    Range, Refused, take_command, operands_are_good,
 )
 
 MOST_BYTES, MOST_SEGMENTS, MOST_ACCESSES, MOST_DEPTH = 65536, 512, 1024, 4
@@ -21,7 +21,8 @@ class Chunk:
         self.team = team
         self.member = member
         self.offset = offset  # of its MEMBER
-        self.end = None  # the offset after its END
+        self.end = None  # the offset after its END or CUT
+        self.complete = None  # whether it is closed by END
         self.segments = [Segment(0, 0)]
         self.forks = []
         self.accesses = []
@@ -54,17 +55,11 @@ class Bundle:
 
 
 def check(data):
-    """Answers the Bundle, or refuses with 1 to 12."""
+    """Answers the Bundle, or refuses with 1 to 12 or 19."""
     if len(data) > MOST_BYTES:
         raise Refused(1, 0)
     chunks = scan(data)
-    for number, places in (
-        (8, places_forked_before),
-        (9, places_of_stray_chunks),
-        (10, places_lacking_chunks),
-        (11, places_too_deep),
-        (12, places_of_unlike_barriers),
-    ):
+    for number, places in SHAPE:
         found = places(chunks)
         if found:
             raise Refused(number, min(found))
@@ -78,7 +73,7 @@ def scan(data):
     opened = Counter()
     position = 0
     while position < len(data):
-        command, after = cut_command(data, position)  # 2, 3
+        command, after = take_command(data, position)  # 2, 3
         number = why_not_here(command, chunk, opened)
         if number:
             raise Refused(number, position)
@@ -89,8 +84,8 @@ def scan(data):
             apply_command(chunk, command, position)
         opened["segments"] += command.code in OPENS_SEGMENT
         opened["accesses"] += command.code in ACCESSES
-        if command.code == END:
-            chunk.end = after
+        if command.code in CLOSES_CHUNK:
+            chunk.end, chunk.complete = after, command.code == END
             chunk = None
         position = after
     if chunk is not None:
@@ -193,10 +188,33 @@ def places_too_deep(chunks):
     return [f.offset for f in all_forks(chunks) if depth(f.team) > MOST_DEPTH]
 
 
+def complete_barriers(chunks):
+    """Of each team that has a complete member, the barriers of the lowest-numbered one."""
+    complete = sorted((c for c in chunks if c.complete), key=lambda c: c.member, reverse=True)
+    return {c.team: c.barriers() for c in complete}  # the last one stays
+
+
 def places_of_unlike_barriers(chunks):
-    """12: a barrier count unlike member 0's."""
-    wanted = {c.team: c.barriers() for c in chunks if c.member == 0}
-    return [c.offset for c in chunks if c.barriers() != wanted[c.team]]
+    """12: a complete member's barrier count unlike that of the lowest-numbered complete one."""
+    wanted = complete_barriers(chunks)
+    return [c.offset for c in chunks if c.complete and c.barriers() != wanted[c.team]]
+
+
+def places_of_too_many_barriers(chunks):
+    """19: a cut chunk with more barriers than the complete members of its team, which agree once 12 has passed."""
+    most = complete_barriers(chunks)
+    return [c.offset for c in chunks if not c.complete and c.team in most and c.barriers() > most[c.team]]
+
+
+# What whole bundles show: each refusal with its places, in the order of the tests.
+SHAPE = (
+    (8, places_forked_before),
+    (9, places_of_stray_chunks),
+    (10, places_lacking_chunks),
+    (11, places_too_deep),
+    (12, places_of_unlike_barriers),
+    (19, places_of_too_many_barriers),
+)
 
 
 def find_chunk(data, team, member):

@@ -2,16 +2,18 @@
 
 from collections import namedtuple
 
-MEMBER, END, REGION, BARRIER, ACQUIRE, RELEASE = 0x01, 0x02, 0x10, 0x11, 0x20, 0x21
+MEMBER, END, CUT, REGION, BARRIER, ACQUIRE, RELEASE = 0x01, 0x02, 0x03, 0x10, 0x11, 0x20, 0x21
 READ, WRITE, ATOMIC_READ, ATOMIC_WRITE = 0x30, 0x31, 0x32, 0x33
 ACCESSES = (READ, WRITE, ATOMIC_READ, ATOMIC_WRITE)
 OPENS_SEGMENT = (MEMBER, REGION, BARRIER)
+CLOSES_CHUNK = (END, CUT)
 
 # The width in bytes of each operand, in order.
 ACCESS_WIDTHS = (2, 4, 2, 2, 1)  # site, base, stride, count, size
 WIDTHS = {
     MEMBER: (2, 1),  # team, member
     END: (),
+    CUT: (),
     REGION: (2, 1),  # team, size
     BARRIER: (),
     ACQUIRE: (1,),  # lock
@@ -84,7 +86,7 @@ def command_bytes(command):
     return out
 
 
-def cut_command(data, position):
+def take_command(data, position):
     """The command at a position without the test of its operands."""
     if position >= len(data):
         raise Refused(18, position)
@@ -99,7 +101,7 @@ def cut_command(data, position):
 
 def read_command(data, position):
     """Answers the command and the position after it."""
-    command, after = cut_command(data, position)
+    command, after = take_command(data, position)
     if not operands_are_good(command):
         raise Refused(5, position)
     return command, after

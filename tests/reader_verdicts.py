@@ -33,17 +33,23 @@ def add_fork_edges(bundle, edges, fork):
 
 
 def add_barrier_edges(bundle, edges, team):
-    """For each barrier number: all segments ending there to all opening there."""
+    """For each barrier number: all segments ending there to all opening there. What is missing from a cut chunk comes after
+    its last command: its last segment ends there, and none opens."""
     members = bundle.members(team)
-    for number in range(1, members[0].barriers() + 1):
-        opening = [(team, c.member, segment_opened(c, number)) for c in members]
-        for _, member, n in opening:
-            edges[team, member, n - 1].update(opening)
+    for number in range(1, max(c.barriers() for c in members) + 1):
+        opening = [(team, c.member, segment_opened(c, number)) for c in members if number <= c.barriers()]
+        for chunk in members:
+            edges[team, chunk.member, segment_ended(chunk, number)].update(opening)
 
 
 def segment_opened(chunk, barrier):
     """The segment that the chunk's barrier of this number, from 1, opens."""
     return next(n for n, s in enumerate(chunk.segments) if s.barriers == barrier)
+
+
+def segment_ended(chunk, barrier):
+    """The segment that ends at the barrier of this number: the last one where the chunk lacks it."""
+    return segment_opened(chunk, barrier) - 1 if barrier <= chunk.barriers() else len(chunk.segments) - 1
 
 
 def reached_from(edges, start):
@@ -127,9 +133,9 @@ def racing_pairs(bundle):
     return [pair for pair in clashing_pairs(bundle) if not common_locks(bundle, lineages, pair.first, pair.second)]
 
 
-def clashing_pairs(bundle):
+def clashing_pairs(bundle, edges_of=graph_edges):
     """The pairs that meet every condition of a race but the one on locks, in the order of races."""
-    edges = graph_edges(bundle)
+    edges = edges_of(bundle)
     accesses = sorted(bundle.accesses(), key=lambda a: a.name)
     reach = {s: reached_from(edges, s) for s in {segment_of(a) for a in accesses}}
     pairs = []

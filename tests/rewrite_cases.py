@@ -49,6 +49,9 @@ OTHERS = [
         ("equal chunks but for the member",
          "member 1 1; write 1 0 0 1 1; end; member 1 0; write 1 0 0 1 1; end; member 0 0; region 1 2; end",
          "member 0 0; region 1 2; end; member 1 0; write 1 0 0 1 1; end; member 1 1; write 1 0 0 1 1; end"),
+        ("cut chunks and complete ones",
+         "member 1 1; acquire 3; cut; member 1 2; barrier; end; member 1 0; barrier; cut; member 0 0; region 1 3; cut",
+         "member 0 0; region 1 3; cut; member 1 0; barrier; cut; member 1 1; acquire 3; cut; member 1 2; barrier; end"),
         ("commands within a chunk stay as they are",
          "member 1 0; write 9 8 0 1 1; acquire 3; read 2 4 0 1 1; release 3; end; member 0 0; barrier; region 1 1; acquire 1; release 1; end",
          "member 0 0; barrier; region 1 1; acquire 1; release 1; end; member 1 0; write 9 8 0 1 1; acquire 3; read 2 4 0 1 1; release 3; end"),
@@ -66,6 +69,7 @@ PAIRS = [
     ("the members' logs exchanged",
      bundle("member 0 0; region 1 2; end; member 1 0; read 1 0 0 1 1; end; member 1 1; end"),
      bundle("member 0 0; region 1 2; end; member 1 0; end; member 1 1; read 1 0 0 1 1; end"), False),
+    ("CUT in place of END", bundle("member 0 0; end"), bundle("member 0 0; cut"), False),
     ("one team more", bundle("member 0 0; end"), bundle("member 0 0; region 1 1; end; member 1 0; end"), False),
 ]
 
@@ -77,6 +81,7 @@ def rewrite_frames(seed, count=150):
     for _ in range(count):
         make = generators.random_bundle if rng.random() < 0.7 else generators.damaged_bundle
         given.append(make(rng, rng.choice(generators.STYLES)))
+    given += [generators.stopped_run_bundle(rng) for _ in range(count // 8)]
     for data in given:
         if len(data) > 4000:
             continue

@@ -5,8 +5,9 @@ Every operation either returns its answer or raises Refused(number, place).
 The parts stand in reader_commands, reader_bundles, reader_order,
 reader_verdicts and reader_builds; this module gives all of their names.
 Of document 02's requests, rewriting (A.1) stands in reader_rewriting,
-elements (A.2) in reader_order, carried by the races of reader_verdicts, and
-the locks held around a region (A.3) in reader_verdicts.
+elements (A.2) in reader_order, carried by the races of reader_verdicts,
+the locks held around a region (A.3) in reader_verdicts, and cut chunks (A.4)
+in reader_commands, reader_bundles and, their edges, in reader_verdicts.
 """
 
 from reader_commands import *

@@ -25,6 +25,7 @@ ACCESS_NAMES = {
 COMMAND_NAMES = {
     sr.MEMBER: "member",
     sr.END: "end",
+    sr.CUT: "cut",
     sr.REGION: "region",
     sr.BARRIER: "barrier",
     sr.ACQUIRE: "acquire",

@@ -6,7 +6,7 @@ import aimed_cases
 import generators
 import race_cases
 import second_reader as sr
-from bundle_cases import listed_bundles, locked_nests, short_aimed_bundles, small_damaged, small_good
+from bundle_cases import listed_bundles, locked_nests, short_aimed_bundles, small_damaged, small_good, stopped_runs
 from bundle_text import bundle
 from second_reader import Command
 from vector_frames import judge_frame, next_frame
@@ -74,6 +74,12 @@ def judge_frames(seed):
         yield from judge_some_orders(rng, generators.one_interval(rng))
         yield from judge_some_orders(rng, generators.random_chunks(rng, generators.DENSE))
         yield from judge_some_orders(rng, generators.locked_nest(rng))
+    for _ in range(8):
+        yield from judge_some_orders(rng, generators.locked_nest(rng))
+    for data in stopped_runs(rng, 100):
+        yield judge_frame(some_area(rng), data)
+    for _ in range(10):
+        yield from judge_some_orders(rng, generators.stopped_run(rng))
     for _ in range(4):
         yield from judge_all_orders(rng)
         yield from judge_some_orders(rng, generators.random_chunks(rng, generators.MANY_DENSE))
@@ -117,7 +123,7 @@ def next_frames(seed):
     for data in [E, ALIKE] + listed_bundles(race_cases.LISTINGS + race_cases.LONG) + small_good(rng, 25):
         yield from walk(rng, data)
         yield from outside_of_all(rng, data)
-    for data in listed_bundles(race_cases.LOCKED_AROUND) + locked_nests(rng, 12):
+    for data in listed_bundles(race_cases.LOCKED_AROUND + race_cases.STOPPED) + locked_nests(rng, 12) + stopped_runs(rng, 12):
         yield from walk(rng, data)
     for style in (generators.MIDDLE, generators.NESTED, generators.LOCKED, generators.FAR, generators.QUIET):
         yield from walk(rng, generators.random_bundle(rng, style))
@@ -183,7 +189,7 @@ def beside(key):
 
 
 def large_verdict_frames(seed):
-    """Judgements of bundles at the limits, and 13 before 1."""
+    """Judgements of bundles at the limits, of the same with cut chunks, and 13 before 1."""
     rng = random.Random(seed)
     yield judge_frame((16383, 1), TOO_LONG)
     yield judge_frame((16384, 1), TOO_LONG)
@@ -191,7 +197,7 @@ def large_verdict_frames(seed):
     yield next_frame((20000, 1), *BELOW_ALL, TOO_LONG)
     for style in (generators.LARGE, generators.QUIET):
         chunks = generators.full_bundle(rng, style)
-        for order in (chunks, generators.shuffled(rng, chunks)):
+        for order in (chunks, generators.shuffled(rng, generators.cut_some(rng, chunks))):
             data = generators.bundle_bytes(order)
             yield judge_frame(some_area(rng), data)
             yield next_frame(some_area(rng), generators.BASE + 20, LOWEST, LOWEST, data)
