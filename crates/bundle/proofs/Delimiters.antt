@@ -7,7 +7,7 @@ use native.Mathlib.Omega.{arith}
 use lib.ListN.{length}
 use Rattle.bundle.specs.Cases.{onDelimiter, onOpening, onRegion, onAccess}
 use Rattle.bundle.specs.Commands.{formOf, codeOf, widthsOf, operandBytes, bytesOf}
-use Rattle.bundle.specs.Chunks.{afterBarrier, afterJoin, afterAcquire, afterRelease, afterCommand}
+use Rattle.bundle.specs.Chunks.{afterBarrier, afterJoin, afterAcquire, afterRelease, afterCommand, isEnd}
 use Rattle.bundle.specs.Walk.{opensSegment}
 use Rattle.bundle.specs.declared.chunk.ChunkState.{ChunkState}
 use Rattle.bundle.specs.declared.command.Access.{Access}
@@ -15,7 +15,7 @@ use Rattle.bundle.specs.declared.command.Command.{Command}
 use Rattle.bundle.specs.declared.command.Command.the-variants as Com
 use Rattle.bundle.proofs.Tests.{false-is-true}
 
--- neither MEMBER nor END
+-- neither MEMBER nor END nor CUT
 unfoldable pub plain : Command → Bool
 plain = onDelimiter true (λ t m. false) false
 
@@ -32,6 +32,7 @@ module _ {A : Type 0} (other : A) (opening : ℕ → ℕ → A) (closing : A) wh
   on-plain (Com.Acquire l) e = refl
   on-plain (Com.Release l) e = refl
   on-plain (Com.Access a) e = refl
+  on-plain Com.Cut e = false-is-true e
 
   pub on-closes : (c : Command) → closes c ≡ true → onDelimiter other opening closing c ≡ closing
   unfolding closes
@@ -42,6 +43,7 @@ module _ {A : Type 0} (other : A) (opening : ℕ → ℕ → A) (closing : A) wh
   on-closes (Com.Acquire l) e = false-is-true e
   on-closes (Com.Release l) e = false-is-true e
   on-closes (Com.Access a) e = false-is-true e
+  on-closes Com.Cut e = refl
 
 pub data Delimiter : Command → Type 0 where
   opens-chunk : (t m : ℕ) → Delimiter (Com.Member t m)
@@ -57,6 +59,7 @@ delimits Com.Barrier = neither refl
 delimits (Com.Acquire l) = neither refl
 delimits (Com.Release l) = neither refl
 delimits (Com.Access a) = neither refl
+delimits Com.Cut = closes-chunk refl
 
 -- REGION, or a command that forks no team
 unfoldable pub forking : Command → Bool
@@ -71,6 +74,7 @@ on-other other region Com.Barrier e = refl
 on-other other region (Com.Acquire l) e = refl
 on-other other region (Com.Release l) e = refl
 on-other other region (Com.Access a) e = refl
+on-other other region Com.Cut e = refl
 
 pub data Forking : Command → Type 0 where
   forks-team : (t z : ℕ) → Forking (Com.Region t z)
@@ -85,6 +89,7 @@ forkings Com.Barrier = forks-none refl
 forkings (Com.Acquire l) = forks-none refl
 forkings (Com.Release l) = forks-none refl
 forkings (Com.Access a) = forks-none refl
+forkings Com.Cut = forks-none refl
 
 -- an access, or a command that touches no byte
 unfoldable pub accessing : Command → Bool
@@ -99,6 +104,7 @@ on-no-access other access Com.Barrier e = refl
 on-no-access other access (Com.Acquire l) e = refl
 on-no-access other access (Com.Release l) e = refl
 on-no-access other access (Com.Access a) e = false-is-true (sym e)
+on-no-access other access Com.Cut e = refl
 
 pub data Accessing : Command → Type 0 where
   accesses-some : (a : Access) → Accessing (Com.Access a)
@@ -113,6 +119,7 @@ accessings Com.Barrier = accesses-none refl
 accessings (Com.Acquire l) = accesses-none refl
 accessings (Com.Release l) = accesses-none refl
 accessings (Com.Access a) = accesses-some a
+accessings Com.Cut = accesses-none refl
 
 -- MEMBER, REGION, BARRIER, or a command that opens no segment
 unfoldable pub opening : Command → Bool
@@ -130,6 +137,7 @@ on-no-opening other member region barrier Com.Barrier e = false-is-true (sym e)
 on-no-opening other member region barrier (Com.Acquire l) e = refl
 on-no-opening other member region barrier (Com.Release l) e = refl
 on-no-opening other member region barrier (Com.Access a) e = refl
+on-no-opening other member region barrier Com.Cut e = refl
 
 pub data Opens : Command → Type 0 where
   opens-member : (t m : ℕ) → Opens (Com.Member t m)
@@ -146,8 +154,9 @@ openings Com.Barrier = opens-barrier
 openings (Com.Acquire l) = opens-none refl
 openings (Com.Release l) = opens-none refl
 openings (Com.Access a) = opens-none refl
+openings Com.Cut = opens-none refl
 
--- what closes a chunk forks no team, leaves the state as it is, and has one byte
+-- what closes a chunk forks no team, opens no segment, is no access, leaves the state as it is, and has one byte
 pub closes-forks-none : (c : Command) → closes c ≡ true → forking c ≡ false
 unfolding closes forking
 closes-forks-none (Com.Member t m) e = false-is-true e
@@ -157,6 +166,25 @@ closes-forks-none Com.Barrier e = refl
 closes-forks-none (Com.Acquire l) e = refl
 closes-forks-none (Com.Release l) e = refl
 closes-forks-none (Com.Access a) e = refl
+closes-forks-none Com.Cut e = refl
+
+pub closes-opens-none : (c : Command) → closes c ≡ true → opening c ≡ false
+unfolding closes
+closes-opens-none c = go (openings c)
+  where
+    go : {c : Command} → Opens c → closes c ≡ true → opening c ≡ false
+    go (opens-member t m) e = false-is-true e
+    go (opens-region t z) e = false-is-true e
+    go opens-barrier e = false-is-true e
+    go (opens-none h) e = h
+
+pub closes-accesses-none : (c : Command) → closes c ≡ true → accessing c ≡ false
+unfolding closes
+closes-accesses-none c = go (accessings c)
+  where
+    go : {c : Command} → Accessing c → closes c ≡ true → accessing c ≡ false
+    go (accesses-some a) e = false-is-true e
+    go (accesses-none h) e = h
 
 pub closes-keeps : (k : ChunkState) (c : Command) → closes c ≡ true → afterCommand k c ≡ k
 unfolding closes afterCommand
@@ -167,6 +195,7 @@ closes-keeps k Com.Barrier e = false-is-true e
 closes-keeps k (Com.Acquire l) e = false-is-true e
 closes-keeps k (Com.Release l) e = false-is-true e
 closes-keeps k (Com.Access a) e = refl
+closes-keeps k Com.Cut e = refl
 
 pub closes-width : (c : Command) → closes c ≡ true → length (bytesOf c) ≡ 1
 unfolding closes bytesOf codeOf formOf widthsOf operandBytes
@@ -177,6 +206,7 @@ closes-width Com.Barrier e = refl
 closes-width (Com.Acquire l) e = false-is-true e
 closes-width (Com.Release l) e = false-is-true e
 closes-width (Com.Access a) e = false-is-true e
+closes-width Com.Cut e = refl
 
 -- a barrier or a join opens a segment
 pub state-counts :
@@ -189,3 +219,16 @@ state-counts k Com.Barrier = omega arith
 state-counts k (Com.Acquire l) = omega arith
 state-counts k (Com.Release l) = omega arith
 state-counts k (Com.Access a) = omega arith
+state-counts k Com.Cut = omega arith
+
+-- a command that neither opens nor closes a chunk is not END
+pub plain-not-end : (c : Command) → plain c ≡ true → isEnd c ≡ false
+unfolding plain isEnd
+plain-not-end (Com.Member t m) e = refl
+plain-not-end Com.End e = false-is-true e
+plain-not-end (Com.Region t z) e = refl
+plain-not-end Com.Barrier e = refl
+plain-not-end (Com.Acquire l) e = refl
+plain-not-end (Com.Release l) e = refl
+plain-not-end (Com.Access a) e = refl
+plain-not-end Com.Cut e = refl

@@ -85,6 +85,7 @@ coded Com.Barrier = record { known = record { form = _; is = refl }; same = refl
 coded (Com.Acquire l) = record { known = record { form = _; is = refl }; same = refl }
 coded (Com.Release l) = record { known = record { form = _; is = refl }; same = refl }
 coded (Com.Access a) = record { known = record { form = _; is = access-known (a .kind) }; same = refl }
+coded Com.Cut = record { known = record { form = _; is = refl }; same = refl }
 
 -- of the command that a byte's form makes of operands, the code is that byte and those operands
 record Makes (b : ℕ) (f : Form) : Type 0 where
@@ -109,6 +110,7 @@ unfolding formOf codeOf operandsFrom
 made-code b =
     made-at 0x01 (record { code = λ s at. refl })
     (made-at 0x02 (record { code = λ s at. refl })
+    (made-at 0x03 (record { code = λ s at. refl })
     (made-at 0x10 (record { code = λ s at. refl })
     (made-at 0x11 (record { code = λ s at. refl })
     (made-at 0x20 (record { code = λ s at. refl })
@@ -120,7 +122,7 @@ made-code b =
         operands = operandsFrom s at 1 accessWidths;
       });
     })
-    (record { made = λ f q. let z : _≡_ {A = ℕ} 0 1 = cc in absurd (omega arith) })))))))
+    (record { made = λ f q. let z : _≡_ {A = ℕ} 0 1 = cc in absurd (omega arith) }))))))))
 
 pub code-made :
     {b : ℕ} (k : Known b) (s : List ℕ) (at : ℕ)
@@ -133,6 +135,7 @@ pub no-form :
     {b : ℕ}
     → (b ≡ 0x01 → ⊥)
     → (b ≡ 0x02 → ⊥)
+    → (b ≡ 0x03 → ⊥)
     → (b ≡ 0x10 → ⊥)
     → (b ≡ 0x11 → ⊥)
     → (b ≡ 0x20 → ⊥)
@@ -140,11 +143,11 @@ pub no-form :
     → (0x30 ≤ b → b < 0x34 → ⊥)
     → formOf b ≡ none
 unfolding formOf
-no-form {b} n₁ n₂ n₃ n₄ n₅ n₆ n =
+no-form {b} n₁ n₂ n₃ n₄ n₅ n₆ n₇ n =
     let a : Bool = leb 0x30 b in
     let l : Bool = ltb b 0x34 in
     let other : a && l ≡ false = is-false (a && l) (λ e. n (leb-true 0x30 b (and-left a l e)) (ltb-true b 0x34 (and-right a l e))) in
-    rw (ne-eqb b 0x01 n₁, ne-eqb b 0x02 n₂, ne-eqb b 0x10 n₃, ne-eqb b 0x11 n₄, ne-eqb b 0x20 n₅, ne-eqb b 0x21 n₆, other)
+    rw (ne-eqb b 0x01 n₁, ne-eqb b 0x02 n₂, ne-eqb b 0x03 n₃, ne-eqb b 0x10 n₄, ne-eqb b 0x11 n₅, ne-eqb b 0x20 n₆, ne-eqb b 0x21 n₇, other)
 
 -- lists with equal heads and equal rests
 pub same-cons : {a b : ℕ} {s t : List ℕ} → a ≡ b → s ≡ t → a ∷ s ≡ b ∷ t

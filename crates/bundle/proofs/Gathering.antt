@@ -44,7 +44,7 @@ gather-body rest (ends {p = p} e) = rw (gather-closes p (gather rest) e, gather-
 gather-body rest (goes {p = p} {ps = ps} e b) =
     rw (gather-plain p (gather (ps ++ rest)) e, gather-plain p (gather ps) e, gather-body rest b)
 
--- a chunk whose body is a body, and whose end is behind its END
+-- a chunk whose body is a body, and whose end is behind its END or CUT
 pub record Formed (c : Chunk) : Type 0 where
   pub body-ok : Body (c .body)
   pub past-ok : c .past ≡ gather (c .body) .past

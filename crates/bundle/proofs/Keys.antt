@@ -57,6 +57,10 @@ module _ {A : Type 0} where
   pub all-same : (p q : A → Bool) (xs : List A) → ((x : A) → p x ≡ q x) → all p xs ≡ all q xs
   all-same p q xs h = all-agree p q xs (λ x m. h x)
 
+pub any-same : {A : Type 0} {p q : A → Bool} (xs : List A) → ((x : A) → p x ≡ q x) → any p xs ≡ any q xs
+any-same [] same = refl
+any-same (x ∷ xs) same = rw (same x, any-same xs same)
+
 -- a test over changed elements
 pub any-map : {A B : Type 0} (g : A → B) (p : B → Bool) (q : A → Bool) → ((x : A) → p (g x) ≡ q x) → (xs : List A) → any p (map g xs) ≡ any q xs
 any-map g p q same [] = refl

@@ -34,6 +34,7 @@ pub mod Passing
 pub mod FailingAt
 pub mod Slots
 pub mod TeamOrder
+pub mod Leads
 pub mod MetTables
 pub mod ShapeTests
 pub mod ShapeRows

@@ -1,29 +1,29 @@
--- The tables of a pass over the chunks: a bit for each member that was met, and the barriers of member 0.
+-- The tables of a pass over the chunks: a bit for each member that was met, and the number of the lowest-numbered complete one.
 use Prim.Native.Nat.{ℕ, zero, suc, _+_, _-_, _*_, _/_, _%_, _^_, _≤_, _<_}
 use mathlib.Core.Path.{_≡_, refl, sym, _∙_, ap, subst}
 use mathlib.Core.Logic.{_⊎_, inl, inr}
-use mathlib.Core.Bool.{Bool, true, false, cond, not, _||_}
+use mathlib.Core.Bool.{Bool, true, false, cond, not, _&&_, _||_}
 use mathlib.Core.List.{List, [], _∷_, _++_}
-use mathlib.Core.Option.{some}
 use native.Mathlib.Omega.{arith}
 use native.Mathlib.Nat.{div-eq-of-lt, one-mul}
 use native.Mathlib.Decide.{ℕ-discrete, decLt}
-use lib.Dec.{eqb}
+use lib.Dec.{eqb, ltb}
 use lib.Bits.{bitOr, or-shr, or-mod, or-zero-r, shifted-even}
 use lib.ListN.{length, getD, set, replicate, length-set, length-replicate, List·getD-eq-default}
 use lib.Pow.{pow-pos, pow-lt, pow-add, shl-shr}
 use lib.Seq.{getD-set-same, getD-set-other}
-use borrow.Author.Tests.{eqb-true, eq-eqb}
-use Rattle.bundle.specs.Lists.{upTo, any, all, first, fromOption}
+use borrow.Author.Tests.{eqb-true, eq-eqb, ltb-true}
+use Rattle.bundle.specs.Lists.{upTo, any, all}
 use Rattle.bundle.specs.Index.{table, isRow}
-use Rattle.bundle.specs.Shape.{firstBarriers, slotOf, metAt, markedAt, Known, Met, Blank, lacksBy}
+use Rattle.bundle.specs.Shape.{slotOf, metAt, markedAt, Known, leadWord, Lead, notedLead, Met, Blank, lacksBy}
 use Rattle.bundle.specs.declared.index.ChunkRow.{ChunkRow}
 use Rattle.bundle.specs.declared.index.Fork.{Fork}
-use Rattle.bundle.proofs.Tests.{both, and-left, and-right, or-false, not-both, is-false, decide}
+use Rattle.bundle.proofs.Tests.{both, and-left, and-right, not-both, is-false, decide}
 use Rattle.bundle.proofs.ListLaws.{all-elim, all-intro, upTo-elim, upTo-intro}
 use Rattle.bundle.proofs.Tables.{table-length}
 use Rattle.bundle.proofs.FailingAt.{any-last}
 use Rattle.bundle.proofs.Slots.{slots-differ}
+use Rattle.bundle.proofs.Leads.{complete-row, other-team, lead-none, lead-skip, lead-new, lead-kept}
 
 -- bits of a word
 or-one-bit : (x : ℕ) → x < 2 → bitOr x 1 ≡ 1
@@ -100,18 +100,6 @@ module _ (masks : List ℕ) (s size : ℕ) where
   unfolding lacksBy
   lacks-none h = sym (ap not (all-intro (λ k. metAt masks s k) (upTo size) (λ k l. h k (upTo-elim size l))))
 
--- one row more at the end
-module _ {A : Type 0} (p : A → Bool) where
-  first-skip : (xs : List A) (x : A) → p x ≡ false → first p (xs ++ (x ∷ [])) ≡ first p xs
-  first-skip [] x e = rw e
-  first-skip (y ∷ ys) x e = rw (first-skip ys x e)
-
-  first-new : (xs : List A) (x : A) → any p xs ≡ false → p x ≡ true → first p (xs ++ (x ∷ [])) ≡ some x
-  first-new [] x e h = rw h
-  first-new (y ∷ ys) x e h =
-      let f = or-false (p y) (any p ys) e in
-      rw (f .0) (first-new ys x (f .1) h)
-
 row-is : (r : ChunkRow) (t m : ℕ) → isRow t m r ≡ true → (r .team ≡ t) × (r .member ≡ m)
 unfolding isRow
 row-is r t m e = (
@@ -119,7 +107,7 @@ row-is r t m e = (
   eqb-true (r .member) m (and-right (eqb (r .team) t) (eqb (r .member) m) e),
 )
 
-is-row : (r : ChunkRow) (t m : ℕ) → r .team ≡ t → r .member ≡ m → isRow t m r ≡ true
+pub is-row : (r : ChunkRow) (t m : ℕ) → r .team ≡ t → r .member ≡ m → isRow t m r ≡ true
 unfolding isRow
 is-row r t m e q = both (eq-eqb (r .team) t e) (eq-eqb (r .member) m q)
 
@@ -135,25 +123,25 @@ met-nothing :
     → length fs < b
     → rs ≡ []
     → Met fs rs (replicate a 0) (replicate b 0)
-unfolding metAt firstBarriers
+unfolding metAt
 met-nothing fs a b h l e =
     record {
       masks-long = rw (length-replicate {A = ℕ} a 0) h;
-      firsts-long = rw (length-replicate {A = ℕ} b 0) l;
+      leads-long = rw (length-replicate {A = ℕ} b 0) l;
       members = λ t m k s. rw (e, zeros a (4 * slotOf fs t + m / 64)) (sym (zero-bit (m % 64)));
-      barriers = λ t k. rw e (zeros b (slotOf fs t));
+      lowest = λ t k. rw (e, zeros b (slotOf fs t)) (lead-none t);
     }
 
-pub nothing-met : {order masks firsts : List ℕ} (f : ℕ → Fork) (n : ℕ) (rs : List ChunkRow) → Blank order masks firsts n → rs ≡ [] → Met (table f n) rs masks firsts
-nothing-met {masks = masks} {firsts = firsts} f n rs b e =
+pub nothing-met : {order masks leads : List ℕ} (f : ℕ → Fork) (n : ℕ) (rs : List ChunkRow) → Blank order masks leads n → rs ≡ [] → Met (table f n) rs masks leads
+nothing-met {masks = masks} {leads = leads} f n rs b e =
     let l = table-length f n in
-    subst (λ (ms : List ℕ). Met (table f n) rs ms firsts) (sym (b .masks-clear))
-    (subst (λ (bs : List ℕ). Met (table f n) rs (replicate (length masks) 0) bs) (sym (b .firsts-clear))
-    (met-nothing (table f n) (length masks) (length firsts) (omega (arith, b .masks-long)) (omega (arith, b .firsts-long)) e))
+    subst (λ (ms : List ℕ). Met (table f n) rs ms leads) (sym (b .masks-clear))
+    (subst (λ (bs : List ℕ). Met (table f n) rs (replicate (length masks) 0) bs) (sym (b .leads-clear))
+    (met-nothing (table f n) (length masks) (length leads) (omega (arith, b .masks-long)) (omega (arith, b .leads-long)) e))
 
 -- one chunk more, of a member that was not met
-module _ (f : ℕ → Fork) (n : ℕ) (rs : List ChunkRow) (r : ChunkRow) (masks firsts : List ℕ)
-    (met : Met (table f n) rs masks firsts)
+module _ (f : ℕ → Fork) (n : ℕ) (rs : List ChunkRow) (r : ChunkRow) (masks leads : List ℕ)
+    (met : Met (table f n) rs masks leads)
     (known : Known (table f n) (r .team))
     (small : r .member < 256)
     (within : slotOf (table f n) (r .team) ≤ length (table f n))
@@ -179,43 +167,38 @@ module _ (f : ℕ → Fork) (n : ℕ) (rs : List ChunkRow) (r : ChunkRow) (masks
           ∙ met .members t m k h
           ∙ sym (rw e)
 
-  barriers :
-      (t : ℕ)
-      → Known fs t
-      → getD (cond (eqb (r .member) 0) (set firsts (slotOf fs (r .team)) (r .barriers)) firsts) (slotOf fs t) 0 ≡ firstBarriers (rs ++ (r ∷ [])) t
-  unfolding firstBarriers
-  barriers t k = go (decide (isRow t 0 r)) (decide (eqb (r .member) 0))
+  lowest : (t : ℕ) → Known fs t → Lead (rs ++ (r ∷ [])) t (getD (notedLead r leads (slotOf fs (r .team))) (slotOf fs t) 0)
+  unfolding notedLead
+  lowest t k = go (ℕ-discrete (r .team) t) (decide (r .complete && ltb (getD leads slot 0) (leadWord r)))
     where
-      go :
-          (isRow t 0 r ≡ true) ⊎ (isRow t 0 r ≡ false)
-          → (eqb (r .member) 0 ≡ true) ⊎ (eqb (r .member) 0 ≡ false)
-          → getD (cond (eqb (r .member) 0) (set firsts (slotOf fs (r .team)) (r .barriers)) firsts) (slotOf fs t) 0
-          ≡ fromOption 0 (λ (q : ChunkRow). q .barriers) (first (isRow t 0) (rs ++ (r ∷ [])))
-      go (inl e) z =
-          let q = row-is r t 0 e in
-          let none-yet : any (isRow t 0) rs ≡ false = rw (q .0, q .1) at new in
-          let room : slotOf fs (r .team) < length firsts = omega (arith, met .firsts-long) in
-          rw (first-new (isRow t 0) rs r none-yet e, eq-eqb (r .member) 0 (q .1), q .0)
-          (getD-set-same firsts (slotOf fs t) (r .barriers) 0 (rw (q .0) at room))
-      go (inr e) (inl z) =
-          let apart : slotOf fs t ≡ slotOf fs (r .team) → ⊥ =
-          λ p. not-both (is-row r t 0 (sym (slots-differ f n t (r .team) k known p)) (eqb-true (r .member) 0 z)) e
-          in
-          rw (first-skip (isRow t 0) rs r e, z) (getD-set-other firsts (slotOf fs (r .team)) (slotOf fs t) (r .barriers) 0 apart ∙ met .barriers t k)
-      go (inr e) (inr z) = rw (first-skip (isRow t 0) rs r e, z) (met .barriers t k)
+      slot : ℕ
+      slot = slotOf fs (r .team)
 
-  pub met-more :
-      Met fs (rs ++ (r ∷ []))
-      (markedAt masks (slotOf fs (r .team)) (r .member))
-      (cond (eqb (r .member) 0) (set firsts (slotOf fs (r .team)) (r .barriers)) firsts)
+      noted : Bool
+      noted = r .complete && ltb (getD leads (slotOf fs (r .team)) 0) (leadWord r)
+
+      go :
+          Dec (r .team ≡ t)
+          → (noted ≡ true) ⊎ (noted ≡ false)
+          → Lead (rs ++ (r ∷ [])) t (getD (cond noted (set leads slot (leadWord r)) leads) (slotOf fs t) 0)
+      go (yes e) (inl h) =
+          rw (h, ← e, getD-set-same leads slot (leadWord r) 0 (omega (arith, met .leads-long)))
+          (lead-new r (met .lowest (r .team) known) (complete-row r refl (and-left (r .complete) _ h)) (ltb-true _ _ (and-right (r .complete) _ h)))
+      go (yes e) (inr h) = rw (h, ← e) (lead-kept r (met .lowest (r .team) known) h)
+      go (no ne) (inl h) =
+          rw (h, getD-set-other leads slot (slotOf fs t) (leadWord r) 0 (λ q. ne (sym (slots-differ f n t (r .team) k known q))))
+          (lead-skip r (met .lowest t k) (other-team r ne))
+      go (no ne) (inr h) = rw h (lead-skip r (met .lowest t k) (other-team r ne))
+
+  pub met-more : Met fs (rs ++ (r ∷ [])) (markedAt masks (slotOf fs (r .team)) (r .member)) (notedLead r leads (slotOf fs (r .team)))
   met-more =
       record {
         masks-long = unfold markedAt in (rw length-set (met .masks-long));
-        firsts-long = longer (eqb (r .member) 0);
+        leads-long = unfold notedLead in (longer (r .complete && ltb (getD leads (slotOf fs (r .team)) 0) (leadWord r)));
         members = members;
-        barriers = barriers;
+        lowest = lowest;
       }
     where
-      longer : (b : Bool) → length fs < length (cond b (set firsts (slotOf fs (r .team)) (r .barriers)) firsts)
-      longer true = rw length-set (met .firsts-long)
-      longer false = met .firsts-long
+      longer : (b : Bool) → length fs < length (cond b (set leads (slotOf fs (r .team)) (leadWord r)) leads)
+      longer true = rw length-set (met .leads-long)
+      longer false = met .leads-long

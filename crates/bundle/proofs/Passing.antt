@@ -1,7 +1,7 @@
 -- The pass over a bundle: each command adds its rows, and at the end the tables hold the rows of all chunks and REGIONs.
 use Prim.Native.Nat.{ℕ, zero, suc, _+_, _-_, _≤_, _<_}
 use mathlib.Core.Path.{_≡_, refl, sym, _∙_, ap, ap₂, subst}
-use mathlib.Core.Bool.{Bool, true, false, cond, not}
+use mathlib.Core.Bool.{Bool, true, false, cond, not, _||_}
 use mathlib.Core.List.{List, [], _∷_, _++_, map, append-assoc, append-nil}
 use native.Mathlib.Omega.{arith}
 use native.Mathlib.Nat.{add-zero, add-assoc}
@@ -9,10 +9,10 @@ use lib.Dec.{eqb, ltb}
 use lib.ListN.{length}
 use borrow.Author.Tests.{eqb-true, le-leb, lt-leb, ltb-false}
 use Rattle.bundle.specs.Answer.{Answer, gives, refuses, whenGiven}
-use Rattle.bundle.specs.Lists.{concatMap}
+use Rattle.bundle.specs.Lists.{any, concatMap}
 use Rattle.bundle.specs.Cases.{onRegion}
 use Rattle.bundle.specs.Commands.{Taken, decodeAt}
-use Rattle.bundle.specs.Chunks.{Placed, Front, fresh, afterCommand, afterCommands, follow, frontFrom, frontOf, gatherOne, gather, chunksOf, commandsOf}
+use Rattle.bundle.specs.Chunks.{Placed, Front, fresh, afterCommand, afterCommands, follow, frontFrom, frontOf, gatherOne, gather, chunksOf, commandsOf, isEnd, complete}
 use Rattle.bundle.specs.Walk.{opensSegment, addsAccess, entriesFrom, entriesOf, barriersOf, forkAt, forksIn, forksOf}
 use Rattle.bundle.specs.Scan.{isMember, misplaced, tooMany, faultOf, start, scanned, finish, walk, scanOf}
 use Rattle.bundle.specs.Index.{chunkRowAt, forkRowAt, tableFrom, table, Added, total, logOf, chunkRow, rowsFrom, chunkRows}
@@ -28,7 +28,7 @@ use Rattle.bundle.specs.declared.survey.Survey.{Survey}
 use Rattle.bundle.specs.declared.survey.Survey.the-variants as Surveys
 use Rattle.bundle.specs.declared.refusal.Cause.the-variants as Causes
 use Rattle.bundle.proofs.Tests.{cond-elim, or-false, false-of-not}
-use Rattle.bundle.proofs.Delimiters.{plain, closes, closes-forks-none, closes-keeps, closes-width, state-counts, Delimiter, opens-chunk, closes-chunk, neither, delimits, on-plain, on-closes, Forking, forks-team, forks-none, forkings, on-other}
+use Rattle.bundle.proofs.Delimiters.{plain, closes, closes-forks-none, closes-keeps, closes-width, state-counts, Delimiter, opens-chunk, closes-chunk, neither, delimits, on-plain, on-closes, Forking, forks-team, forks-none, forkings, on-other, plain-not-end}
 use Rattle.bundle.proofs.Tables.{table-added}
 use Rattle.bundle.proofs.Gathering.{gather-plain, gather-closes}
 use Rattle.bundle.proofs.Decoding.{decode-next}
@@ -111,7 +111,7 @@ forks-any t m k g n (p ∷ ps) =
     rw (forks-any t m k′ (g + g′) (n + n′) ps, forks-any t m k′ (0 + g′) (0 + n′) ps)
 
 comes-opens : (p : Progress) (next : ℕ) (ps : List Placed) (t m : ℕ) → p .scan .inside ≡ false → Comes p next ps (Com.Member t m)
-unfolding chunksToCome forksToCome newChunks newForks passAfter scanned gatherOne openRow rowsBehind openedAt rowsFrom chunkRow total logOf barriersOf commandsOf forksOf forksIn entriesOf opensSegment addsAccess
+unfolding chunksToCome forksToCome newChunks newForks passAfter scanned gatherOne openRow rowsBehind openedAt rowsFrom chunkRow total logOf barriersOf complete commandsOf forksOf forksIn entriesOf opensSegment addsAccess
 comes-opens p next ps t m e =
     let cs = map (λ (q : Placed). q .command) (gather ps .body) in
     rw e (
@@ -121,6 +121,10 @@ comes-opens p next ps t m e =
       refl,
     )
 
+or-none : (b : Bool) → (b || false) ≡ b
+or-none true = refl
+or-none false = refl
+
 comes-closes : (p : Progress) (next : ℕ) (ps : List Placed) (c : Command) → closes c ≡ true → p .scan .inside ≡ true → Comes p next ps c
 unfolding chunksToCome forksToCome newChunks newForks passAfter scanned openRow rowsBehind closedRow forkHere total afterCommands entriesFrom forkAt gather rowsFrom forksOf
 comes-closes p next ps c h e =
@@ -128,11 +132,12 @@ comes-closes p next ps c h e =
       gather-closes (here p next ps c) (gather ps) h,
       on-closes (p .scan .inside) (λ t m. true) false c h,
       e,
-      on-closes [] (λ t m. []) (closedRow p ∷ []) c h,
+      on-closes [] (λ t m. []) (closedRow p (isEnd c) ∷ []) c h,
       closes-keeps (p .scan .state) c h,
       closes-width c h,
       add-zero (opensSegment c),
       add-zero (addsAccess c),
+      or-none (isEnd c),
     )
     (refl, ap (λ (fs : List Fork). fs ++ forksOf (gather ps .chunks)) (append-nil (newForks p c)))
 
@@ -142,14 +147,27 @@ comes-plain p next ps c h e =
     let d = continued p c next h in
     let cs = map (λ (q : Placed). q .command) (gather ps .body) in
     let k = afterCommand (p .scan .state) c in
+    let row : ChunkRow =
+    record {
+      place = p .chunk .place;
+      past = gather ps .past;
+      team = p .scan .team;
+      member = p .chunk .member;
+      barriers = afterCommands k cs .barriers;
+      complete = any isEnd cs;
+      segments = p .chunk .segments;
+      accesses = p .chunk .accesses;
+    }
+    in
     rw (
       gather-plain (here p next ps c) (gather ps) h,
       d .pass,
       d .scan,
       e,
-      on-plain [] (λ t m. []) (closedRow p ∷ []) c h,
+      on-plain [] (λ t m. []) (closedRow p (isEnd c) ∷ []) c h,
+      plain-not-end c h,
     ) (
-      ap₂ (λ (g n : ℕ). openRow p (c ∷ cs) (gather ps .past) ∷ rowsFrom g n (gather ps .chunks))
+      ap₂ (λ (g n : ℕ). row ∷ rowsFrom g n (gather ps .chunks))
           (sym (add-assoc (p .scan .segments) (opensSegment c) (total opensSegment cs)))
           (sym (add-assoc (p .scan .accesses) (addsAccess c) (total addsAccess cs))),
       append-assoc (newForks p c) (concatMap (forkAt (p .scan .team) (p .chunk .member)) (entriesFrom k (0 + opensSegment c) (0 + addsAccess c) (gather ps .body))) (forksOf (gather ps .chunks))
@@ -541,12 +559,12 @@ module _ (p : Progress) (k : Scan) (next : ℕ) (r : Progress) (chunks forks : L
       (c : Command) (chunks′ : List ℕ) (row : ChunkRow)
       → closes c ≡ true
       → r ≡ record { at = next; scan = k; chunk = p .chunk; chunks = p .chunks + 1; forks = p .forks }
-      → row ≡ closedRow p
+      → row ≡ closedRow p (isEnd c)
       → Added chunkRowAt chunks chunks′ (p .chunks) row
       → Noted p c k next r chunks forks chunks′ forks
   noted-chunk c chunks′ row h e w x =
       let none : newForks p c ≡ [] = unfold newForks in (on-other [] (λ t z. forkHere p t z ∷ []) c (closes-forks-none c h)) in
-      let one : newChunks p c ≡ closedRow p ∷ [] = unfold newChunks in (on-closes [] (λ t m. []) (closedRow p ∷ []) c h) in
+      let one : newChunks p c ≡ closedRow p (isEnd c) ∷ [] = unfold newChunks in (on-closes [] (λ t m. []) (closedRow p (isEnd c) ∷ []) c h) in
       record {
         pass =
             e

@@ -183,7 +183,7 @@ print-chunks f (c ∷ cs) h =
     rw (h c (List·Memᴰ·head refl), print-chunks f cs (λ d m. h d (List·Memᴰ·tail m)))
     (sym (concatMap-append bytesOf (logOf c) (concatMap logOf cs)))
 
--- "chunks back to back": an accepted bundle is its chunks' bytes, MEMBER to END each, one after another
+-- "chunks back to back": an accepted bundle is its chunks' bytes, MEMBER to END or CUT each, one after another
 pub back-to-back : (b : List ℕ) → Bytes b → Accepted b → backToBack (map (partOf b) (chunksOf b)) ≡ b
 back-to-back b bytes a = print-chunks (partOf b) (chunksOf b) (part-printed b bytes a) ∙ sym (known b bytes a .bytes)
 

@@ -1,23 +1,23 @@
 -- Neither the order of the chunks nor their places matter to the shape of a bundle.
 use Prim.Native.Nat.{ℕ, zero, suc}
 use mathlib.Core.Path.{_≡_, refl, sym, _∙_, ap, subst}
-use mathlib.Core.Bool.{Bool, true, false, cond, not}
+use mathlib.Core.Bool.{Bool, true, false, cond, not, _&&_}
 use mathlib.Core.List.{List, [], _∷_, map, List·Memᴰ, Memᴰ·map, Memᴰ·of-map, List·Permᴰ, Permᴰ·symm}
 use mathlib.Core.Option.{Option, none, some}
 use lib.Dec.{eqb, ltb, leb}
 use borrow.Author.Tests.{eqb-true}
 use Rattle.bundle.specs.Lists.{upTo, any, first, concatMap, fromOption}
 use Rattle.bundle.specs.Cases.{onRegion}
-use Rattle.bundle.specs.Chunks.{Chunk, fresh, afterCommands, isOf, chunkOf}
+use Rattle.bundle.specs.Chunks.{Chunk, fresh, afterCommands, isEnd, complete, isOf}
 use Rattle.bundle.specs.Walk.{Entry, entriesOf, barriersOf, forkAt, forksIn, forksOf}
 use Rattle.bundle.specs.declared.index.Fork.{Fork}
-use Rattle.bundle.specs.Check.{forkOf, sizeOf, depthFrom, depthOf, lacksChunk, unlikeFirst}
+use Rattle.bundle.specs.Check.{forkOf, sizeOf, depthFrom, depthOf, lacksChunk, completeIn, lowestComplete, unlikeLowest, beyondComplete}
 use Rattle.bundle.specs.declared.command.Command.{Command}
 use Rattle.bundle.proofs.ListLaws.{Distinct, perm-mem, perm-map, perm-concatMap, concatMap-along}
 use Rattle.bundle.proofs.Delimiters.{Forking, forks-team, forks-none, forkings, on-other}
-use Rattle.bundle.proofs.Keys.{perm-distinct, perm-any, perm-first, all-same, distinct-key, any-map}
+use Rattle.bundle.proofs.Keys.{perm-distinct, perm-any, perm-first, all-same, any-same, distinct-key, any-map}
 use Rattle.bundle.proofs.Places.{unplaced, unplacedEntry, memberKey, commandsOf-unplaced, entries-unplaced}
-use Rattle.bundle.proofs.Shaped.{Shaped, isOf-elim}
+use Rattle.bundle.proofs.Shaped.{Shaped}
 
 -- what follows from the same forks for each team, and the same chunks for each member
 abbrev SameFork : List Fork → List Fork → Type 0
@@ -40,7 +40,7 @@ depth-same (suc fuel) fs gs h t = rw (h t) (go (forkOf gs t) (λ u. depth-same f
     go none ih = refl
     go (some f) ih = ap suc (ih (f .parent))
 
-lacks-same : (cs ds : List Chunk) → ((t m : ℕ) → any (isOf t m) cs ≡ any (isOf t m) ds) → (t size : ℕ) → lacksChunk cs t size ≡ lacksChunk ds t size
+pub lacks-same : (cs ds : List Chunk) → ((t m : ℕ) → any (isOf t m) cs ≡ any (isOf t m) ds) → (t size : ℕ) → lacksChunk cs t size ≡ lacksChunk ds t size
 unfolding lacksChunk
 lacks-same cs ds h t size =
     ap not (all-same (λ m. any (isOf t m) cs) (λ m. any (isOf t m) ds) (upTo size) (h t))
@@ -52,18 +52,22 @@ fork-perm p d t =
     perm-first (λ (f : Fork). eqb (f .team) t) p
     (λ f g m l e q. distinct-key (λ (f : Fork). f .team) d m l (eqb-true (f .team) t e ∙ sym (eqb-true (g .team) t q)))
 
-key-of : (t m : ℕ) (c : Chunk) → isOf t m c ≡ true → memberKey c ≡ t ∷ m ∷ []
-unfolding memberKey
-key-of t m c e = let p = isOf-elim t m c e in rw (p .0, p .1)
+-- 12 and 19 ask only which complete chunks there are, with what barriers
+lowest-perm : {cs ds : List Chunk} → List·Permᴰ cs ds → (t : ℕ) (c : Chunk) → lowestComplete cs t c ≡ lowestComplete ds t c
+unfolding lowestComplete
+lowest-perm p t c = ap (λ (b : Bool). completeIn t c && not b) (perm-any (λ (d : Chunk). completeIn t d && ltb (d .member) (c .member)) p)
 
-chunk-perm : {cs ds : List Chunk} → List·Permᴰ cs ds → Distinct (map memberKey cs) → (t m : ℕ) → chunkOf cs t m ≡ chunkOf ds t m
-unfolding chunkOf
-chunk-perm p d t m =
-    perm-first (isOf t m) p (λ c e l k x y. distinct-key memberKey d l k (key-of t m c x ∙ sym (key-of t m e y)))
+unlike-perm : {cs ds : List Chunk} → List·Permᴰ cs ds → (c : Chunk) → unlikeLowest cs c ≡ unlikeLowest ds c
+unfolding unlikeLowest
+unlike-perm {cs} {ds} p c =
+    ap (λ (b : Bool). complete c && b)
+    (perm-any (λ (d : Chunk). lowestComplete cs (c .team) d && not (eqb (barriersOf c) (barriersOf d))) p
+    ∙ any-same ds (λ d. ap (λ (b : Bool). b && not (eqb (barriersOf c) (barriersOf d))) (lowest-perm p (c .team) d)))
 
-unlike-perm : {cs ds : List Chunk} → List·Permᴰ cs ds → Distinct (map memberKey cs) → (c : Chunk) → unlikeFirst cs c ≡ unlikeFirst ds c
-unfolding unlikeFirst
-unlike-perm p d c = rw (chunk-perm p d (c .team) 0)
+beyond-perm : {cs ds : List Chunk} → List·Permᴰ cs ds → (c : Chunk) → beyondComplete cs c ≡ beyondComplete ds c
+unfolding beyondComplete
+beyond-perm p c =
+    ap (λ (b : Bool). not (complete c) && b) (perm-any (λ (d : Chunk). completeIn (c .team) d && ltb (barriersOf d) (barriersOf c)) p)
 
 pub shaped-perm : {cs ds : List Chunk} → List·Permᴰ cs ds → Shaped cs → Shaped ds
 unfolding depthOf
@@ -75,7 +79,8 @@ shaped-perm {cs} {ds} p s =
       root = sym (lacks 0 1) ∙ s .root;
       present = λ f m. sym (lacks (f .team) (f .size)) ∙ s .present f (perm-mem (Permᴰ·symm q) m);
       shallow = λ f m. rw (← depth-same (suc (f .team)) fs gs same (f .team)) (s .shallow f (perm-mem (Permᴰ·symm q) m));
-      alike = λ c m. sym (unlike-perm p (s .members-once) c) ∙ s .alike c (perm-mem (Permᴰ·symm p) m);
+      alike = λ c m. sym (unlike-perm p c) ∙ s .alike c (perm-mem (Permᴰ·symm p) m);
+      none-beyond = λ c m. sym (beyond-perm p c) ∙ s .none-beyond c (perm-mem (Permᴰ·symm p) m);
     }
   where
     fs : List Fork
@@ -164,14 +169,41 @@ barriers-unplaced : (c : Chunk) → barriersOf (unplaced c) ≡ barriersOf c
 unfolding barriersOf
 barriers-unplaced c = ap (λ (cs : List Command). afterCommands fresh cs .barriers) (commandsOf-unplaced c)
 
-unlike-unplaced : (cs : List Chunk) (c : Chunk) → unlikeFirst (map unplaced cs) (unplaced c) ≡ unlikeFirst cs c
-unfolding unlikeFirst chunkOf
+complete-unplaced : (c : Chunk) → complete (unplaced c) ≡ complete c
+unfolding complete
+complete-unplaced c = ap (any isEnd) (commandsOf-unplaced c)
+
+complete-in-unplaced : (t : ℕ) (c : Chunk) → completeIn t (unplaced c) ≡ completeIn t c
+unfolding completeIn
+complete-in-unplaced t c = rw (complete-unplaced c) (unfold unplaced in refl)
+
+lowest-unplaced : (cs : List Chunk) (t : ℕ) (c : Chunk) → lowestComplete (map unplaced cs) t (unplaced c) ≡ lowestComplete cs t c
+unfolding lowestComplete
+lowest-unplaced cs t c =
+    rw (complete-in-unplaced t c)
+    (ap (λ (b : Bool). completeIn t c && not b)
+    (any-map unplaced (λ (d : Chunk). completeIn t d && ltb (d .member) (unplaced c .member)) (λ (d : Chunk). completeIn t d && ltb (d .member) (c .member))
+    (λ d. rw (complete-in-unplaced t d) (unfold unplaced in refl)) cs))
+
+unlike-unplaced : (cs : List Chunk) (c : Chunk) → unlikeLowest (map unplaced cs) (unplaced c) ≡ unlikeLowest cs c
+unfolding unlikeLowest
 unlike-unplaced cs c =
-    rw (barriers-unplaced c, first-map unplaced (isOf (unplaced c .team) 0) cs) (ap (λ (n : ℕ). not (eqb (barriersOf c) n)) (unfold unplaced isOf in (go (first (isOf (c .team) 0) cs))))
-  where
-    go : (o : Option Chunk) → fromOption 0 barriersOf (mapOption unplaced o) ≡ fromOption 0 barriersOf o
-    go none = unfold mapOption in refl
-    go (some d) = unfold mapOption in (barriers-unplaced d)
+    rw (complete-unplaced c, barriers-unplaced c)
+    (ap (λ (b : Bool). complete c && b)
+    (any-map unplaced
+    (λ (d : Chunk). lowestComplete (map unplaced cs) (unplaced c .team) d && not (eqb (barriersOf c) (barriersOf d)))
+    (λ (d : Chunk). lowestComplete cs (c .team) d && not (eqb (barriersOf c) (barriersOf d)))
+    (λ d. rw (barriers-unplaced d, lowest-unplaced cs (unplaced c .team) d) (unfold unplaced in refl)) cs))
+
+beyond-unplaced : (cs : List Chunk) (c : Chunk) → beyondComplete (map unplaced cs) (unplaced c) ≡ beyondComplete cs c
+unfolding beyondComplete
+beyond-unplaced cs c =
+    rw (complete-unplaced c, barriers-unplaced c)
+    (ap (λ (b : Bool). not (complete c) && b)
+    (any-map unplaced
+    (λ (d : Chunk). completeIn (unplaced c .team) d && ltb (barriersOf d) (barriersOf c))
+    (λ (d : Chunk). completeIn (c .team) d && ltb (barriersOf d) (barriersOf c))
+    (λ d. rw (barriers-unplaced d, complete-in-unplaced (unplaced c .team) d) (unfold unplaced in refl)) cs))
 
 same-keys : {A B K : Type 0} (g : A → B) (key : A → K) (key′ : B → K) → ((x : A) → key′ (g x) ≡ key x) → (xs : List A) → map key′ (map g xs) ≡ map key xs
 same-keys g key key′ h [] = refl
@@ -235,7 +267,11 @@ module _ (cs : List Chunk) where
         alike =
             λ c m.
             let w = Memᴰ·of-map unplaced cs m in
-            subst (λ (d : Chunk). unlikeFirst (map unplaced cs) d ≡ false) (w .2) (unlike-unplaced cs (w .0) ∙ s .alike (w .0) (w .1));
+            subst (λ (d : Chunk). unlikeLowest (map unplaced cs) d ≡ false) (w .2) (unlike-unplaced cs (w .0) ∙ s .alike (w .0) (w .1));
+        none-beyond =
+            λ c m.
+            let w = Memᴰ·of-map unplaced cs m in
+            subst (λ (d : Chunk). beyondComplete (map unplaced cs) d ≡ false) (w .2) (beyond-unplaced cs (w .0) ∙ s .none-beyond (w .0) (w .1));
       }
 
   pub unplaced-shaped : Shaped (map unplaced cs) → Shaped cs
@@ -248,4 +284,5 @@ module _ (cs : List Chunk) where
         present = forks-back (λ t z. lacksChunk cs t z ≡ false) (λ f m. sym (lacking (f .team) (f .size)) ∙ s .present f m);
         shallow = forks-back (λ t z. ltb 4 (depthOf (forksOf cs) t) ≡ false) (λ f m. rw (← depth (f .team)) (s .shallow f m));
         alike = λ c m. sym (unlike-unplaced cs c) ∙ s .alike (unplaced c) (Memᴰ·map unplaced m);
+        none-beyond = λ c m. sym (beyond-unplaced cs c) ∙ s .none-beyond (unplaced c) (Memᴰ·map unplaced m);
       }

@@ -1,15 +1,15 @@
--- The tests 8 to 12 over the rows of a bundle's chunks are those over the chunks.
+-- The tests 8 to 12 and 19 over the rows of a bundle's chunks are those over the chunks.
 use Prim.Native.Nat.{ℕ}
 use mathlib.Core.Path.{_≡_, refl, ap}
-use mathlib.Core.Bool.{Bool, true, false, cond, not}
+use mathlib.Core.Bool.{Bool, not, _&&_}
 use mathlib.Core.List.{List, [], _∷_}
-use mathlib.Core.Option.{some}
-use Rattle.bundle.specs.Lists.{upTo, any, first, fromOption}
-use Rattle.bundle.specs.Chunks.{Chunk, isOf, chunkOf}
+use lib.Dec.{eqb, ltb}
+use Rattle.bundle.specs.Lists.{upTo, any}
+use Rattle.bundle.specs.Chunks.{Chunk, complete, isOf}
 use Rattle.bundle.specs.Walk.{barriersOf, forksOf}
-use Rattle.bundle.specs.Check.{Fork, failing, stray, lacksChunk, unlikeFirst, shapeOf}
+use Rattle.bundle.specs.Check.{Fork, failing, stray, lacksChunk, completeIn, lowestComplete, unlikeLowest, beyondComplete, shapeOf}
 use Rattle.bundle.specs.Index.{isRow, chunkRow, rowsFrom, chunkRows}
-use Rattle.bundle.specs.Shape.{strayRow, lacksRow, firstBarriers, unlikeRow, settledByRows, shapeByRows}
+use Rattle.bundle.specs.Shape.{strayRow, lacksRow, completeRow, lowestRow, unlikeRow, beyondRow, barriersByRows, settledByRows, shapeByRows}
 use Rattle.bundle.specs.declared.index.ChunkRow.{ChunkRow}
 use Rattle.bundle.proofs.Keys.{all-same}
 
@@ -23,23 +23,18 @@ unfolding rowsFrom
 rows-of g n [] = no-rows
 rows-of g n (c ∷ cs) = one-more g n c (rows-of _ _ cs)
 
+any-by :
+    (p : ChunkRow → Bool) (q : Chunk → Bool)
+    → ((g n : ℕ) (c : Chunk) → p (chunkRow g n c) ≡ q c)
+    → {rs : List ChunkRow} {cs : List Chunk}
+    → RowsOf rs cs
+    → any p rs ≡ any q cs
+any-by p q same no-rows = refl
+any-by p q same (one-more g n c r) = rw (same g n c, any-by p q same r)
+
 any-rows : (t m : ℕ) {rs : List ChunkRow} {cs : List Chunk} → RowsOf rs cs → any (isRow t m) rs ≡ any (isOf t m) cs
 unfolding isRow isOf chunkRow
-any-rows t m no-rows = refl
-any-rows t m (one-more g n c r) = rw (any-rows t m r)
-
-first-rows : (t : ℕ) {rs : List ChunkRow} {cs : List Chunk} → RowsOf rs cs → firstBarriers rs t ≡ fromOption 0 barriersOf (chunkOf cs t 0)
-unfolding firstBarriers chunkOf isRow isOf chunkRow
-first-rows t no-rows = refl
-first-rows t (one-more {rs = rs} {cs = cs} g n c r) = go (isOf t 0 c) (first-rows t r)
-  where
-    go :
-        (b : Bool)
-        → fromOption 0 (λ (q : ChunkRow). q .barriers) (first (isRow t 0) rs) ≡ fromOption 0 barriersOf (first (isOf t 0) cs)
-        → fromOption 0 (λ (q : ChunkRow). q .barriers) (cond b (some (chunkRow g n c)) (first (isRow t 0) rs))
-        ≡ fromOption 0 barriersOf (cond b (some c) (first (isOf t 0) cs))
-    go true ih = refl
-    go false ih = ih
+any-rows t m r = any-by (isRow t m) (isOf t m) (λ g n c. refl) r
 
 failing-rows :
     (test : List ChunkRow → ChunkRow → Bool) (test′ : List Chunk → Chunk → Bool)
@@ -61,14 +56,46 @@ module _ {rs : List ChunkRow} {cs : List Chunk} (r : RowsOf rs cs) where
   unfolding strayRow stray chunkRow
   stray-rows fs = failing-rows (strayRow fs) (stray fs) (λ g n c before before′ b. rw (any-rows (c .team) (c .member) b)) no-rows r
 
+  complete-row : (t g n : ℕ) (c : Chunk) → completeRow t (chunkRow g n c) ≡ completeIn t c
+  unfolding completeRow completeIn chunkRow
+  complete-row t g n c = refl
+
+  lowest-row : (t g n : ℕ) (c : Chunk) → lowestRow rs t (chunkRow g n c) ≡ lowestComplete cs t c
+  unfolding lowestRow lowestComplete
+  lowest-row t g n c =
+      rw (complete-row t g n c)
+      (ap (λ (b : Bool). completeIn t c && not b)
+      (any-by (λ (q : ChunkRow). completeRow t q && ltb (q .member) (chunkRow g n c .member)) (λ (d : Chunk). completeIn t d && ltb (d .member) (c .member))
+      (λ h m d. rw (complete-row t h m d) (unfold chunkRow in refl)) r))
+
+  unlike-row : (g n : ℕ) (c : Chunk) → unlikeRow rs (chunkRow g n c) ≡ unlikeLowest cs c
+  unfolding unlikeRow unlikeLowest
+  unlike-row g n c =
+      unfold chunkRow in
+      (ap (λ (b : Bool). complete c && b)
+      (any-by (λ (q : ChunkRow). lowestRow rs (c .team) q && not (eqb (barriersOf c) (q .barriers)))
+      (λ (d : Chunk). lowestComplete cs (c .team) d && not (eqb (barriersOf c) (barriersOf d)))
+      (λ h m d. rw (lowest-row (c .team) h m d)) r))
+
+  beyond-row : (g n : ℕ) (c : Chunk) → beyondRow rs (chunkRow g n c) ≡ beyondComplete cs c
+  unfolding beyondRow beyondComplete
+  beyond-row g n c =
+      unfold chunkRow in
+      (ap (λ (b : Bool). not (complete c) && b)
+      (any-by (λ (q : ChunkRow). completeRow (c .team) q && ltb (q .barriers) (barriersOf c))
+      (λ (d : Chunk). completeIn (c .team) d && ltb (barriersOf d) (barriersOf c))
+      (λ h m d. rw (complete-row (c .team) h m d)) r))
+
   unlike-rows :
-      failing (λ (q : ChunkRow). q .place) (λ before q. unlikeRow rs q) [] rs ≡ failing (λ (c : Chunk). c .place) (λ before c. unlikeFirst cs c) [] cs
-  unfolding unlikeRow unlikeFirst chunkRow
-  unlike-rows =
-      failing-rows (λ before q. unlikeRow rs q) (λ before c. unlikeFirst cs c) (λ g n c before before′ b. rw (first-rows (c .team) r)) no-rows r
+      failing (λ (q : ChunkRow). q .place) (λ before q. unlikeRow rs q) [] rs ≡ failing (λ (c : Chunk). c .place) (λ before c. unlikeLowest cs c) [] cs
+  unlike-rows = failing-rows (λ before q. unlikeRow rs q) (λ before c. unlikeLowest cs c) (λ g n c before before′ b. unlike-row g n c) no-rows r
+
+  beyond-rows :
+      failing (λ (q : ChunkRow). q .place) (λ before q. beyondRow rs q) [] rs ≡ failing (λ (c : Chunk). c .place) (λ before c. beyondComplete cs c) [] cs
+  beyond-rows = failing-rows (λ before q. beyondRow rs q) (λ before c. beyondComplete cs c) (λ g n c before before′ b. beyond-row g n c) no-rows r
 
 pub shape-rows : (cs : List Chunk) → shapeByRows (chunkRows cs) (forksOf cs) ≡ shapeOf cs
-unfolding shapeByRows settledByRows shapeOf chunkRows
+unfolding shapeByRows settledByRows barriersByRows shapeOf chunkRows
 shape-rows cs =
     let r = rows-of 0 0 cs in
-    simp (lacks-rows r) (rw (stray-rows r (forksOf cs), unlike-rows r))
+    simp (lacks-rows r) (rw (stray-rows r (forksOf cs), unlike-rows r, beyond-rows r))

@@ -1,4 +1,4 @@
--- The shape of a bundle, 8 to 12: what the chunks have that pass.
+-- The shape of a bundle, 8 to 12 and 19: what the chunks have that pass.
 use Prim.Native.Nat.{ℕ}
 use mathlib.Core.Path.{_≡_, refl, sym, ap}
 use mathlib.Core.Bool.{Bool, true, false, cond}
@@ -10,13 +10,13 @@ use Rattle.bundle.specs.Answer.{gives}
 use Rattle.bundle.specs.Chunks.{Chunk, isOf}
 use Rattle.bundle.specs.Walk.{forksOf}
 use Rattle.bundle.specs.declared.index.Fork.{Fork}
-use Rattle.bundle.specs.Check.{sizeOf, depthOf, forkedBefore, stray, lacksChunk, unlikeFirst, shapeOf}
+use Rattle.bundle.specs.Check.{sizeOf, depthOf, forkedBefore, stray, lacksChunk, unlikeLowest, beyondComplete, shapeOf}
 use Rattle.bundle.proofs.Tests.{both, and-left, and-right}
 use Rattle.bundle.proofs.ListLaws.{Distinct}
 use Rattle.bundle.proofs.Failing.{failing-none, none-failing, each-passes, passes-each, once-elim, once-intro, refused-none, none-refused}
 use Rattle.bundle.proofs.Places.{memberKey}
 
--- what a list of chunks has that passes 8 to 12
+-- what a list of chunks has that passes 8 to 12 and 19
 pub record Shaped (cs : List Chunk) : Type 0 where
   pub forks-once : Distinct (map (λ (f : Fork). f .team) (forksOf cs))
   pub members-once : Distinct (map memberKey cs)
@@ -24,7 +24,8 @@ pub record Shaped (cs : List Chunk) : Type 0 where
   pub root : lacksChunk cs 0 1 ≡ false
   pub present : (f : Fork) → List·Memᴰ f (forksOf cs) → lacksChunk cs (f .team) (f .size) ≡ false
   pub shallow : (f : Fork) → List·Memᴰ f (forksOf cs) → ltb 4 (depthOf (forksOf cs) (f .team)) ≡ false
-  pub alike : (c : Chunk) → List·Memᴰ c cs → unlikeFirst cs c ≡ false
+  pub alike : (c : Chunk) → List·Memᴰ c cs → unlikeLowest cs c ≡ false
+  pub none-beyond : (c : Chunk) → List·Memᴰ c cs → beyondComplete cs c ≡ false
 
 -- a chunk is that of a member exactly where the keys are equal
 abbrev sameMember : Chunk → Chunk → Bool
@@ -81,13 +82,15 @@ shaped-elim cs e =
     let atChunk : Chunk → ℕ = λ c. c .place in
     let lacks : List Fork → Fork → Bool = λ before f. lacksChunk cs (f .team) (f .size) in
     let deep : List Fork → Fork → Bool = λ before f. ltb 4 (depthOf fs (f .team)) in
-    let unlike : List Chunk → Chunk → Bool = λ before c. unlikeFirst cs c in
+    let unlike : List Chunk → Chunk → Bool = λ before c. unlikeLowest cs c in
+    let beyond : List Chunk → Chunk → Bool = λ before c. beyondComplete cs c in
     let r8 = refused-none 8 _ _ e in
     let r9 = refused-none 9 _ _ (r8 .1) in
     let r10 = refused-none 10 _ _ (r9 .1) in
     let r10′ = refused-none 10 _ _ (r10 .1) in
     let r11 = refused-none 11 _ _ (r10′ .1) in
     let r12 = refused-none 12 _ _ (r11 .1) in
+    let r19 = refused-none 19 _ _ (r12 .1) in
     let forks =
     once-elim (λ (f : Fork). f .team) (λ f. false) (λ (f g : Fork). eqb (g .team) (f .team)) team-is is-team
     (failing-none atFork forkedBefore [] fs (r8 .0)) in
@@ -99,7 +102,8 @@ shaped-elim cs e =
       root = cond-none (lacksChunk cs 0 1) (r10 .0);
       present = each-passes (λ (f : Fork). lacksChunk cs (f .team) (f .size)) (failing-none atFork lacks [] fs (r10′ .0));
       shallow = each-passes (λ (f : Fork). ltb 4 (depthOf fs (f .team))) (failing-none atFork deep [] fs (r11 .0));
-      alike = each-passes (unlikeFirst cs) (failing-none atChunk unlike [] cs (r12 .0));
+      alike = each-passes (unlikeLowest cs) (failing-none atChunk unlike [] cs (r12 .0));
+      none-beyond = each-passes (beyondComplete cs) (failing-none atChunk beyond [] cs (r19 .0));
     }
 
 pub shaped-intro : (cs : List Chunk) → Shaped cs → shapeOf cs ≡ gives tt
@@ -124,5 +128,7 @@ shaped-intro cs s =
     (none-failing atFork (λ before f. ltb 4 (depthOf fs (f .team)))
     (passes-each (λ (f : Fork). ltb 4 (depthOf fs (f .team))) [] fs (s .shallow)))
     (none-refused 12
-    (none-failing atChunk (λ before c. unlikeFirst cs c) (passes-each (unlikeFirst cs) [] cs (s .alike)))
-    refl)))))
+    (none-failing atChunk (λ before c. unlikeLowest cs c) (passes-each (unlikeLowest cs) [] cs (s .alike)))
+    (none-refused 19
+    (none-failing atChunk (λ before c. beyondComplete cs c) (passes-each (beyondComplete cs) [] cs (s .none-beyond)))
+    refl))))))

@@ -9,6 +9,8 @@ use native.Mathlib.Omega.{arith}
 use native.Mathlib.Decide.{ℕ-discrete}
 use native.Mathlib.Numerals.{add-one}
 use native.Mathlib.Nat.{add-mul-mod-self-left, add-mul-div-left, mod-eq-of-lt, div-eq-of-lt, add-zero, zero-add}
+use lib.Dec.{eqb}
+use mir.Val.{boolByte}
 use lib.ListN.{length, getD, set, length-set}
 use lib.Seq.{lt-length-set, getD-set-same, getD-set-other}
 use Rattle.bundle.specs.Lists.{first}
@@ -252,14 +254,18 @@ module _ (words : List ℕ) (n a b l : ℕ) (row : Fork) (fits : 3 * n + 2 < len
           ∙ getD-set-other words (3 * n) i a 0 (λ q. omega arith)
 
 -- a chunk's end is stored as the offset of its last command
-pub stored-past : (place past team member barriers segments accesses : ℕ) (one other : Parts) → 1 ≤ past →
-    one ≡ record { first = place; second = barriers; third = 0; fourth = member; fifth = team } →
+pub stored-past : (place past team member barriers : ℕ) (complete : Bool) (segments accesses : ℕ) (one other : Parts) → 1 ≤ past →
+    one ≡ record { first = place; second = barriers; third = boolByte complete; fourth = member; fifth = team } →
     other ≡ record { first = past - 1; second = segments; third = 0; fourth = 0; fifth = accesses } →
-    chunkRowOf one other ≡ record { place = place; past = past; team = team; member = member; barriers = barriers; segments = segments; accesses = accesses }
+    chunkRowOf one other ≡ record { place = place; past = past; team = team; member = member; barriers = barriers; complete = complete; segments = segments; accesses = accesses }
 unfolding chunkRowOf
-stored-past place past team member barriers segments accesses one other h e q =
+stored-past place past team member barriers complete segments accesses one other h e q =
     let r : past - 1 + 1 ≡ past = omega arith in
-    rw (e, q, r)
+    rw (e, q, r, flag complete)
+  where
+    flag : (b : Bool) → eqb (boolByte b) 1 ≡ b
+    flag true = refl
+    flag false = refl
 
 pub stored-fork : (f : Fork) (one other : Parts) →
     one ≡ record { first = f .place; second = f .parent; third = f .size; fourth = f .member; fifth = f .team } →

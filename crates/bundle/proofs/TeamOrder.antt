@@ -126,6 +126,6 @@ module _ (n k : ℕ) (h : k ≤ n) where
         order-long = front-length;
         masks-long = rw (length-replicate {A = ℕ} a 0) (omega arith);
         masks-clear = ap (λ (x : ℕ). replicate {A = ℕ} x 0) (sym (length-replicate {A = ℕ} a 0));
-        firsts-long = rw (length-replicate {A = ℕ} b 0) (omega arith);
-        firsts-clear = ap (λ (x : ℕ). replicate {A = ℕ} x 0) (sym (length-replicate {A = ℕ} b 0));
+        leads-long = rw (length-replicate {A = ℕ} b 0) (omega arith);
+        leads-clear = ap (λ (x : ℕ). replicate {A = ℕ} x 0) (sym (length-replicate {A = ℕ} b 0));
       }

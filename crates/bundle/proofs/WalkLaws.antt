@@ -30,6 +30,7 @@ opening-along f other member region barrier Com.Barrier = refl
 opening-along f other member region barrier (Com.Acquire l) = refl
 opening-along f other member region barrier (Com.Release l) = refl
 opening-along f other member region barrier (Com.Access a) = refl
+opening-along f other member region barrier Com.Cut = refl
 
 length-borders : (k : ChunkState) (c : Command) → length (borders k c) ≡ opensSegment c
 unfolding borders opensSegment

@@ -20,6 +20,7 @@ use Rattle.bundle.specs.declared.refusal.Cause.the-variants.{
   UnequalSpans,
   DoesNotFit,
   PastEnd,
+  CutAhead,
 }
 
 -- an operation's answer: a value, or a refusal by its number and place
@@ -52,3 +53,4 @@ numberOf BadLabel = 15
 numberOf UnequalSpans = 16
 numberOf DoesNotFit = 17
 numberOf PastEnd = 18
+numberOf CutAhead = 19

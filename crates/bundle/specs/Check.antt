@@ -1,14 +1,14 @@
 -- Check a bundle, and find a member's chunk.
 use Prim.Native.Nat.{ℕ, zero, suc}
 use mathlib.Core.Path.{_≡_}
-use mathlib.Core.Bool.{Bool, cond, not, _||_}
+use mathlib.Core.Bool.{Bool, cond, not, _&&_, _||_}
 use mathlib.Core.List.{List, [], _∷_, map, List·Permᴰ}
 use mathlib.Core.Option.{Option}
 use lib.ListN.{length}
 use lib.Dec.{eqb, ltb, leb}
 use Rattle.bundle.specs.Answer.{Answer, gives, refuses, whenGiven, numberOf}
 use Rattle.bundle.specs.Lists.{upTo, any, all, first, backToBack, fromOption}
-use Rattle.bundle.specs.Chunks.{Chunk, chunksOf, partOf, isOf, chunkOf}
+use Rattle.bundle.specs.Chunks.{Chunk, chunksOf, complete, partOf, isOf, chunkOf}
 unfoldable pub use Rattle.bundle.specs.Walk.{forksIn, forksOf, barriersOf}
 pub use Rattle.bundle.specs.declared.index.Fork.{Fork}
 use Rattle.bundle.specs.Scan.{scanOf}
@@ -49,16 +49,28 @@ stray fs before c = leb (sizeOf fs (c .team)) (c .member) || any (isOf (c .team)
 unfoldable pub lacksChunk : List Chunk → ℕ → ℕ → Bool
 lacksChunk cs t size = not (all (λ m. any (isOf t m) cs) (upTo size))
 
--- 12: a barrier count unlike member 0's
-unfoldable pub unlikeFirst : List Chunk → Chunk → Bool
-unlikeFirst cs c = not (eqb (barriersOf c) (fromOption 0 barriersOf (chunkOf cs (c .team) 0)))
+-- a complete member of a team; "the lowest-numbered complete one"
+unfoldable pub completeIn : ℕ → Chunk → Bool
+completeIn t c = eqb (c .team) t && complete c
+
+unfoldable pub lowestComplete : List Chunk → ℕ → Chunk → Bool
+lowestComplete cs t c = completeIn t c && not (any (λ (d : Chunk). completeIn t d && ltb (d .member) (c .member)) cs)
+
+-- 12: a barrier count unlike that of the team's lowest-numbered complete member; it "compares complete members only"
+unfoldable pub unlikeLowest : List Chunk → Chunk → Bool
+unlikeLowest cs c =
+    complete c && any (λ (d : Chunk). lowestComplete cs (c .team) d && not (eqb (barriersOf c) (barriersOf d))) cs
+
+-- 19: "a cut chunk with more barriers than a complete member of its team"
+unfoldable pub beyondComplete : List Chunk → Chunk → Bool
+beyondComplete cs c = not (complete c) && any (λ (d : Chunk). completeIn (c .team) d && ltb (barriersOf d) (barriersOf c)) cs
 
 -- the first place is the lowest
 unfoldable pub refusedAt : ℕ → List ℕ → Answer (Unit {0}) → Answer (Unit {0})
 refusedAt n [] next = next
 refusedAt n (p ∷ ps) next = refuses n p
 
--- 8 to 12: "the lowest number, then lowest offset"; 11 is a team too deep: "Teams nest at most 4 deep below the root"
+-- 8 to 12, and 19 "after 12": "the lowest number, then lowest offset"; 11 is a team too deep: "Teams nest at most 4 deep below the root"
 unfoldable pub shapeOf : List Chunk → Answer (Unit {0})
 shapeOf cs =
     let fs = forksOf cs in
@@ -69,8 +81,9 @@ shapeOf cs =
     (refusedAt 10 (cond (lacksChunk cs 0 1) (0 ∷ []) [])
     (refusedAt 10 (failing atFork (λ before f. lacksChunk cs (f .team) (f .size)) [] fs)
     (refusedAt 11 (failing atFork (λ before f. ltb 4 (depthOf fs (f .team))) [] fs)
-    (refusedAt 12 (failing atChunk (λ before c. unlikeFirst cs c) [] cs)
-    (gives tt))))))
+    (refusedAt 12 (failing atChunk (λ before c. unlikeLowest cs c) [] cs)
+    (refusedAt 19 (failing atChunk (λ before c. beyondComplete cs c) [] cs)
+    (gives tt)))))))
 
 -- "Check a bundle"
 unfoldable pub checkOf : List ℕ → Answer (Unit {0})
@@ -89,7 +102,7 @@ findOf s t m =
 abbrev pub Accepted : List ℕ → Type 0
 Accepted s = checkOf s ≡ gives tt
 
--- the chunks of the bundle b, MEMBER to END each, back to back in some order
+-- the chunks of the bundle b, MEMBER to END or CUT each, back to back in some order
 pub record Reordered (b c : List ℕ) : Type 0 where
   pub order : List Chunk
   pub same-chunks : List·Permᴰ (chunksOf b) order

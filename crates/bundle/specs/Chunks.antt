@@ -1,15 +1,15 @@
 -- Chunks: the state while a chunk is read, the commands of a bundle with their offsets, and its chunks.
 use Prim.Native.Nat.{ℕ, zero, suc, _+_, _-_}
-use mathlib.Core.Bool.{Bool, cond, _&&_}
+use mathlib.Core.Bool.{Bool, true, false, cond, _&&_}
 use mathlib.Core.List.{List, [], _∷_, map}
 use mathlib.Core.Option.{Option}
 use lib.ListN.{length, take, drop}
 use lib.Dec.{eqb, leb}
 use Rattle.bundle.specs.Answer.{Answer, gives, refuses}
-use Rattle.bundle.specs.Lists.{first}
+use Rattle.bundle.specs.Lists.{first, any}
 use Rattle.bundle.specs.Locks.{acquired, released}
 use Rattle.bundle.specs.Commands.{Taken, decodeAt, bytesOf}
-use Rattle.bundle.specs.Cases.{onDelimiter}
+use Rattle.bundle.specs.Cases.{onDelimiter, onEnd}
 use Rattle.bundle.specs.declared.chunk.ChunkState.{ChunkState}
 use Rattle.bundle.specs.declared.command.Command.{Command}
 use Rattle.bundle.specs.declared.command.Command.the-variants as Com
@@ -38,6 +38,7 @@ afterCommand k Com.Barrier = afterBarrier k
 afterCommand k (Com.Acquire l) = afterAcquire l k
 afterCommand k (Com.Release l) = afterRelease l k
 afterCommand k (Com.Access a) = k
+afterCommand k Com.Cut = k
 
 unfoldable pub afterCommands : ChunkState → List Command → ChunkState
 afterCommands k [] = k
@@ -71,8 +72,8 @@ frontFrom (suc fuel) s at =
 unfoldable pub frontOf : List ℕ → Front
 frontOf s = frontFrom (length s) s 0
 
--- "MEMBER opens a chunk, the whole log of one team member; END closes the chunk": its offset, the commands after MEMBER up to END, and
--- the offset after END
+-- "MEMBER opens a chunk, the whole log of one team member; END closes the chunk", or CUT in its place: its offset, the commands after
+-- MEMBER up to END or CUT, and the offset after that
 pub record Chunk : Type 0 where
   pub place : ℕ
   pub team : ℕ
@@ -110,7 +111,14 @@ chunksOf s = gather (frontOf s .placed) .chunks
 unfoldable pub commandsOf : Chunk → List Command
 commandsOf c = map (λ (p : Placed). p .command) (c .body)
 
--- that part of the bundle, MEMBER to END
+-- "complete": closed by END, not by CUT
+unfoldable pub isEnd : Command → Bool
+isEnd = onEnd false true
+
+unfoldable pub complete : Chunk → Bool
+complete c = any isEnd (commandsOf c)
+
+-- that part of the bundle, MEMBER to END or CUT
 unfoldable pub partOf : List ℕ → Chunk → List ℕ
 partOf s c = take (c .past - c .place) (drop (c .place) s)
 

@@ -65,11 +65,12 @@ unfoldable pub formOf : ℕ → Option Form
 formOf b =
     cond (eqb b 0x01) (form (2 ∷ 1 ∷ []) (λ x. Com.Member (x 0) (x 1)))
     (cond (eqb b 0x02) (form [] (λ x. Com.End))
+    (cond (eqb b 0x03) (form [] (λ x. Com.Cut))
     (cond (eqb b 0x10) (form (2 ∷ 1 ∷ []) (λ x. Com.Region (x 0) (x 1)))
     (cond (eqb b 0x11) (form [] (λ x. Com.Barrier))
     (cond (eqb b 0x20) (form (1 ∷ []) (λ x. Com.Acquire (x 0)))
     (cond (eqb b 0x21) (form (1 ∷ []) (λ x. Com.Release (x 0)))
-    (cond (leb 0x30 b && ltb b 0x34) (accessForm (kindOf b)) none))))))
+    (cond (leb 0x30 b && ltb b 0x34) (accessForm (kindOf b)) none)))))))
 
 -- the other way round: a command's byte and its operands
 pub record Code : Type 0 where
@@ -88,6 +89,7 @@ codeOf (Com.Access a) =
       byte = kindByte (a .kind);
       operands = a .site ∷ a .range .base ∷ a .range .stride ∷ a .range .count ∷ a .range .size ∷ [];
     }
+codeOf Com.Cut = record { byte = 0x03; operands = [] }
 
 -- how many bytes the command with this first byte has, operands included; 0 for an unknown command byte
 unfoldable pub sum : List ℕ → ℕ
@@ -145,6 +147,7 @@ operandsOk Com.Barrier = true
 operandsOk (Com.Acquire l) = ltb l 64
 operandsOk (Com.Release l) = ltb l 64
 operandsOk (Com.Access a) = rangeOk (a .range)
+operandsOk Com.Cut = true
 
 -- whether operands fit these widths
 unfoldable pub fitWidths : List ℕ → List ℕ → Bool

@@ -8,7 +8,7 @@ use Rattle.bundle.specs.Check.{checkOf}
 use Rattle.bundle.specs.declared.check.Found.{Found}
 use Rattle.bundle.specs.declared.check.Found.the-variants as Founds
 
--- the offset of a chunk's MEMBER, and the offset after its END
+-- the offset of a chunk's MEMBER, and the offset after its END or CUT
 pub record Ends : Type 0 where
   pub start : ℕ
   pub end : ℕ

@@ -7,7 +7,7 @@ use lib.ListN.{length, getD}
 use lib.Dec.{eqb}
 unfoldable pub use Rattle.sorting.specs.Searching.{indexOf}
 use Rattle.bundle.specs.Answer.{gives}
-use Rattle.bundle.specs.Chunks.{Chunk, chunksOf, commandsOf}
+use Rattle.bundle.specs.Chunks.{Chunk, chunksOf, commandsOf, complete}
 use Rattle.bundle.specs.Walk.{opensSegment, addsAccess, barriersOf, forksOf}
 use Rattle.bundle.specs.Check.{checkOf}
 use Rattle.bundle.specs.declared.command.Command.{Command}
@@ -36,6 +36,7 @@ chunkRowOf one other =
       team = one .fifth;
       member = one .fourth;
       barriers = one .second;
+      complete = eqb (one .third) 1;
       segments = other .second;
       accesses = other .fifth;
     }
@@ -107,6 +108,7 @@ chunkRow g n c =
       team = c .team;
       member = c .member;
       barriers = barriersOf c;
+      complete = complete c;
       segments = g;
       accesses = n;
     }

@@ -24,7 +24,7 @@ misplaced k c = cond (isMember c) (k .inside) (not (k .inside))
 unfoldable pub aboveOwnTeam : ℕ → Command → Bool
 aboveOwnTeam own = onRegion true (λ t z. ltb own t)
 
--- 6: a held lock acquired, an unheld one released, or one held at END
+-- 6: a held lock acquired, an unheld one released, or one held at END; CUT "allows held locks"
 unfoldable pub misusesLock : ℕ → Command → Bool
 misusesLock locks (Com.Member t m) = false
 misusesLock locks Com.End = not (eqb locks 0)
@@ -33,6 +33,7 @@ misusesLock locks Com.Barrier = false
 misusesLock locks (Com.Acquire l) = holds l locks
 misusesLock locks (Com.Release l) = not (holds l locks)
 misusesLock locks (Com.Access a) = false
+misusesLock locks Com.Cut = false
 
 -- 7: the 513th segment or 1,025th access
 unfoldable pub tooMany : Scan → Command → Bool

@@ -7,9 +7,9 @@ use lib.Dec.{eqb}
 use lib.ListN.{length}
 use Rattle.bundle.specs.Answer.{Answer, gives, refuses, whenGiven, numberOf}
 use Rattle.bundle.specs.Commands.{Taken, decodeAt}
-use Rattle.bundle.specs.Lists.{concatMap}
+use Rattle.bundle.specs.Lists.{any, concatMap}
 use Rattle.bundle.specs.Cases.{onDelimiter, onRegion}
-use Rattle.bundle.specs.Chunks.{Placed, Chunk, Gathered, afterCommands, frontFrom, gather, chunksOf}
+use Rattle.bundle.specs.Chunks.{Placed, Chunk, Gathered, afterCommands, frontFrom, gather, chunksOf, isEnd}
 use Rattle.bundle.specs.Walk.{opensSegment, addsAccess, entriesFrom, forkAt, forksOf}
 use Rattle.bundle.specs.Scan.{faultOf, start, scanned, walk, scanOf}
 use Rattle.bundle.specs.Index.{table, chunkRowAt, forkRowAt, total, rowsFrom, chunkRows}
@@ -85,14 +85,15 @@ beginning =
 unfoldable pub openedAt : Progress → ℕ → Open
 openedAt p m = record { place = p .at; member = m; segments = p .scan .segments; accesses = p .scan .accesses }
 
-unfoldable pub closedRow : Progress → ChunkRow
-closedRow p =
+unfoldable pub closedRow : Progress → Bool → ChunkRow
+closedRow p whole =
     record {
       place = p .chunk .place;
       past = p .at + 1;
       team = p .scan .team;
       member = p .chunk .member;
       barriers = p .scan .state .barriers;
+      complete = whole;
       segments = p .chunk .segments;
       accesses = p .chunk .accesses;
     }
@@ -113,7 +114,7 @@ passAfter p c k next =
     }
 
 unfoldable pub newChunks : Progress → Command → List ChunkRow
-newChunks p = onDelimiter [] (λ t m. []) (closedRow p ∷ [])
+newChunks p c = onDelimiter [] (λ t m. []) (closedRow p (isEnd c) ∷ []) c
 
 unfoldable pub newForks : Progress → Command → List Fork
 newForks p = onRegion [] (λ t z. forkHere p t z ∷ [])
@@ -146,6 +147,7 @@ openRow p cs past =
       team = p .scan .team;
       member = p .chunk .member;
       barriers = afterCommands (p .scan .state) cs .barriers;
+      complete = any isEnd cs;
       segments = p .chunk .segments;
       accesses = p .chunk .accesses;
     }

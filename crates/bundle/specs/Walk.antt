@@ -8,7 +8,7 @@ use Rattle.bundle.specs.declared.chunk.ChunkState.{ChunkState}
 use Rattle.bundle.specs.declared.command.Command.{Command}
 use Rattle.bundle.specs.declared.index.Fork.{Fork}
 
--- what opens or ends a segment: the chunk's own MEMBER or END; the barrier of a number, counted from 0 in the chunk; the REGION that
+-- what opens or ends a segment: the chunk's own MEMBER, and its END or CUT; the barrier of a number, counted from 0 in the chunk; the REGION that
 -- forks a team
 pub data Border : Type 0 where
   ofChunk : Border

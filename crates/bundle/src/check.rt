@@ -23,7 +23,7 @@ pub enum Indexing {
 
 // What finding a chunk gives.
 pub enum Found {
-    // The offset of its MEMBER, and the offset after its END.
+    // The offset of its MEMBER, and the offset after its END or CUT.
     At { start: usize, end: usize },
     Refused { place: usize, cause: Cause },
 }

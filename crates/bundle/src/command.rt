@@ -40,6 +40,7 @@ pub enum Command {
     Acquire(u8),
     Release(u8),
     Access(Access),
+    Cut,
 }
 
 // What reading a command at a position gives.
@@ -110,6 +111,7 @@ pub fn in_range(command: Command) -> bool
         Command::Acquire(lock) => lock < 64,
         Command::Release(lock) => lock < 64,
         Command::Access(access) => range_ok(access.range),
+        Command::Cut => true,
     }
 }
 
@@ -260,6 +262,10 @@ pub fn decode_command(bytes: &[u8], position: usize) -> Reading
             next: position + 1,
             command: Command::End,
         },
+        0x03 => Reading::Taken {
+            next: position + 1,
+            command: Command::Cut,
+        },
         0x10 => decode_region(bytes, position),
         0x11 => Reading::Taken {
             next: position + 1,
@@ -307,6 +313,10 @@ pub fn read_command(bytes: &[u8], position: usize) -> Reading
         0x02 => Reading::Taken {
             next: position + 1,
             command: Command::End,
+        },
+        0x03 => Reading::Taken {
+            next: position + 1,
+            command: Command::Cut,
         },
         0x10 => accept(decode_region(bytes, position), position),
         0x11 => Reading::Taken {
@@ -420,6 +430,7 @@ fn encode(command: Command) -> Encoded
         Command::Acquire(lock) => encode_lock(0x20, lock),
         Command::Release(lock) => encode_lock(0x21, lock),
         Command::Access(access) => encode_access(access),
+        Command::Cut => encode_plain(0x03),
     }
 }
 

@@ -6,14 +6,15 @@ ghost use lib.Dec.{eqb};
 ghost use lib.ListN.{length, getD};
 ghost use Rattle.bundle.specs.Index.{partsOf, chunkRowAt, forkRowAt, ChunkFits, ForkFits, Added, isRow, indexOf, table};
 
-// A chunk: the offset of its MEMBER and the offset after its END, its team and member, the barriers that it passes, and how many segments
-// and accesses of the bundle stand before it.
+// A chunk: the offset of its MEMBER and the offset after its END or CUT, its team and member, the barriers that it passes, whether END
+// closes it, and how many segments and accesses of the bundle stand before it.
 pub struct ChunkRow {
     pub place: usize,
     pub past: usize,
     pub team: u16,
     pub member: u8,
     pub barriers: u32,
+    pub complete: bool,
     pub segments: u32,
     pub accesses: u32,
 }
@@ -83,6 +84,7 @@ pub fn chunk_at(chunks: &[u64], i: u32) -> ChunkRow
         team: one.fifth,
         member: one.fourth,
         barriers: one.second as u32,
+        complete: one.third == 1,
         segments: other.second as u32,
         accesses: other.fifth as u32,
     }
@@ -119,7 +121,7 @@ pub(crate) fn add_chunk(chunks: &mut [u64], count: u32, row: ChunkRow)
     chunks[at] = pack(Parts {
         first: row.place as u16,
         second: row.barriers as u16,
-        third: 0,
+        third: row.complete as u8,
         fourth: row.member,
         fifth: row.team,
     });

@@ -22,6 +22,7 @@ pub enum Cause {
     UnequalSpans, // 16
     DoesNotFit, // 17
     PastEnd, // 18
+    CutAhead, // 19
 }
 
 // The number of a cause.
@@ -47,5 +48,6 @@ pub fn number(cause: Cause) -> u8
         Cause::UnequalSpans => 16,
         Cause::DoesNotFit => 17,
         Cause::PastEnd => 18,
+        Cause::CutAhead => 19,
     }
 }

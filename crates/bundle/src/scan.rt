@@ -260,6 +260,19 @@ fn test_access(scan: Scan, access: Access, next: usize, place: usize) -> Step
     )
 }
 
+// A chunk may be cut with locks held.
+fn test_cut(scan: Scan, next: usize, place: usize) -> Step
+    requires { ⌜ Bounded scan ⌝ }
+    ensures { λ r. ⌜ stepOf r ≡ testedAt scan place (record { command = Command.Cut; next = next }) ⌝ }
+{
+    let onward = Step::Onward {
+        next,
+        scan: close_chunk(scan),
+        command: Command::Cut,
+    };
+    decide(!scan.inside, false, false, false, onward, place)
+}
+
 // A command that was decoded: 4 to 7 in that order.
 fn test(scan: Scan, command: Command, next: usize, place: usize) -> Step
     requires { ⌜ Bounded scan ⌝ }
@@ -273,6 +286,7 @@ fn test(scan: Scan, command: Command, next: usize, place: usize) -> Step
         Command::Acquire(lock) => test_acquire(scan, lock, next, place),
         Command::Release(lock) => test_release(scan, lock, next, place),
         Command::Access(access) => test_access(scan, access, next, place),
+        Command::Cut => test_cut(scan, next, place),
     }
 }
 

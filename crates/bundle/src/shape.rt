@@ -1,4 +1,4 @@
-// The shape of a bundle, 8 to 12, by its index.
+// The shape of a bundle, 8 to 12 and 19, by its index.
 use crate::answer::Checking;
 use crate::index::ChunkRow;
 use crate::index::chunk_at;
@@ -7,14 +7,14 @@ use crate::refusal::Cause;
 use sorting::search::first_with_key;
 use sorting::sort::sort;
 ghost use mathlib.Core.Path.{_≡_};
-ghost use mathlib.Core.Bool.{cond, not, _||_};
+ghost use mathlib.Core.Bool.{_||_};
 ghost use Prim.Native.Nat.{_+_, _*_, _≤_, _<_};
-ghost use lib.Dec.{eqb, ltb, leb};
-ghost use lib.ListN.{length, getD, set};
+ghost use lib.Dec.{ltb, leb};
+ghost use lib.ListN.{length, getD};
 ghost use Rattle.sorting.specs.Searching.{firstWithKey};
 ghost use Rattle.bundle.specs.Check.{sizeOf, checkingOf};
 ghost use Rattle.bundle.specs.Index.{table, chunkRowAt, forkRowAt};
-ghost use Rattle.bundle.specs.Shape.{settledByRows, shapeByRows, FirstFailing, slotOf, ByTeam, metAt, markedAt, Blank, Ready, MetTo, Settled, climbs, deepBy, lacksBy, failsBy};
+ghost use Rattle.bundle.specs.Shape.{settledByRows, shapeByRows, FirstFailing, slotOf, ByTeam, metAt, markedAt, Blank, Ready, MetTo, Settled, climbs, deepBy, lacksBy, leadWord, notedLead, unlikeBy, unevenBy, barriersByRows, failsBy};
 ghost use Rattle.bundle.specs.declared.answer.Checking.the-variants as Checks;
 
 // The tests of a row by tables that are complete.
@@ -22,7 +22,8 @@ pub enum Test {
     ForkedBefore, // 8, of a REGION
     LacksChunk, // 10, of a REGION
     TooDeep, // 11, of a REGION
-    UnlikeFirst, // 12, of a chunk
+    UnlikeLowest, // 12, of a chunk
+    Uneven, // 12 or 19, of a chunk
 }
 
 // The slot of a team: the index of the REGION that forks it, the number of REGIONs where none does.
@@ -52,13 +53,13 @@ fn mark(masks: &mut [u64], slot: u32, member: u8)
     masks[at] = masks[at] | (1 << (member % 64));
 }
 
-// The barriers of member 0 of the team of a slot.
-fn first_barriers(firsts: &[u32], slot: u32) -> u32
-    ensures { λ r. ⌜ r ≡ getD (now (firsts .entry)) slot 0 ⌝ }
+// The number of the lowest-numbered complete member of the team of a slot, 0 where none is complete.
+fn lead_at(leads: &[u32], slot: u32) -> u32
+    ensures { λ r. ⌜ r ≡ getD (now (leads .entry)) slot 0 ⌝ }
 {
     let at = slot as usize;
-    if at < firsts.len() {
-        return firsts[at];
+    if at < leads.len() {
+        return leads[at];
     }
     0
 }
@@ -88,16 +89,23 @@ fn is_stray(forks: &[u64], regions: u32, masks: &[u64], slot: u32, row: ChunkRow
     (size_of(forks, regions, slot, team) <= member) | met(masks, slot, member)
 }
 
-// Notes a chunk that is not stray.
-fn note(masks: &mut [u64], firsts: &mut [u32], slot: u32, row: ChunkRow)
-    requires { ⌜ (4 * slot + 3 < length (now masks)) × (slot < length (now firsts)) ⌝ }
-    ensures { λ _. ⌜ (now (masks .exit) ≡ markedAt (now (masks .entry)) slot (row .member)) × (now (firsts .exit) ≡ cond (eqb (row .member) 0) (set (now (firsts .entry)) slot (row .barriers)) (now (firsts .entry))) ⌝ }
+// A complete chunk as a number: of two members the one of the lower number has the greater.
+fn lead_word(row: ChunkRow) -> u32
+    ensures { λ r. ⌜ r ≡ leadWord row ⌝ }
 {
-    let member = row.member;
-    let barriers = row.barriers;
-    mark(masks, slot, member);
-    if member == 0 {
-        firsts[slot as usize] = barriers;
+    (256 - row.member as u32) * 65536 + row.barriers % 65536
+}
+
+// Notes a chunk that is not stray.
+fn note(masks: &mut [u64], leads: &mut [u32], slot: u32, row: ChunkRow)
+    requires { ⌜ (4 * slot + 3 < length (now masks)) × (slot < length (now leads)) ⌝ }
+    ensures { λ _. ⌜ (now (masks .exit) ≡ markedAt (now (masks .entry)) slot (row .member)) × (now (leads .exit) ≡ notedLead row (now (leads .entry)) slot) ⌝ }
+{
+    mark(masks, slot, row.member);
+    let word = lead_word(row);
+    let at = slot as usize;
+    if row.complete & (leads[at] < word) {
+        leads[at] = word;
     }
 }
 
@@ -109,10 +117,10 @@ fn first_stray(
     regions: u32,
     order: &[u64],
     masks: &mut [u64],
-    firsts: &mut [u32],
+    leads: &mut [u32],
 ) -> u32
-    requires { ⌜ Ready (now chunks) (now forks) (now order) (now masks) (now firsts) regions ⌝ }
-    ensures { λ r. ⌜ MetTo (now (chunks .entry)) (now (forks .entry)) (now (masks .exit)) (now (firsts .exit)) count regions r ⌝ }
+    requires { ⌜ Ready (now chunks) (now forks) (now order) (now masks) (now leads) regions ⌝ }
+    ensures { λ r. ⌜ MetTo (now (chunks .entry)) (now (forks .entry)) (now (masks .exit)) (now (leads .exit)) count regions r ⌝ }
 {
     let mut i = 0;
     while i < count {
@@ -121,7 +129,7 @@ fn first_stray(
         if is_stray(forks, regions, masks, slot, row) {
             return i;
         }
-        note(masks, firsts, slot, row);
+        note(masks, leads, slot, row);
         i += 1;
     }
     i
@@ -185,13 +193,27 @@ fn too_deep(forks: &[u64], order: &[u64], i: u32) -> bool
     climb(forks, order, team, 5)
 }
 
-fn unlike_first(chunks: &[u64], order: &[u64], firsts: &[u32], i: u32) -> bool
+// 12: a complete chunk with other barriers than the lowest-numbered complete member.
+fn unlike_lowest(chunks: &[u64], order: &[u64], leads: &[u32], i: u32) -> bool
     requires { ⌜ length (now order) ≤ 512 ⌝ }
-    ensures { λ r. ⌜ r ≡ not (eqb (chunkRowAt (now (chunks .entry)) i .barriers) (getD (now (firsts .entry)) (firstWithKey (now (order .entry)) (chunkRowAt (now (chunks .entry)) i .team)) 0)) ⌝ }
+    ensures { λ r. ⌜ r ≡ unlikeBy (chunkRowAt (now (chunks .entry)) i) (getD (now (leads .entry)) (firstWithKey (now (order .entry)) (chunkRowAt (now (chunks .entry)) i .team)) 0) ⌝ }
 {
     let row = chunk_at(chunks, i);
-    let barriers = row.barriers;
-    !(barriers == first_barriers(firsts, slot_of(order, row.team)))
+    let lead = lead_at(leads, slot_of(order, row.team));
+    row.complete & !(row.barriers == lead % 65536)
+}
+
+// 12 or 19: a complete chunk with other barriers than the lowest-numbered complete member, or a cut one with more.
+fn uneven(chunks: &[u64], order: &[u64], leads: &[u32], i: u32) -> bool
+    requires { ⌜ length (now order) ≤ 512 ⌝ }
+    ensures { λ r. ⌜ r ≡ unevenBy (chunkRowAt (now (chunks .entry)) i) (getD (now (leads .entry)) (firstWithKey (now (order .entry)) (chunkRowAt (now (chunks .entry)) i .team)) 0) ⌝ }
+{
+    let row = chunk_at(chunks, i);
+    let lead = lead_at(leads, slot_of(order, row.team));
+    if row.complete {
+        return !(row.barriers == lead % 65536);
+    }
+    (1 <= lead) & (lead % 65536 < row.barriers)
 }
 
 fn fails(
@@ -201,16 +223,17 @@ fn fails(
     forks: &[u64],
     order: &[u64],
     masks: &[u64],
-    firsts: &[u32],
+    leads: &[u32],
 ) -> bool
     requires { ⌜ length (now order) ≤ 512 ⌝ }
-    ensures { λ r. ⌜ r ≡ failsBy test (now (chunks .entry)) (now (forks .entry)) (now (order .entry)) (now (masks .entry)) (now (firsts .entry)) i ⌝ }
+    ensures { λ r. ⌜ r ≡ failsBy test (now (chunks .entry)) (now (forks .entry)) (now (order .entry)) (now (masks .entry)) (now (leads .entry)) i ⌝ }
 {
     match test {
         Test::ForkedBefore => forked_before(forks, order, i),
         Test::LacksChunk => lacks_chunk(forks, masks, i),
         Test::TooDeep => too_deep(forks, order, i),
-        Test::UnlikeFirst => unlike_first(chunks, order, firsts, i),
+        Test::UnlikeLowest => unlike_lowest(chunks, order, leads, i),
+        Test::Uneven => uneven(chunks, order, leads, i),
     }
 }
 
@@ -222,14 +245,14 @@ fn first_failing(
     forks: &[u64],
     order: &[u64],
     masks: &[u64],
-    firsts: &[u32],
+    leads: &[u32],
 ) -> u32
     requires { ⌜ length (now order) ≤ 512 ⌝ }
-    ensures { λ r. ⌜ FirstFailing (failsBy test (now (chunks .entry)) (now (forks .entry)) (now (order .entry)) (now (masks .entry)) (now (firsts .entry))) rows r ⌝ }
+    ensures { λ r. ⌜ FirstFailing (failsBy test (now (chunks .entry)) (now (forks .entry)) (now (order .entry)) (now (masks .entry)) (now (leads .entry))) rows r ⌝ }
 {
     let mut row = 0;
     while row < rows {
-        if fails(test, row, chunks, forks, order, masks, firsts) {
+        if fails(test, row, chunks, forks, order, masks, leads) {
             return row;
         }
         row += 1;
@@ -258,7 +281,44 @@ fn at_chunk(chunks: &[u64], i: u32, cause: Cause) -> Checking
     }
 }
 
-// 10 to 12, past 8 and 9.
+// 12 and 19, past 8 to 11. One pass where neither fails. The first chunk to fail is a 12 where it is complete; else a 12 behind it comes
+// first.
+fn test_barriers(
+    chunks: &[u64],
+    count: u32,
+    forks: &[u64],
+    regions: u32,
+    order: &[u64],
+    masks: &[u64],
+    leads: &[u32],
+) -> Checking
+    requires { ⌜ Settled (now chunks) (now forks) (now order) (now masks) (now leads) count regions ⌝ }
+    ensures { λ r. ⌜ checkingOf r ≡ barriersByRows (table (chunkRowAt (now (chunks .entry))) count) ⌝ }
+{
+    let i = first_failing(Test::Uneven, count, chunks, forks, order, masks, leads);
+    if count <= i {
+        return Checking::Accepted;
+    }
+    let row = chunk_at(chunks, i);
+    if row.complete {
+        return at_chunk(chunks, i, Cause::BarrierCount);
+    }
+    let k = first_failing(
+        Test::UnlikeLowest,
+        count,
+        chunks,
+        forks,
+        order,
+        masks,
+        leads,
+    );
+    if k < count {
+        return at_chunk(chunks, k, Cause::BarrierCount);
+    }
+    at_chunk(chunks, i, Cause::CutAhead)
+}
+
+// 10 to 12 and 19, past 8 and 9.
 fn test_settled(
     chunks: &[u64],
     count: u32,
@@ -266,9 +326,9 @@ fn test_settled(
     regions: u32,
     order: &[u64],
     masks: &[u64],
-    firsts: &[u32],
+    leads: &[u32],
 ) -> Checking
-    requires { ⌜ Settled (now chunks) (now forks) (now order) (now masks) (now firsts) count regions ⌝ }
+    requires { ⌜ Settled (now chunks) (now forks) (now order) (now masks) (now leads) count regions ⌝ }
     ensures { λ r. ⌜ checkingOf r ≡ settledByRows (table (chunkRowAt (now (chunks .entry))) count) (table (forkRowAt (now (forks .entry))) regions) ⌝ }
 {
     if !met(masks, slot_of(order, 0), 0) {
@@ -284,28 +344,16 @@ fn test_settled(
         forks,
         order,
         masks,
-        firsts,
+        leads,
     );
     if i < regions {
         return at_fork(forks, i, Cause::MissingChunk);
     }
-    let i = first_failing(Test::TooDeep, regions, chunks, forks, order, masks, firsts);
+    let i = first_failing(Test::TooDeep, regions, chunks, forks, order, masks, leads);
     if i < regions {
         return at_fork(forks, i, Cause::TooDeep);
     }
-    let i = first_failing(
-        Test::UnlikeFirst,
-        count,
-        chunks,
-        forks,
-        order,
-        masks,
-        firsts,
-    );
-    if i < count {
-        return at_chunk(chunks, i, Cause::BarrierCount);
-    }
-    Checking::Accepted
+    test_barriers(chunks, count, forks, regions, order, masks, leads)
 }
 
 // "the lowest number, then lowest offset"
@@ -316,9 +364,9 @@ fn test_all(
     regions: u32,
     order: &[u64],
     masks: &mut [u64],
-    firsts: &mut [u32],
+    leads: &mut [u32],
 ) -> Checking
-    requires { ⌜ Ready (now chunks) (now forks) (now order) (now masks) (now firsts) regions ⌝ }
+    requires { ⌜ Ready (now chunks) (now forks) (now order) (now masks) (now leads) regions ⌝ }
     ensures { λ r. ⌜ checkingOf r ≡ shapeByRows (table (chunkRowAt (now (chunks .entry))) count) (table (forkRowAt (now (forks .entry))) regions) ⌝ }
 {
     let i = first_failing(
@@ -328,16 +376,16 @@ fn test_all(
         forks,
         order,
         masks,
-        firsts,
+        leads,
     );
     if i < regions {
         return at_fork(forks, i, Cause::ForkedBefore);
     }
-    let i = first_stray(chunks, count, forks, regions, order, masks, firsts);
+    let i = first_stray(chunks, count, forks, regions, order, masks, leads);
     if i < count {
         return at_chunk(chunks, i, Cause::StrayChunk);
     }
-    test_settled(chunks, count, forks, regions, order, masks, firsts)
+    test_settled(chunks, count, forks, regions, order, masks, leads)
 }
 
 // Writes the team of each REGION with its index, as first_with_key reads them.
@@ -362,7 +410,7 @@ fn order_teams(forks: &[u64], order: &mut [u64])
     sort(order, &mut spare);
 }
 
-// The tests 8 to 12, in tables that are lent: a word for each REGION, and masks and barriers that are all 0.
+// The tests 8 to 12 and 19, in tables that are lent: a word for each REGION, and masks and leads that are all 0.
 fn shape_in(
     chunks: &[u64],
     count: u32,
@@ -370,13 +418,13 @@ fn shape_in(
     regions: u32,
     order: &mut [u64],
     masks: &mut [u64],
-    firsts: &mut [u32],
+    leads: &mut [u32],
 ) -> Checking
-    requires { ⌜ Blank (now order) (now masks) (now firsts) regions ⌝ }
+    requires { ⌜ Blank (now order) (now masks) (now leads) regions ⌝ }
     ensures { λ r. ⌜ checkingOf r ≡ shapeByRows (table (chunkRowAt (now (chunks .entry))) count) (table (forkRowAt (now (forks .entry))) regions) ⌝ }
 {
     order_teams(forks, order);
-    test_all(chunks, count, forks, regions, order, masks, firsts)
+    test_all(chunks, count, forks, regions, order, masks, leads)
 }
 
 // For a few REGIONs small tables do: clearing large ones would take longer than all else.
@@ -386,7 +434,7 @@ fn shape_small(chunks: &[u64], count: u32, forks: &[u64], regions: u32) -> Check
 {
     let mut order = [0u64; 16];
     let mut masks = [0u64; 68];
-    let mut firsts = [0u32; 17];
+    let mut leads = [0u32; 17];
     shape_in(
         chunks,
         count,
@@ -394,7 +442,7 @@ fn shape_small(chunks: &[u64], count: u32, forks: &[u64], regions: u32) -> Check
         regions,
         &mut order[..regions as usize],
         &mut masks,
-        &mut firsts,
+        &mut leads,
     )
 }
 
@@ -404,7 +452,7 @@ fn shape_large(chunks: &[u64], count: u32, forks: &[u64], regions: u32) -> Check
 {
     let mut order = [0u64; 512];
     let mut masks = [0u64; 2052];
-    let mut firsts = [0u32; 513];
+    let mut leads = [0u32; 513];
     shape_in(
         chunks,
         count,
@@ -412,11 +460,11 @@ fn shape_large(chunks: &[u64], count: u32, forks: &[u64], regions: u32) -> Check
         regions,
         &mut order[..regions as usize],
         &mut masks,
-        &mut firsts,
+        &mut leads,
     )
 }
 
-// The tests 8 to 12.
+// The tests 8 to 12 and 19.
 pub fn shape(chunks: &[u64], count: u32, forks: &[u64], regions: u32) -> Checking
     requires { ⌜ count + regions ≤ 512 ⌝ }
     ensures { λ r. ⌜ checkingOf r ≡ shapeByRows (table (chunkRowAt (now (chunks .entry))) count) (table (forkRowAt (now (forks .entry))) regions) ⌝ }

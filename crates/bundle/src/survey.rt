@@ -75,10 +75,10 @@ fn opened(pass: Progress, member: u8) -> Open
     }
 }
 
-// The row of the chunk that is closed at the position.
-fn closed_row(pass: Progress) -> ChunkRow
+// The row of the chunk that is closed at the position, by END where it is complete.
+fn closed_row(pass: Progress, complete: bool) -> ChunkRow
     requires { ⌜ Near pass ⌝ }
-    ensures { λ r. ⌜ (r ≡ closedRow pass) × ChunkFits r ⌝ }
+    ensures { λ r. ⌜ (r ≡ closedRow pass complete) × ChunkFits r ⌝ }
 {
     let scan = pass.scan;
     let state = scan.state;
@@ -89,6 +89,7 @@ fn closed_row(pass: Progress) -> ChunkRow
         team: scan.team,
         member: open.member,
         barriers: state.barriers,
+        complete,
         segments: open.segments as u32,
         accesses: open.accesses as u32,
     }
@@ -146,7 +147,7 @@ fn note(
         }
         Command::End => {
             let count = pass.chunks;
-            add_chunk(chunks, count, closed_row(pass));
+            add_chunk(chunks, count, closed_row(pass, true));
             after.chunks = count + 1;
         }
         Command::Region { team, size } => {
@@ -158,6 +159,11 @@ fn note(
         Command::Acquire(_) => {}
         Command::Release(_) => {}
         Command::Access(_) => {}
+        Command::Cut => {
+            let count = pass.chunks;
+            add_chunk(chunks, count, closed_row(pass, false));
+            after.chunks = count + 1;
+        }
     }
     after
 }

@@ -81,6 +81,10 @@ module _ (words : List ℕ) (byte : ℕ) where
   unfolding commandBy
   by-end e = rw e
 
+  pub by-cut : byte ≡ 0x03 → commandBy byte words ≡ some Com.Cut
+  unfolding commandBy
+  by-cut e = rw e
+
   pub by-region : byte ≡ 0x10 → commandBy byte words ≡ some (Com.Region (getD words 1 0) (getD words 8 0))
   unfolding commandBy
   by-region e = rw e
@@ -98,23 +102,23 @@ module _ (words : List ℕ) (byte : ℕ) where
   by-release e = rw e
 
   by-other :
-      (byte ≡ 0x01 → ⊥) → (byte ≡ 0x02 → ⊥) → (byte ≡ 0x10 → ⊥) → (byte ≡ 0x11 → ⊥) → (byte ≡ 0x20 → ⊥) → (byte ≡ 0x21 → ⊥)
+      (byte ≡ 0x01 → ⊥) → (byte ≡ 0x02 → ⊥) → (byte ≡ 0x03 → ⊥) → (byte ≡ 0x10 → ⊥) → (byte ≡ 0x11 → ⊥) → (byte ≡ 0x20 → ⊥) → (byte ≡ 0x21 → ⊥)
       → commandBy byte words ≡ cond (leb 0x30 byte && ltb byte 0x34) (some (accessFrom words)) none
   unfolding commandBy
-  by-other n₁ n₂ n₃ n₄ n₅ n₆ =
-      rw (ne-eqb byte 0x01 n₁, ne-eqb byte 0x02 n₂, ne-eqb byte 0x10 n₃, ne-eqb byte 0x11 n₄, ne-eqb byte 0x20 n₅, ne-eqb byte 0x21 n₆)
+  by-other n₁ n₂ n₃ n₄ n₅ n₆ n₇ =
+      rw (ne-eqb byte 0x01 n₁, ne-eqb byte 0x02 n₂, ne-eqb byte 0x03 n₃, ne-eqb byte 0x10 n₄, ne-eqb byte 0x11 n₅, ne-eqb byte 0x20 n₆, ne-eqb byte 0x21 n₇)
 
   pub by-access : 0x30 ≤ byte → byte < 0x34 → commandBy byte words ≡ some (accessFrom words)
   by-access low high =
-      by-other (λ e. omega arith) (λ e. omega arith) (λ e. omega arith) (λ e. omega arith) (λ e. omega arith) (λ e. omega arith)
+      by-other (λ e. omega arith) (λ e. omega arith) (λ e. omega arith) (λ e. omega arith) (λ e. omega arith) (λ e. omega arith) (λ e. omega arith)
       ∙ rw (le-leb 0x30 byte low, lt-ltb byte 0x34 high)
 
   pub by-none :
-      (byte ≡ 0x01 → ⊥) → (byte ≡ 0x02 → ⊥) → (byte ≡ 0x10 → ⊥) → (byte ≡ 0x11 → ⊥) → (byte ≡ 0x20 → ⊥) → (byte ≡ 0x21 → ⊥)
+      (byte ≡ 0x01 → ⊥) → (byte ≡ 0x02 → ⊥) → (byte ≡ 0x03 → ⊥) → (byte ≡ 0x10 → ⊥) → (byte ≡ 0x11 → ⊥) → (byte ≡ 0x20 → ⊥) → (byte ≡ 0x21 → ⊥)
       → (0x30 ≤ byte → byte < 0x34 → ⊥)
       → commandBy byte words ≡ none
-  by-none n₁ n₂ n₃ n₄ n₅ n₆ n =
+  by-none n₁ n₂ n₃ n₄ n₅ n₆ n₇ n =
       let a : Bool = leb 0x30 byte in
       let l : Bool = ltb byte 0x34 in
       let other : a && l ≡ false = is-false (a && l) (λ e. n (leb-true 0x30 byte (and-left a l e)) (ltb-true byte 0x34 (and-right a l e))) in
-      by-other n₁ n₂ n₃ n₄ n₅ n₆ ∙ rw other
+      by-other n₁ n₂ n₃ n₄ n₅ n₆ n₇ ∙ rw other

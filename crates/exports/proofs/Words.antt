@@ -35,6 +35,7 @@ pub command-back : (c : Command) → commandFrom (commandWords c) ≡ some c
 unfolding commandBy commandWords
 command-back (Com.Member team member) = refl
 command-back Com.End = refl
+command-back Com.Cut = refl
 command-back (Com.Region team size) = refl
 command-back Com.Barrier = refl
 command-back (Com.Acquire lock) = refl

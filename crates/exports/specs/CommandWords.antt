@@ -20,6 +20,7 @@ commandWords (Com.Acquire lock) = 0x20 ∷ 0 ∷ 0 ∷ lock ∷ 0 ∷ 0 ∷ 0 �
 commandWords (Com.Release lock) = 0x21 ∷ 0 ∷ 0 ∷ lock ∷ 0 ∷ 0 ∷ 0 ∷ 0 ∷ 0 ∷ []
 commandWords (Com.Access a) =
     kindByte (a .kind) ∷ 0 ∷ 0 ∷ 0 ∷ a .site ∷ a .range .base ∷ a .range .stride ∷ a .range .count ∷ a .range .size ∷ []
+commandWords Com.Cut = 0x03 ∷ 0 ∷ 0 ∷ 0 ∷ 0 ∷ 0 ∷ 0 ∷ 0 ∷ 0 ∷ []
 
 -- the other way round: the command that words stand for, with operands of any value; what it does not have is not looked at
 abbrev pub accessFrom : List ℕ → Command
@@ -37,11 +38,12 @@ commandBy byte words =
     let x : ℕ → ℕ = λ k. getD words k 0 in
     cond (eqb byte 0x01) (some (Com.Member (x 1) (x 2)))
     (cond (eqb byte 0x02) (some Com.End)
+    (cond (eqb byte 0x03) (some Com.Cut)
     (cond (eqb byte 0x10) (some (Com.Region (x 1) (x 8)))
     (cond (eqb byte 0x11) (some Com.Barrier)
     (cond (eqb byte 0x20) (some (Com.Acquire (x 3)))
     (cond (eqb byte 0x21) (some (Com.Release (x 3)))
-    (cond (leb 0x30 byte && ltb byte 0x34) (some (accessFrom words)) none))))))
+    (cond (leb 0x30 byte && ltb byte 0x34) (some (accessFrom words)) none)))))))
 
 abbrev pub commandFrom : List ℕ → Option Command
 commandFrom words = commandBy (getD words 0 0) words

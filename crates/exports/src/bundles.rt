@@ -26,7 +26,7 @@ pub extern "C" fn dezhakom_check(bytes: &[u8], place: &mut usize) -> u32
     }
 }
 
-// Where a member's chunk begins, and where it ends: the offset of its MEMBER, and the offset after its END.
+// Where a member's chunk begins, and where it ends: the offset of its MEMBER, and the offset after its END or CUT.
 #[no_mangle]
 pub extern "C" fn dezhakom_find_chunk(
     bytes: &[u8],

@@ -58,6 +58,7 @@ fn command_words(command: Command) -> [u32; 9]
         Command::Acquire(lock) => [0x20, 0, 0, lock as u32, 0, 0, 0, 0, 0],
         Command::Release(lock) => [0x21, 0, 0, lock as u32, 0, 0, 0, 0, 0],
         Command::Access(access) => access_words(access),
+        Command::Cut => [0x03, 0, 0, 0, 0, 0, 0, 0, 0],
     }
 }
 
@@ -182,6 +183,7 @@ fn command_from(words: &[u32; 9]) -> Made
     match words[0] {
         0x01 => member_from(words[1], words[2]),
         0x02 => Made::Command(Command::End),
+        0x03 => Made::Command(Command::Cut),
         0x10 => region_from(words[1], words[8]),
         0x11 => Made::Command(Command::Barrier),
         0x20 => acquire_from(words[3]),

@@ -147,6 +147,7 @@ module _ (t m number : ℕ) where
   steps k at g n (Com.Acquire l) e = keeps refl refl refl refl
   steps k at g n (Com.Release l) e = keeps refl refl refl refl
   steps k at g n (Com.Access a) e = keeps refl refl refl refl
+  steps k at g n Com.Cut e = keeps refl refl refl refl
 
   abbrev forksFrom : ChunkState → ℕ → ℕ → List Placed → List Fork
   forksFrom k g n ps = concatMap (forkAt t m) (entriesFrom k g n ps)

@@ -13,7 +13,7 @@ use Rattle.verdict.specs.Accesses.{lexLess}
 use Rattle.verdict.specs.Demand.{Judged}
 use Rattle.rewrite.specs.Rewriting.{chunkName, rewritten, rewriteOf}
 
--- the bytes of each chunk of a bundle, MEMBER to END
+-- the bytes of each chunk of a bundle, MEMBER to END or CUT
 unfoldable pub chunkBytes : List ℕ → List (List ℕ)
 chunkBytes b = map (partOf b) (chunksOf b)
 

@@ -26,7 +26,7 @@ sortedBy key (x ∷ xs) = insertBy key x (sortedBy key xs)
 unfoldable pub chunkName : Chunk → List ℕ
 chunkName c = c .team ∷ c .member ∷ []
 
--- the bundle's chunks, MEMBER to END each, back to back in that order
+-- the bundle's chunks, MEMBER to END or CUT each, back to back in that order
 unfoldable pub rewritten : List ℕ → List ℕ
 rewritten s = backToBack (map (partOf s) (sortedBy chunkName (chunksOf s)))
 

@@ -58,6 +58,7 @@ fn put_command_text(command: Command) {
         Command::Acquire(lock) => put_lock(b"acquire", lock),
         Command::Release(lock) => put_lock(b"release", lock),
         Command::Access(access) => put_access(access),
+        Command::Cut => text::put_text(b"cut"),
     }
 }
 
@@ -106,6 +107,7 @@ fn command_of(record: &[u8]) -> Command {
     match byte_at(record, 0) {
         0x01 => Command::Member { team, member: last },
         0x02 => Command::End,
+        0x03 => Command::Cut,
         0x10 => Command::Region { team, size: last },
         0x11 => Command::Barrier,
         0x20 => Command::Acquire(lock),

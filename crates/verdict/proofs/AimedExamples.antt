@@ -50,6 +50,9 @@ reads =
     row (whenGiven (readAt (bytes 4 0x10ffff40) 0) (λ (t : Taken). gives (t .next))) (gives 4) ∷
     row (whenGiven (readAt (bytes 4 0x10010041) 0) (λ (t : Taken). gives (t .next))) (refuses 5 0) ∷
     row (whenGiven (readAt (bytes 5 0x1100100000) 1) (λ (t : Taken). gives (t .next))) (refuses 2 1) ∷
+    row (whenGiven (readAt (bytes 1 0x03) 0) (λ (t : Taken). gives (t .next))) (gives 1) ∷
+    row (whenGiven (readAt (bytes 2 0x0301) 0) (λ (t : Taken). gives (t .next))) (gives 1) ∷
+    row (whenGiven (readAt (bytes 2 0x0203) 1) (λ (t : Taken). gives (t .next))) (gives 2) ∷
     row (whenGiven (readAt (bytes 4 0x01000040) 0) (λ (t : Taken). gives (t .next))) (refuses 5 0) ∷
     row (whenGiven (readAt (bytes 4 0x0100003f) 0) (λ (t : Taken). gives (t .next))) (gives 4) ∷
     row (whenGiven (readAt (bytes 2 0x2040) 0) (λ (t : Taken). gives (t .next))) (refuses 5 0) ∷
@@ -80,7 +83,7 @@ checks =
     row (checkOf (bytes 17 0x01000000310100f6ffffff080002000202)) (gives tt) ∷
     row (checkOf (bytes 38 0x0100000011100100021002000202010100001111020101000111110201020000020102000102)) (gives tt) ∷
     row (checkOf (bytes 1 0x00)) (refuses 2 0) ∷
-    row (checkOf (bytes 7 0x01000000110302)) (refuses 2 5) ∷
+    row (checkOf (bytes 7 0x01000000110502)) (refuses 2 5) ∷
     row (checkOf (bytes 6 0x0100000002ff)) (refuses 2 5) ∷
     row (checkOf (bytes 5 0x0100000034)) (refuses 2 4) ∷
     row (checkOf (bytes 2 0x1202)) (refuses 2 0) ∷
@@ -240,6 +243,81 @@ pub checks-agree : map (λ (r : AimedExample (Answer (Unit {0}))). r .given) che
 unfolding verdict-computes bytes race row name label checks
 checks-agree = refl
 
+-- the same with cut chunks
+unfoldable pub cut-checks : List (AimedExample (Answer (Unit {0})))
+cut-checks =
+    row (checkOf (bytes 46 0x01000000100100020301010000111004000110020002030101000103010400000201020000110301020001200303)) (gives tt) ∷
+    row (checkOf (bytes 44 0x01000000100100020301010000310a000010000008000200040301010001113014000a100000000001000403)) (gives tt) ∷
+    row (checkOf (bytes 5 0x0100000003)) (gives tt) ∷
+    row (checkOf (bytes 6 0x010000001103)) (gives tt) ∷
+    row (checkOf (bytes 7 0x01000000203f03)) (gives tt) ∷
+    row (checkOf (bytes 13 0x01000000200020012100203f03)) (gives tt) ∷
+    row (checkOf (bytes 20 0x0100000010010001200303010100002003210302)) (gives tt) ∷
+    row (checkOf (bytes 19 0x01010001030100000010010002030101000003)) (gives tt) ∷
+    row (checkOf (bytes 20 0x0100000010010002020101000011020101000103)) (gives tt) ∷
+    row (checkOf (bytes 22 0x01000000100100020201010000111102010100011103)) (gives tt) ∷
+    row (checkOf (bytes 21 0x010000001001000202010100001102010100011103)) (gives tt) ∷
+    row (checkOf (bytes 28 0x01000000100100030201010000030101000111110201010002111102)) (gives tt) ∷
+    row (checkOf (bytes 26 0x0100000010010003020101000003010100011103010100021102)) (gives tt) ∷
+    row (checkOf (bytes 27 0x010000001001000302010100001111020101000103010100021103)) (gives tt) ∷
+    row (checkOf (bytes 27 0x010000001001000302010100001103010100010301010002111103)) (gives tt) ∷
+    row (checkOf (bytes 37 0x01000000100100020201010000020101000110020001100300010301020000030103000002)) (gives tt) ∷
+    row (checkOf (bytes 23 0x0100000010010001030101000010020001030102000003)) (gives tt) ∷
+    row (checkOf (bytes 1 0x03)) (refuses 4 0) ∷
+    row (checkOf (bytes 15 0x010000001001000102030101000002)) (refuses 4 9) ∷
+    row (checkOf (bytes 6 0x010000000303)) (refuses 4 5) ∷
+    row (checkOf (bytes 6 0x010000000302)) (refuses 4 5) ∷
+    row (checkOf (bytes 7 0x01000000031102)) (refuses 4 5) ∷
+    row (checkOf (bytes 15 0x010000000310010001020101000002)) (refuses 4 5) ∷
+    row (checkOf (bytes 18 0x010000000330010000000000000001000102)) (refuses 4 5) ∷
+    row (checkOf (bytes 9 0x010000002001032101)) (refuses 4 7) ∷
+    row (checkOf (bytes 10 0x01000000010100000303)) (refuses 4 4) ∷
+    row (checkOf (bytes 13 0x01000000100100010301010000)) (refuses 4 13) ∷
+    row (checkOf (bytes 7 0x01000000020300)) (refuses 4 5) ∷
+    row (checkOf (bytes 6 0x010000000301)) (refuses 3 5) ∷
+    row (checkOf (bytes 6 0x010000000305)) (refuses 2 5) ∷
+    row (checkOf (bytes 18 0x010000002003100100010301010000200302)) (refuses 6 17) ∷
+    row (checkOf (bytes 9 0x010000002003200303)) (refuses 6 6) ∷
+    row (checkOf (bytes 7 0x01000000210303)) (refuses 6 4) ∷
+    row (checkOf (bytes 18 0x010000001001000120030301010000210302)) (refuses 6 15) ∷
+    row (checkOf (bytes 18 0x010000001001000110010001030101000003)) (refuses 8 8) ∷
+    row (checkOf (bytes 10 0x01000000030100000002)) (refuses 9 5) ∷
+    row (checkOf (bytes 10 0x01000000020100000003)) (refuses 9 5) ∷
+    row (checkOf (bytes 10 0x01000000030101000003)) (refuses 9 5) ∷
+    row (checkOf (bytes 14 0x0100000010010002030101000003)) (refuses 10 4) ∷
+    row (checkOf (bytes 50 0x0100000010010001030101000010020001030102000010030001030103000010040001030104000010050001030105000003)) (refuses 11 40) ∷
+    row (checkOf (bytes 33 0x010100011103010100000201000000100100021002000110020001020102000002)) (refuses 8 23) ∷
+    row (checkOf (bytes 25 0x01000000100100020201010000020101000111030102000003)) (refuses 9 20) ∷
+    row (checkOf (bytes 24 0x010100011103010100000201000000100100021002000103)) (refuses 10 19) ∷
+    row (checkOf (bytes 56 0x0105000111030105000002010000001001000102010100001002000102010200001003000102010300001004000102010400001005000202)) (refuses 11 51) ∷
+    row (checkOf (bytes 28 0x01000000100100030201010000110301010001111102010100021102)) (refuses 12 22) ∷
+    row (checkOf (bytes 25 0x01000000100100030201010000030101000111020101000202)) (refuses 12 20) ∷
+    row (checkOf (bytes 36 0x010100040201010003110201010000030101000103010000001001000502010100021102)) (refuses 12 0) ∷
+    row (checkOf (bytes 32 0x0100000010010004030101000003010100030201010002111102010100011102)) (refuses 12 14) ∷
+    row (checkOf (bytes 27 0x010100001111030100000010010003020101000102010100021102)) (refuses 12 21) ∷
+    row (checkOf (bytes 35 0x0101000002010100011103010000001001000210020002030102000002010200011102)) (refuses 12 29) ∷
+    row (checkOf (bytes 27 0x010000001001000302010100000201010001110301010002111102)) (refuses 12 20) ∷
+    row (checkOf (bytes 20 0x0100000010010002020101000002010100011103)) (refuses 19 14) ∷
+    row (checkOf (bytes 20 0x0100000010010002020101000011030101000102)) (refuses 19 9) ∷
+    row (checkOf (bytes 23 0x0100000010010002020101000011020101000111111103)) (refuses 19 15) ∷
+    row (checkOf (bytes 35 0x0100000010010004020101000011020101000203010100031111030101000111111103)) (refuses 19 20) ∷
+    row (checkOf (bytes 28 0x01000000100100030201010000110201010001110301010002111103)) (refuses 19 21) ∷
+    row (checkOf (bytes 29 0x0100000010010003020101000111110301010000111103010100021102)) (refuses 19 9) ∷
+    row (checkOf (bytes 28 0x01000000100100030201010000110301010001111103010100021102)) (refuses 19 15) ∷
+    row (checkOf (bytes 35 0x0100000010010002100200020301020000020102000111030101000002010100011103)) (refuses 19 18) ∷
+    row (checkOf (bytes 35 0x0100000010010002100200020301010000030101000111030102000002010200011103)) (refuses 19 29) ∷
+    row (checkOf (bytes 20 0x0101000111030101000002010000001001000203)) (refuses 19 0) ∷
+    row (checkOf (bytes 31 0x01000000100100020201010000110201010001111002000111030102000002)) (refuses 19 15) ∷
+    row (checkOf (bytes 47 0x0100000010010001020101000010020001020102000010030001020103000010040002020104000002010400011103)) (refuses 19 41) ∷
+    row (checkOf (bytes 22 0x01010001110301000000100100020201010000200102)) (refuses 6 21) ∷
+    row (checkOf (bytes 21 0x010000001001000202010100000201010001110303)) (refuses 4 20) ∷
+    row (checkOf (bytes 19 0x01010001110301000000100100020201010000)) (refuses 4 19) ∷
+    []
+
+pub cut-checks-agree : map (λ (r : AimedExample (Answer (Unit {0}))). r .given) cut-checks ≡ map (λ (r : AimedExample (Answer (Unit {0}))). r .wanted) cut-checks
+unfolding verdict-computes bytes race row name label cut-checks
+cut-checks-agree = refl
+
 -- labels of segments
 unfoldable pub labels : List (AimedExample (Answer (List Triple)))
 labels =
@@ -256,6 +334,11 @@ labels =
     row (labelOf (bytes 46 0x01000000100100020201010000110201010001111004000110020002020104000002010200001102010200011102) 2 1 2) (refuses 14 0) ∷
     row (labelOf (bytes 42 0x010000001001000102010100001002000102010200001003000102010300001004000102010400001102) 3 0 1) (gives (triple 0 1 0 ∷ triple 0 1 0 ∷ triple 0 1 0 ∷ triple 1 1 0 ∷ [])) ∷
     row (labelOf (bytes 42 0x010000001001000102010100001002000102010200001003000102010300001004000102010400001102) 4 0 1) (gives (triple 0 1 0 ∷ triple 0 1 0 ∷ triple 0 1 0 ∷ triple 0 1 0 ∷ triple 0 1 1 ∷ [])) ∷
+    row (labelOf (bytes 46 0x01000000100100020301010000111004000110020002030101000103010400000201020000110301020001200303) 1 0 3) (gives (triple 0 1 0 ∷ triple 4 2 1 ∷ [])) ∷
+    row (labelOf (bytes 46 0x01000000100100020301010000111004000110020002030101000103010400000201020000110301020001200303) 1 1 0) (gives (triple 0 1 0 ∷ triple 1 2 0 ∷ [])) ∷
+    row (labelOf (bytes 46 0x01000000100100020301010000111004000110020002030101000103010400000201020000110301020001200303) 1 1 1) (refuses 14 0) ∷
+    row (labelOf (bytes 46 0x01000000100100020301010000111004000110020002030101000103010400000201020000110301020001200303) 2 0 1) (gives (triple 0 1 0 ∷ triple 2 2 1 ∷ triple 0 2 1 ∷ [])) ∷
+    row (labelOf (bytes 46 0x01000000100100020301010000111004000110020002030101000103010400000201020000110301020001200303) 2 1 1) (refuses 14 0) ∷
     []
 
 pub labels-agree : map (λ (r : AimedExample (Answer (List Triple))). r .given) labels ≡ map (λ (r : AimedExample (Answer (List Triple))). r .wanted) labels

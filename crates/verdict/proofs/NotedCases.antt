@@ -10,7 +10,8 @@ use borrow.Author.Tests.{lt-ltb}
 use Rattle.bundle.specs.Commands.{rangeOk, lastByte, operandsOk, inRange}
 use Rattle.bundle.specs.Locks.{holds}
 use Rattle.bundle.specs.Chunks.{afterBarrier, afterJoin, afterAcquire, afterRelease, afterCommand}
-use Rattle.bundle.specs.Walk.{opensSegment, addsAccess, Border, ofBarrier, ofRegion}
+use Rattle.bundle.specs.Walk.{opensSegment, addsAccess, Border, ofChunk, ofBarrier, ofRegion}
+use Rattle.bundle.proofs.Delimiters.{closes, on-closes, on-no-access, closes-accesses-none}
 use Rattle.bundle.specs.Scan.{misusesLock}
 use Rattle.bundle.specs.Index.{Added}
 use Rattle.bundle.specs.declared.chunk.ChunkState.{ChunkState}
@@ -148,23 +149,22 @@ module _ {p : Cursor} {c : Command} {next : ℕ} {r : Cursor} {ends opens nodes 
         row = λ a z. absurd (no-access (Com.Member t m) (unfold addsAccess in refl) a z);
       })
 
-  pub noted-end :
-      {code : ℕ}
-      → c ≡ Com.End
+  pub noted-closing :
+      {ends′ : List ℕ}
+      → closes c ≡ true
       → r ≡ left p next
-      → code ≡ 1 + 2 * barrierCode (p .state .barriers) (p .team)
-      → Noted p c next r ends opens nodes rows (set ends (p .segment) code) opens nodes rows
-  unfolding cursorAfter endsAfter opensAfter nodesAfter endCode
-  noted-end w e q =
-      rw w
-      (record {
-        cursor = e;
-        end-codes = rw q;
-        open-codes = refl;
-        node-codes = refl;
+      → ends′ ≡ set ends (p .segment) (endCode (p .team) (p .state .barriers) ofChunk)
+      → Noted p c next r ends opens nodes rows ends′ opens nodes rows
+  unfolding cursorAfter endsAfter opensAfter nodesAfter
+  noted-closing h e q =
+      record {
+        cursor = e ∙ sym (on-closes _ _ _ c h);
+        end-codes = q ∙ sym (on-closes _ _ _ c h);
+        open-codes = sym (on-closes _ _ _ c h);
+        node-codes = sym (on-closes _ _ _ c h);
         no-row = λ z. refl;
-        row = λ a z. absurd (no-access Com.End (unfold addsAccess in refl) a z);
-      })
+        row = λ a z. absurd (no-access c (unfold addsAccess in (on-no-access 0 (λ b. 1) c (closes-accesses-none c h))) a z);
+      }
 
   -- REGION and BARRIER, which cross a border
   noted-crossing :

@@ -8,13 +8,15 @@ use native.Mathlib.Nat.{add-zero}
 use lib.ListN.{length, length-append}
 use Rattle.bundle.specs.Lists.{concatMap}
 use Rattle.bundle.specs.Chunks.{Placed, Gathered, fresh, afterCommand, gatherOne, gather, chunksOf}
-use Rattle.bundle.specs.Walk.{Border, ofChunk, borders, opensSegment, addsAccess, entriesFrom, entriesOf, Opening, openingAt, segmentsFrom}
+use Rattle.bundle.specs.Walk.{Border, ofChunk, ofBarrier, ofRegion, borders, opensSegment, addsAccess, entriesFrom, entriesOf, Opening, openingAt, segmentsFrom}
 use Rattle.bundle.specs.Scan.{scanned}
 use Rattle.bundle.specs.Check.{Accepted}
 use Rattle.bundle.specs.declared.scan.Scan.{Scan}
+use Rattle.bundle.specs.declared.command.Access.{Access}
 use Rattle.bundle.specs.declared.command.Command.{Command}
 use Rattle.bundle.specs.declared.command.Command.the-variants as Com
-use Rattle.bundle.proofs.Delimiters.{plain, on-plain, state-counts}
+use Rattle.bundle.proofs.Delimiters.{plain, closes, on-plain, on-closes, on-no-opening, on-no-access, closes-opens-none, closes-accesses-none, state-counts}
+use Rattle.bundle.proofs.Gathering.{gather-closes}
 use Rattle.bundle.proofs.Scanning.{uncounted, orderly, orderly-tail}
 use Rattle.bundle.proofs.WalkLaws.{first-segment, few-segments}
 use Rattle.verdict.specs.Graph.{Segment, segmentsIn, segmentsOf}
@@ -114,19 +116,33 @@ module _ (p : Cursor) (next : ℕ) (ps : List Placed) (o : Opening) where
         access-in = λ h. omega arith;
       }
 
-  pub step-end : Step Com.End true false o o p (left p next) ps (endedAt p o ofChunk ∷ []) []
-  unfolding gather gatherOne entriesFrom openingAt borders segmentsFrom accessAt uncounted scanned fresh
-  step-end =
+  -- END and CUT
+  pub step-closing : (c : Command) → closes c ≡ true → Step c true false o o p (left p next) ps (endedAt p o ofChunk ∷ []) []
+  unfolding gather entriesFrom openingAt borders segmentsFrom accessAt uncounted scanned fresh
+  step-closing c h =
       record {
-        segments = refl;
-        accesses = refl;
-        scan = refl;
+        segments = rw (gather-closes here (gather ps) h, on-no-opening {A = List Border} [] (ofChunk ∷ []) (λ t. ofRegion t ∷ []) (ofBarrier (p .state .barriers) ∷ []) c (closes-opens-none c h));
+        accesses = rw (gather-closes here (gather ps) h, on-no-access [] access c (closes-accesses-none c h));
+        scan = rw (on-closes true (λ t m. true) false c h, on-closes (p .team) (λ t m. t) 0 c h, on-closes (afterCommand (p .state) c) (λ t m. fresh) fresh c h);
         segment-count = refl;
         access-count = add-zero (p .accesses);
-        number = λ h. omega arith;
-        counted = λ h. omega arith;
-        access-in = λ h. omega arith;
+        number = λ l. omega arith;
+        counted = λ l. omega arith;
+        access-in = λ l. omega arith;
       }
+    where
+      here : Placed
+      here = record { at = p .at; command = c }
+
+      access : Access → List NamedAccess
+      access a =
+          record {
+            name = record { team = p .team; member = p .member; number = p .access };
+            node = nodeHere p;
+            access = a;
+            locks = p .state .locks;
+          }
+          ∷ []
 
   -- inside a chunk
   module _ (c : Command) where

@@ -63,6 +63,7 @@ module _ (t m : ℕ) where
     chain-first (Com.Acquire l) d os fs r = r
     chain-first (Com.Release l) d os fs r = r
     chain-first (Com.Access a) d os fs r = r
+    chain-first Com.Cut d os fs r = r
 
   body-chained :
       (k : ChunkState) (g n : ℕ) {ps : List Placed}

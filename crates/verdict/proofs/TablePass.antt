@@ -19,7 +19,7 @@ use Rattle.bundle.specs.declared.command.Command.{Command}
 use Rattle.bundle.specs.declared.command.Command.the-variants as Com
 use Rattle.bundle.proofs.Ranges.{in-range-ok}
 use Rattle.bundle.proofs.Tests.{false-is-true, false-of-not}
-use Rattle.bundle.proofs.Delimiters.{plain}
+use Rattle.bundle.proofs.Delimiters.{plain, closes, on-closes, on-no-opening, on-no-access, closes-opens-none, closes-accesses-none}
 use Rattle.bundle.proofs.Decoding.{read-next}
 use Rattle.bundle.proofs.Scanning.{orderly, orderly-head}
 use Rattle.bundle.proofs.Reorder.{checked, scan-passed}
@@ -27,10 +27,10 @@ use Rattle.bundle.proofs.Onward.{Onward, onward-next, onward-read, onward-end, 
 use Rattle.verdict.specs.Graph.{Segment, segmentsOf}
 use Rattle.verdict.specs.Accesses.{NamedAccess, accessAt, accessesOf}
 use Rattle.verdict.specs.Working.{endCode, openCode, nodeCode, accessRowAt, SegmentTables, AccessTable}
-use Rattle.verdict.specs.Filling.{beginning, advanced, cursorAfter, onCrossing, endsAfter, opensAfter, nodesAfter, rowHere, Room, Notable, Noted, Filled}
+use Rattle.verdict.specs.Filling.{beginning, left, advanced, cursorAfter, onCrossing, endsAfter, opensAfter, nodesAfter, rowHere, Room, Notable, Noted, Filled}
 use Rattle.verdict.specs.declared.fill.Cursor.{Cursor}
 use Rattle.verdict.proofs.TableRows.{rows-more}
-use Rattle.verdict.proofs.PassStanding.{commandsIn, scanHere, segmentsToCome, accessesToCome, Standing, Step, stands-on, endedAt, firstOpening, step-member, step-end, step-inside, stands-open, segment-room, access-room}
+use Rattle.verdict.proofs.PassStanding.{commandsIn, scanHere, segmentsToCome, accessesToCome, Standing, Step, stands-on, endedAt, firstOpening, step-member, step-closing, step-inside, stands-open, segment-room, access-room}
 use Rattle.verdict.proofs.PassTables.{Holding, holds-member, holds-end, holds-crossing, holds-still, accessHere, row-of}
 
 -- the invariant of the pass
@@ -97,18 +97,20 @@ module _ {s : List ℕ} (a : Accepted s) where
               (record { inside = true; opened = firstOpening; rest = ps; done = done; seen = seen; onwards = onwards; stands = w; holds = holds-member few (v .segment-count) t m next h });
         }
 
-    advance-end : Stands true Com.End → Holds true → Advance s n p Com.End next ends opens nodes rows
+    advance-closing : (c : Command) → closes c ≡ true → Stands true c → Holds true → Advance s n p c next ends opens nodes rows
     unfolding cursorAfter endsAfter opensAfter nodesAfter onCrossing addsAccess
-    advance-end v h =
-        let w = stands-on v (step-end p next ps o) refl (sym (append-nil seen)) in
+    advance-closing c e v h =
+        let w = stands-on v (step-closing p next ps o c e) refl (sym (append-nil seen)) in
         let few : p .segment < 512 = segment-room a v in
         let more = access-room a v in
+        let still = on-no-opening {A = ℕ} 0 0 (λ t. 1) 1 c (closes-opens-none c e) in
+        let none = on-no-access {A = ℕ} 0 (λ b. 1) c (closes-accesses-none c e) in
         record {
           notable = notable-here v (h .room) (omega arith) (omega arith);
-          at-next = refl;
+          at-next = ap (λ (q : Cursor). q .at) (on-closes _ _ (left p next) c e);
           goes =
-              λ rows′ none row.
-              rw (none refl)
+              λ rows′ same row.
+              rw (same none, on-closes _ _ (left p next) c e, on-closes _ _ (set ends (p .segment) (endCode (p .team) (p .state .barriers) ofChunk)) c e, on-closes _ _ opens c e, on-closes _ _ nodes c e)
               (record {
                 inside = false;
                 opened = o;
@@ -269,15 +271,16 @@ module _ {s : List ℕ} (a : Accepted s) where
         false-is-true (unfold misplaced in (rw e at t))
 
     advance-at : (c : Command) (inside : Bool) → Stands inside c → Holds inside → Advance s n p c next ends opens nodes rows
-    unfolding isMember misplaced
+    unfolding isMember misplaced closes
     advance-at (Com.Member t m) false v h = advance-member t m v h
     advance-at (Com.Member t m) true v h = false-is-true (orderly-head (scanHere true p) (Com.Member t m) (commandsIn ps) (v .order) .in-place)
-    advance-at Com.End inside v h = within Com.End inside refl v h advance-end
+    advance-at Com.End inside v h = within Com.End inside refl v h (advance-closing Com.End refl)
     advance-at (Com.Region t z) inside v h = within (Com.Region t z) inside refl v h (advance-region t z)
     advance-at Com.Barrier inside v h = within Com.Barrier inside refl v h advance-barrier
     advance-at (Com.Acquire l) inside v h = within (Com.Acquire l) inside refl v h (advance-acquire l)
     advance-at (Com.Release l) inside v h = within (Com.Release l) inside refl v h (advance-release l)
     advance-at (Com.Access x) inside v h = within (Com.Access x) inside refl v h (advance-access x)
+    advance-at Com.Cut inside v h = within Com.Cut inside refl v h (advance-closing Com.Cut refl)
 
   pub turn :
       {n : ℕ} {p : Cursor} {ends opens nodes rows : List ℕ} (c : Command) (next : ℕ)

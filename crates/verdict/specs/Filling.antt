@@ -29,7 +29,7 @@ beginning = record { at = 0; team = 0; member = 0; state = fresh; segment = 0; n
 abbrev pub nodeHere : Cursor → Node
 nodeHere p = record { team = p .team; member = p .member; number = p .number }
 
--- after MEMBER, and after END
+-- after MEMBER, and after END or CUT
 abbrev pub entered : Cursor → ℕ → ℕ → ℕ → Cursor
 entered p t m next =
     record {

@@ -11,10 +11,11 @@ use bundle::command::read_command;
 ghost use mathlib.Core.Path.{_≡_};
 ghost use mathlib.Core.Bool.{true};
 ghost use Prim.Native.Nat.{_+_, _*_, _<_};
-ghost use lib.ListN.{length};
+ghost use lib.ListN.{length, set};
 ghost use Rattle.bundle.specs.Commands.{rangeOk, lastByte};
 ghost use Rattle.bundle.specs.Check.{Accepted};
-ghost use Rattle.verdict.specs.Working.{forkCode, barrierCode, joinCode, nodeCode, kindCode};
+ghost use Rattle.bundle.specs.Walk.{ofChunk};
+ghost use Rattle.verdict.specs.Working.{forkCode, barrierCode, joinCode, nodeCode, kindCode, endCode};
 ghost use Rattle.verdict.specs.Filling.{beginning, entered, left, Countable, advanced, rowHere, SegmentOpened, Notable, Noted, Room, Filled};
 
 // How many segments and accesses a bundle has.
@@ -132,7 +133,7 @@ fn enter(cursor: Cursor, team: u16, member: u8, next: usize) -> Cursor
     }
 }
 
-// END: no chunk is open.
+// No chunk is open.
 fn leave(cursor: Cursor, next: usize) -> Cursor
     requires { ⌜ cursor .segment < 512 ⌝ }
     ensures { λ r. ⌜ r ≡ left cursor next ⌝ }
@@ -147,6 +148,17 @@ fn leave(cursor: Cursor, next: usize) -> Cursor
         access: 0,
         accesses: cursor.accesses,
     }
+}
+
+// END and CUT: the open segment ends with its chunk.
+fn close_chunk(cursor: Cursor, next: usize, ends: &mut [u32]) -> Cursor
+    requires { ⌜ (cursor .segment < 512) × (length (now ends) ≡ 512) ⌝ }
+    ensures { λ r. ⌜ (r ≡ left cursor next) × (now (ends .exit) ≡ set (now (ends .entry)) (cursor .segment) (endCode (cursor .team) (cursor .state .barriers) ofChunk)) ⌝ }
+{
+    let state = cursor.state;
+    let segment = cursor.segment as usize;
+    ends[segment] = chunk_end(state.barriers, cursor.team);
+    leave(cursor, next)
 }
 
 // Inside a chunk: another state, and so many segments and accesses more.
@@ -222,10 +234,7 @@ fn note(
             open_segment(after, fork_code(team), opens, nodes);
             after
         }
-        Command::End => {
-            ends[segment] = chunk_end(state.barriers, team);
-            leave(cursor, next)
-        }
+        Command::End => close_chunk(cursor, next, ends),
         Command::Region { team, size: _ } => {
             ends[segment] = fork_end(team);
             let after = advance(cursor, state.after_join(), 1, 0, next);
@@ -244,6 +253,7 @@ fn note(
             add_access(rows, cursor.accesses, row_here(cursor, access));
             advance(cursor, state, 0, 1, next)
         }
+        Command::Cut => close_chunk(cursor, next, ends),
     }
 }
 

@@ -16,24 +16,29 @@ unfolding formOf sum widthOf commandAt
 returns-3 c =
     decode-whole _ _ (record { within = c .before .before .if1 .left; byte = c .match .keys2 }) _ (omega arith) (search needs) refl
 
-returns-5 : tie.Need-returns-5
+returns-4 : tie.Need-returns-4
 unfolding formOf sum widthOf commandAt
-returns-5 c =
-    decode-whole _ _ (record { within = c .before .before .if1 .left; byte = c .match .keys4 }) _ (omega arith) (search needs) refl
+returns-4 c =
+    decode-whole _ _ (record { within = c .before .before .if1 .left; byte = c .match .keys3 }) _ (omega arith) (search needs) refl
 
-returns-9 : tie.Need-returns-9
-returns-9 c =
-    let r = c .before .match .rest in
-    let tested = c .if2 .taken in
-    decode-unknown _ _ (record { within = c .before .before .before .if1 .left; byte = refl })
-    (no-form (r .0 .0 .0 .0 .0 .1) (r .0 .0 .0 .0 .1) (r .0 .0 .0 .1) (r .0 .0 .1) (r .0 .1) (r .1) (λ low high. omega arith))
+returns-6 : tie.Need-returns-6
+unfolding formOf sum widthOf commandAt
+returns-6 c =
+    decode-whole _ _ (record { within = c .before .before .if1 .left; byte = c .match .keys5 }) _ (omega arith) (search needs) refl
 
 returns-10 : tie.Need-returns-10
 returns-10 c =
+    let r = c .before .match .rest in
+    let tested = c .if2 .taken in
+    decode-unknown _ _ (record { within = c .before .before .before .if1 .left; byte = refl })
+    (no-form (r .0 .0 .0 .0 .0 .0 .1) (r .0 .0 .0 .0 .0 .1) (r .0 .0 .0 .0 .1) (r .0 .0 .0 .1) (r .0 .0 .1) (r .0 .1) (r .1) (λ low high. omega arith))
+
+returns-11 : tie.Need-returns-11
+returns-11 c =
     let r = c .before .before .match .rest in
     let tested = c .if3 .left in
     decode-unknown _ _ (record { within = c .before .before .before .before .if1 .left; byte = refl })
-    (no-form (r .0 .0 .0 .0 .0 .1) (r .0 .0 .0 .0 .1) (r .0 .0 .0 .1) (r .0 .0 .1) (r .0 .1) (r .1) (λ low high. omega arith))
+    (no-form (r .0 .0 .0 .0 .0 .0 .1) (r .0 .0 .0 .0 .0 .1) (r .0 .0 .0 .0 .1) (r .0 .0 .0 .1) (r .0 .0 .1) (r .0 .1) (r .1) (λ low high. omega arith))
 
 pub decode-command-spec : {M : Type 1} → statement M
 decode-command-spec =
@@ -43,6 +48,7 @@ decode-command-spec =
     (λ c. search needs)
     (λ c κs. search needs)
     (λ c. search needs)
+    (λ c. search needs)
     (λ c κs. search needs)
     (λ c. search needs)
     (λ c κs. search needs)
@@ -50,10 +56,11 @@ decode-command-spec =
     (λ c κs. search needs)
     (λ c. search needs)
     returns-3
+    returns-4
     (λ c. search needs)
-    returns-5
+    returns-6
     (λ c. search needs)
     (λ c. search needs)
     (λ c. search needs)
-    returns-9
-    returns-10)
+    returns-10
+    returns-11)

@@ -32,10 +32,16 @@ returns-7 : tie.Need-returns-7
 unfolding formOf codeOf widthsOf operandBytes bytesOf
 returns-7 c = rw (c .before .before .command5 .given .1) (c .encode-access .ensures)
 
+returns-8 : tie.Need-returns-8
+unfolding formOf codeOf widthsOf operandBytes bytesOf
+returns-8 c = rw (c .before .enum-told3 .given .1) (c .encode-plain3 .ensures)
+
 pub encode-spec : {M : Type 1} → statement M
 encode-spec =
     tie.close
     (tie.spec
+    (λ c. search needs)
+    (λ c κs. tt)
     (λ c. search needs)
     (λ c κs. tt)
     (λ c. search needs)
@@ -56,4 +62,5 @@ encode-spec =
     returns-4
     returns-5
     returns-6
-    returns-7)
+    returns-7
+    returns-8)

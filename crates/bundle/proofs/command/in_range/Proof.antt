@@ -40,6 +40,10 @@ returns-7 c =
     ∙ ranges-decide (Com.Access _) (access-fits _ (fit-one (search needs) (fit-one (search needs) (fit-one (search needs) (fit-one (search needs) (fit-one (search needs) fit-none))))))
     ∙ ap inRange (sym (c .before .before .command5 .given .1))
 
+returns-8 : tie.Need-returns-8
+unfolding formOf codeOf widthsOf operandsOk
+returns-8 c = ranges-decide Com.Cut fit-none ∙ ap inRange (sym (c .enum-told3 .given .1))
+
 pub in-range-spec : {M : Type 1} → statement M
 in-range-spec =
     tie.close
@@ -52,10 +56,12 @@ in-range-spec =
     (λ c. search needs)
     (λ c. search needs)
     (λ c κs. tt)
+    (λ c. search needs)
     returns
     returns-2
     returns-3
     returns-4
     returns-5
     returns-6
-    returns-7)
+    returns-7
+    returns-8)

@@ -19,26 +19,40 @@ unfolding formOf sum widthOf commandAt codeOf widthsOf fitWidths operandsOk inRa
 returns-3 c = read-whole _ _ _ (decode-whole _ _ (record { within = c .before .before .if1 .left; byte = c .match .keys2 }) _ (omega arith) (search needs) refl) refl
 
 returns-4 : tie.Need-returns-4
-returns-4 c = read-accepted _ _ (c .before .decode-region .ensures) (c .accept2 .ensures)
+unfolding formOf sum widthOf commandAt codeOf widthsOf fitWidths operandsOk inRange
+returns-4 c = read-whole _ _ _ (decode-whole _ _ (record { within = c .before .before .if1 .left; byte = c .match .keys3 }) _ (omega arith) (search needs) refl) refl
 
 returns-5 : tie.Need-returns-5
-unfolding formOf sum widthOf commandAt codeOf widthsOf fitWidths operandsOk inRange
-returns-5 c = read-whole _ _ _ (decode-whole _ _ (record { within = c .before .before .if1 .left; byte = c .match .keys4 }) _ (omega arith) (search needs) refl) refl
+returns-5 c = read-accepted _ _ (c .before .decode-region .ensures) (c .accept2 .ensures)
 
 returns-6 : tie.Need-returns-6
-returns-6 c = read-accepted _ _ (c .before .decode-acquire .ensures) (c .accept3 .ensures)
+unfolding formOf sum widthOf commandAt codeOf widthsOf fitWidths operandsOk inRange
+returns-6 c = read-whole _ _ _ (decode-whole _ _ (record { within = c .before .before .if1 .left; byte = c .match .keys5 }) _ (omega arith) (search needs) refl) refl
 
 returns-7 : tie.Need-returns-7
-returns-7 c = read-accepted _ _ (c .before .decode-release .ensures) (c .accept4 .ensures)
+returns-7 c = read-accepted _ _ (c .before .decode-acquire .ensures) (c .accept3 .ensures)
 
 returns-8 : tie.Need-returns-8
-returns-8 c = read-accepted _ _ (c .before .decode-access .ensures) (c .accept5 .ensures)
+returns-8 c = read-accepted _ _ (c .before .decode-release .ensures) (c .accept4 .ensures)
 
 returns-9 : tie.Need-returns-9
-returns-9 c = let r = c .before .match .rest in let tested = c .if2 .taken in read-not _ _ 2 _ (decode-unknown _ _ (record { within = c .before .before .before .if1 .left; byte = refl }) (no-form (r .0 .0 .0 .0 .0 .1) (r .0 .0 .0 .0 .1) (r .0 .0 .0 .1) (r .0 .0 .1) (r .0 .1) (r .1) (λ low high. omega arith)))
+returns-9 c = read-accepted _ _ (c .before .decode-access .ensures) (c .accept5 .ensures)
 
 returns-10 : tie.Need-returns-10
-returns-10 c = let r = c .before .before .match .rest in let tested = c .if3 .left in read-not _ _ 2 _ (decode-unknown _ _ (record { within = c .before .before .before .before .if1 .left; byte = refl }) (no-form (r .0 .0 .0 .0 .0 .1) (r .0 .0 .0 .0 .1) (r .0 .0 .0 .1) (r .0 .0 .1) (r .0 .1) (r .1) (λ low high. omega arith)))
+returns-10 c =
+    let r = c .before .match .rest in
+    let tested = c .if2 .taken in
+    read-not _ _ 2 _
+    (decode-unknown _ _ (record { within = c .before .before .before .if1 .left; byte = refl })
+    (no-form (r .0 .0 .0 .0 .0 .0 .1) (r .0 .0 .0 .0 .0 .1) (r .0 .0 .0 .0 .1) (r .0 .0 .0 .1) (r .0 .0 .1) (r .0 .1) (r .1) (λ low high. omega arith)))
+
+returns-11 : tie.Need-returns-11
+returns-11 c =
+    let r = c .before .before .match .rest in
+    let tested = c .if3 .left in
+    read-not _ _ 2 _
+    (decode-unknown _ _ (record { within = c .before .before .before .before .if1 .left; byte = refl })
+    (no-form (r .0 .0 .0 .0 .0 .0 .1) (r .0 .0 .0 .0 .0 .1) (r .0 .0 .0 .0 .1) (r .0 .0 .0 .1) (r .0 .0 .1) (r .0 .1) (r .1) (λ low high. omega arith)))
 
 pub read-command-spec : {M : Type 1} → statement M
 read-command-spec =
@@ -48,6 +62,7 @@ read-command-spec =
     (λ c. search needs)
     (λ c κs. search needs)
     (λ c κs. tt)
+    (λ c. search needs)
     (λ c. search needs)
     (λ c κs. search needs)
     (λ c κs. tt)
@@ -66,4 +81,5 @@ read-command-spec =
     returns-7
     returns-8
     returns-9
-    returns-10)
+    returns-10
+    returns-11)

@@ -6,7 +6,7 @@ use Rattle.bundle.proofs.index.chunk_at.Tie as tie
 
 returns : tie.Need-returns
 unfolding chunkRowAt chunkRowOf
-returns c = rw (c .before .before .before .before .before .unpack2 .ensures, c .before .before .before .before .before .before .word-at2 .ensures, c .before .before .before .before .before .before .before .unpack .ensures, c .before .before .before .before .before .before .before .before .word-at .ensures)
+returns c = rw (c .before .before .before .before .before .before .unpack2 .ensures, c .before .before .before .before .before .before .before .word-at2 .ensures, c .before .before .before .before .before .before .before .before .unpack .ensures, c .before .before .before .before .before .before .before .before .before .word-at .ensures)
 
 pub chunk-at-spec : {M : Type 1} → statement M
 chunk-at-spec =

@@ -18,7 +18,11 @@ returns-3 c = rw (c .before .enum-told3 .given .1) (c .too-deep .ensures)
 
 returns-4 : tie.Need-returns-4
 unfolding failsBy
-returns-4 c = rw (c .before .enum-told4 .given .1) (c .unlike-first .ensures)
+returns-4 c = rw (c .before .enum-told4 .given .1) (c .unlike-lowest .ensures)
+
+returns-5 : tie.Need-returns-5
+unfolding failsBy
+returns-5 c = rw (c .before .enum-told5 .given .1) (c .uneven .ensures)
 
 pub fails-spec : {M : Type 1} → statement M
 fails-spec =
@@ -32,7 +36,10 @@ fails-spec =
     (λ c κs. search needs)
     (λ c. search needs)
     (λ c κs. search needs)
+    (λ c. search needs)
+    (λ c κs. search needs)
     returns
     returns-2
     returns-3
-    returns-4)
+    returns-4
+    returns-5)

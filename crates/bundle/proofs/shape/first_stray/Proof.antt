@@ -13,10 +13,10 @@ use Rattle.bundle.proofs.shape.first_stray.Statement.{statement}
 use Rattle.bundle.proofs.shape.first_stray.Tie as tie
 
 abbrev Inv-loop : tie.InvT-loop
-Inv-loop chunks count forks regions order masks₀ firsts₀ i₀ masks firsts i = (i ≤ count) × (length masks ≡ length masks₀) × (length firsts ≡ length firsts₀) × ((j : ℕ) → j < i → failsAt (strayRow (table (forkRowAt forks) regions)) (chunkRowAt chunks) j ≡ false) × Met (table (forkRowAt forks) regions) (table (chunkRowAt chunks) i) masks firsts
+Inv-loop chunks count forks regions order masks₀ leads₀ i₀ masks leads i = (i ≤ count) × (length masks ≡ length masks₀) × (length leads ≡ length leads₀) × ((j : ℕ) → j < i → failsAt (strayRow (table (forkRowAt forks) regions)) (chunkRowAt chunks) j ≡ false) × Met (table (forkRowAt forks) regions) (table (chunkRowAt chunks) i) masks leads
 
 abbrev μ-loop : tie.MeasureT-loop
-μ-loop chunks count forks regions order masks₀ firsts₀ i₀ masks firsts i = count - i
+μ-loop chunks count forks regions order masks₀ leads₀ i₀ masks leads i = count - i
 
 loop-holds : tie.Need-loop-holds Inv-loop μ-loop
 loop-holds c = (search needs, refl, refl, λ j h. absurd (omega arith), c .before .before .before .before .before .pre .met)
@@ -71,7 +71,7 @@ loop-again c =
     let noted = c .before .before .before .before .note .ensures in (
       search needs,
       c .before .before .before .masks .given ∙ l .loop .inv .1,
-      c .before .firsts .given ∙ l .loop .inv .2,
+      c .before .leads .given ∙ l .loop .inv .2,
       below-more _ _ (l .loop .inv .3) (sym (stray-is _ _ _ _ by _ (l .loop .inv .4) row slot tested) ∙ passes),
       stray-noted _ _ _ _ by _ (l .loop .inv .4) row slot tested passes (noted .0) (noted .1),
     )

@@ -30,7 +30,7 @@ same-length-3 : tie.Need-same-length-3
 same-length-3 c = c .before .before .before .before .before .masks .given
 
 same-length-4 : tie.Need-same-length-4
-same-length-4 c = c .before .before .before .firsts .given
+same-length-4 c = c .before .before .before .leads .given
 
 returns-2 : tie.Need-returns-2
 returns-2 c = ap checkingOf (c .at-chunk .ensures) ∙ one-stray _ _ _ _ _ _ _ (c .before .before .before .before .before .before .before .before .before .before .before .before .before .before .before .before .before .before .pre .by-team) (c .before .before .before .before .before .before .before .before .before .before .first-failing .ensures) (c .before .before .before .before .before .before .before .before .before .if1 .left) (c .before .before .before .before .before .before .first-stray .ensures .first) (c .before .before .before .before .before .before .first-stray .ensures .met) (c .before .if2 .taken)
@@ -42,7 +42,7 @@ same-length-5 : tie.Need-same-length-5
 same-length-5 c = c .before .before .before .before .before .before .before .masks .given
 
 same-length-6 : tie.Need-same-length-6
-same-length-6 c = c .before .before .before .before .before .firsts .given
+same-length-6 c = c .before .before .before .before .before .leads .given
 
 returns-3 : tie.Need-returns-3
 returns-3 c = c .test-settled .ensures ∙ past-9 _ _ _ _ _ _ _ (c .before .before .before .before .before .before .before .before .before .before .before .before .before .before .before .before .before .before .before .before .pre .by-team) (c .before .before .before .before .before .before .before .before .before .before .before .before .first-failing .ensures) (c .before .before .before .before .before .before .before .before .before .before .before .if1 .left) (c .before .before .before .before .before .before .before .before .first-stray .ensures .first) (c .before .before .before .before .before .before .before .before .first-stray .ensures .met) (c .before .before .before .if2 .left)

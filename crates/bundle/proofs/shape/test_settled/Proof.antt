@@ -1,5 +1,5 @@
 -- `bundle::shape::test_settled` meets its contract. Assumes nothing.
-use Rattle.bundle.proofs.ShapeTests.{root-missing, chunk-missing, one-deep, one-unlike, none-unlike}
+use Rattle.bundle.proofs.ShapeTests.{root-missing, chunk-missing, one-deep, none-deep}
 use Rattle.bundle.specs.Check.{checkingOf}
 use borrow.Author.Tests.{not-true, not-false}
 use mathlib.Core.Path.{ap, _∙_}
@@ -17,10 +17,7 @@ returns-3 : tie.Need-returns-3
 returns-3 c = ap checkingOf (c .at-fork2 .ensures) ∙ one-deep _ _ _ _ _ _ _ (c .before .before .before .before .before .before .before .before .before .before .before .before .before .pre) (c .before .before .before .before .before .before .before .slot-of .ensures) (c .before .before .before .before .before .before .met .ensures) (not-false _ (c .before .before .before .before .before .if1 .left)) (c .before .before .before .before .first-failing .ensures) (c .before .before .before .if2 .left) (c .before .before .first-failing2 .ensures) (c .before .if3 .taken)
 
 returns-4 : tie.Need-returns-4
-returns-4 c = ap checkingOf (c .at-chunk .ensures) ∙ one-unlike _ _ _ _ _ _ _ (c .before .before .before .before .before .before .before .before .before .before .before .before .before .before .before .pre) (c .before .before .before .before .before .before .before .before .before .slot-of .ensures) (c .before .before .before .before .before .before .before .before .met .ensures) (not-false _ (c .before .before .before .before .before .before .before .if1 .left)) (c .before .before .before .before .before .before .first-failing .ensures) (c .before .before .before .before .before .if2 .left) (c .before .before .before .before .first-failing2 .ensures) (c .before .before .before .if3 .left) (c .before .before .first-failing3 .ensures) (c .before .if4 .taken)
-
-returns-5 : tie.Need-returns-5
-returns-5 c = none-unlike _ _ _ _ _ _ _ (c .before .before .before .before .before .before .before .before .before .before .before .before .before .before .pre) (c .before .before .before .before .before .before .before .before .slot-of .ensures) (c .before .before .before .before .before .before .before .met .ensures) (not-false _ (c .before .before .before .before .before .before .if1 .left)) (c .before .before .before .before .before .first-failing .ensures) (c .before .before .before .before .if2 .left) (c .before .before .before .first-failing2 .ensures) (c .before .before .if3 .left) (c .before .first-failing3 .ensures) (c .if4 .left)
+returns-4 c = c .test-barriers .ensures ∙ none-deep _ _ _ _ _ _ _ (c .before .before .before .before .before .before .before .before .before .before .before .before .before .pre) (c .before .before .before .before .before .before .before .slot-of .ensures) (c .before .before .before .before .before .before .met .ensures) (not-false _ (c .before .before .before .before .before .if1 .left)) (c .before .before .before .before .first-failing .ensures) (c .before .before .before .if2 .left) (c .before .before .first-failing2 .ensures) (c .before .if3 .left)
 
 pub test-settled-spec : {M : Type 1} → statement M
 test-settled-spec =
@@ -35,7 +32,5 @@ test-settled-spec =
     (λ c κs. search needs)
     (λ c κs. tt)
     returns-3
-    (λ c κs. search needs)
-    (λ c κs. tt)
-    returns-4
-    returns-5)
+    (λ c κs. c .before .before .before .before .before .before .before .before .before .before .before .before .pre)
+    returns-4)

@@ -1,6 +1,6 @@
 -- `exports::commands::command_from` meets its contract: the first word decides. Assumes nothing.
 use native.Mathlib.Omega.{arith}
-use Rattle.exports.proofs.Widths.{by-member, by-end, by-region, by-barrier, by-acquire, by-release, by-access, by-none}
+use Rattle.exports.proofs.Widths.{by-member, by-end, by-cut, by-region, by-barrier, by-acquire, by-release, by-access, by-none}
 use borrow.Author.Needs.{needs}
 use Rattle.exports.proofs.commands.command_from.Statement.{statement}
 use Rattle.exports.proofs.commands.command_from.Tie as tie
@@ -12,25 +12,34 @@ returns-2 : tie.Need-returns-2
 returns-2 c = by-end _ _ (c .match .keys2)
 
 returns-3 : tie.Need-returns-3
-returns-3 c = rw (by-region _ _ (c .before .before .before .match .keys3)) (c .region-from .ensures)
+returns-3 c = by-cut _ _ (c .match .keys3)
 
 returns-4 : tie.Need-returns-4
-returns-4 c = by-barrier _ _ (c .match .keys4)
+returns-4 c = rw (by-region _ _ (c .before .before .before .match .keys4)) (c .region-from .ensures)
 
 returns-5 : tie.Need-returns-5
-returns-5 c = rw (by-acquire _ _ (c .before .before .match .keys5)) (c .acquire-from .ensures)
+returns-5 c = by-barrier _ _ (c .match .keys5)
 
 returns-6 : tie.Need-returns-6
-returns-6 c = rw (by-release _ _ (c .before .before .match .keys6)) (c .release-from .ensures)
+returns-6 c = rw (by-acquire _ _ (c .before .before .match .keys6)) (c .acquire-from .ensures)
 
 returns-7 : tie.Need-returns-7
-returns-7 c = rw (by-access _ _ (c .before .before .if1 .left) (c .before .if2 .taken)) (c .access-from .ensures)
+returns-7 c = rw (by-release _ _ (c .before .before .match .keys7)) (c .release-from .ensures)
 
 returns-8 : tie.Need-returns-8
-returns-8 c = let r = c .before .match .rest in let h = c .if1 .taken in by-none _ _ (r .0 .0 .0 .0 .0 .1) (r .0 .0 .0 .0 .1) (r .0 .0 .0 .1) (r .0 .0 .1) (r .0 .1) (r .1) (λ low high. omega arith)
+returns-8 c = rw (by-access _ _ (c .before .before .if1 .left) (c .before .if2 .taken)) (c .access-from .ensures)
 
 returns-9 : tie.Need-returns-9
-returns-9 c = let r = c .before .before .match .rest in let h = c .if2 .left in by-none _ _ (r .0 .0 .0 .0 .0 .1) (r .0 .0 .0 .0 .1) (r .0 .0 .0 .1) (r .0 .0 .1) (r .0 .1) (r .1) (λ low high. omega arith)
+returns-9 c =
+    let r = c .before .match .rest in
+    let h = c .if1 .taken in
+    by-none _ _ (r .0 .0 .0 .0 .0 .0 .1) (r .0 .0 .0 .0 .0 .1) (r .0 .0 .0 .0 .1) (r .0 .0 .0 .1) (r .0 .0 .1) (r .0 .1) (r .1) (λ low high. omega arith)
+
+returns-10 : tie.Need-returns-10
+returns-10 c =
+    let r = c .before .before .match .rest in
+    let h = c .if2 .left in
+    by-none _ _ (r .0 .0 .0 .0 .0 .0 .1) (r .0 .0 .0 .0 .0 .1) (r .0 .0 .0 .0 .1) (r .0 .0 .0 .1) (r .0 .0 .1) (r .0 .1) (r .1) (λ low high. omega arith)
 
 pub command-from-spec : {M : Type 1} → statement M
 command-from-spec =
@@ -56,4 +65,5 @@ command-from-spec =
     returns-6
     returns-7
     returns-8
-    returns-9)
+    returns-9
+    returns-10)

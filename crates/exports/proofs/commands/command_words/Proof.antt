@@ -33,6 +33,10 @@ returns-7 : tie.Need-returns-7
 unfolding commandWords
 returns-7 c = c .access-words .ensures ∙ sym (ap commandWords (c .before .before .command5 .given .1))
 
+returns-8 : tie.Need-returns-8
+unfolding commandWords
+returns-8 c = sym (ap commandWords (c .enum-told3 .given .1))
+
 pub command-words-spec : {M : Type 1} → statement M
 command-words-spec =
     tie.close
@@ -51,10 +55,12 @@ command-words-spec =
     (λ c. search needs)
     (λ c. search needs)
     (λ c κs. search needs)
+    (λ c. search needs)
     returns
     returns-2
     returns-3
     returns-4
     returns-5
     returns-6
-    returns-7)
+    returns-7
+    returns-8)

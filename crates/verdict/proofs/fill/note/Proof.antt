@@ -1,5 +1,7 @@
 -- `verdict::fill::note` meets its contract. Assumes nothing.
-use Rattle.verdict.proofs.NotedCases.{member-room, region-room, barrier-room, access-room, row-room, access-counts, noted-member, noted-end, noted-region, noted-barrier, noted-acquire, noted-release, noted-access}
+use Rattle.verdict.proofs.NotedCases.{member-room, region-room, barrier-room, access-room, row-room, access-counts, noted-member, noted-closing, noted-region, noted-barrier, noted-acquire, noted-release, noted-access}
+use native.Mathlib.Omega.{arith}
+use Rattle.bundle.proofs.Delimiters.{closes}
 use borrow.Author.Needs.{needs}
 use Rattle.verdict.proofs.fill.note.Statement.{statement}
 use Rattle.verdict.proofs.fill.note.Tie as tie
@@ -26,7 +28,8 @@ returns : tie.Need-returns
 returns c = noted-member (c .before .before .before .before .before .before .before .before .before .before .before .before .before .before .before .before .before .before .pre) (c .before .before .before .before .before .before .before .before .before .before .command .given .1) (c .before .before .before .before .before .before .before .before .enter .ensures) (c .before .before .before .before .before .before .before .fork-code .ensures) (c .before .before .before .before .open-segment .ensures)
 
 returns-2 : tie.Need-returns-2
-returns-2 c = noted-end (c .before .before .before .before .before .before .before .before .before .before .pre) (c .before .before .enum-told .given .1) (c .leave .ensures) (c .before .chunk-end .ensures)
+unfolding closes
+returns-2 c = noted-closing (c .before .before .before .before .before .before .before .before .before .before .before .before .pre) (rw (c .before .before .before .before .enum-told .given .1)) (c .before .before .close-chunk .ensures .0) (c .before .before .close-chunk .ensures .1)
 
 returns-3 : tie.Need-returns-3
 returns-3 c = noted-region (c .before .before .before .before .before .before .before .before .before .before .before .before .before .before .before .before .before .before .before .before .pre) (c .before .before .before .before .before .before .before .before .before .before .before .before .command2 .given .1) (c .before .before .before .before .before .before .before .before .before .after-join .ensures) (c .before .before .before .before .before .before .before .before .before .before .fork-end .ensures) (c .before .before .before .before .before .before .before .before .advance .ensures) (c .before .before .before .before .before .before .before .join-code .ensures) (c .before .before .before .before .open-segment2 .ensures)
@@ -43,6 +46,10 @@ returns-6 c = noted-release (c .before .before .before .before .before .before .
 returns-7 : tie.Need-returns-7
 returns-7 c = noted-access (c .before .before .before .before .before .before .before .before .before .before .before .before .before .before .before .pre) (c .before .before .before .before .before .before .before .command5 .given .1) (c .before .before .before .before .row-here .ensures) (c .before .before .before .add-access .ensures) (c .advance5 .ensures)
 
+returns-8 : tie.Need-returns-8
+unfolding closes
+returns-8 c = noted-closing (c .before .before .before .before .before .before .before .before .before .before .before .before .pre) (rw (c .before .before .before .before .enum-told3 .given .1)) (c .before .before .close-chunk2 .ensures .0) (c .before .before .close-chunk2 .ensures .1)
+
 pub note-spec : {M : Type 1} → statement M
 note-spec =
     tie.close
@@ -53,10 +60,7 @@ note-spec =
     (λ c κs. tt)
     open-segment-requires
     (λ c. search needs)
-    (λ c κs. tt)
-    (λ c. search needs)
-    (λ c. search needs)
-    (λ c κs. search needs)
+    (λ c κs. (omega (arith, c .before .before .before .before .before .before .before .before .before .pre .segment), c .before .before .before .before .before .before .before .before .before .pre .room .end-table))
     (λ c. search needs)
     (λ c κs. tt)
     (λ c. search needs)
@@ -84,6 +88,8 @@ note-spec =
     add-access-requires
     advance-requires-5
     (λ c. search needs)
+    (λ c κs. (omega (arith, c .before .before .before .before .before .before .before .before .before .pre .segment), c .before .before .before .before .before .before .before .before .before .pre .room .end-table))
+    (λ c. search needs)
     (λ c. search needs)
     returns
     (λ c. search needs)
@@ -99,4 +105,6 @@ note-spec =
     returns-5
     returns-6
     (λ c. search needs)
-    returns-7)
+    returns-7
+    (λ c. search needs)
+    returns-8)

@@ -1,0 +1,22 @@
+-- `bundle::scan::test_cut` meets its contract. Assumes nothing.
+use mathlib.Core.Path.{refl, sym, _∙_}
+use native.Mathlib.Nat.{add-zero}
+use Rattle.bundle.specs.Commands.{formOf, codeOf, widthsOf, operandsOk, fitWidths, inRange}
+use Rattle.bundle.specs.Scan.{isMember, misplaced, aboveOwnTeam, misusesLock, opensSegment, addsAccess, scanned}
+use Rattle.bundle.proofs.Stepping.{tested, many-none}
+use Rattle.bundle.proofs.scan.test_cut.Statement.{statement}
+use Rattle.bundle.proofs.scan.test_cut.Tie as tie
+
+returns : tie.Need-returns
+unfolding formOf codeOf widthsOf operandsOk fitWidths inRange misplaced isMember aboveOwnTeam misusesLock opensSegment addsAccess scanned
+returns c =
+    c .decide .ensures
+    ∙ tested _ _ _
+    refl
+    refl
+    refl
+    (sym (many-none _ _ (c .before .before .before .pre) refl refl))
+    (λ _ _. simp add-zero (c .before .before .close-chunk .ensures))
+
+pub test-cut-spec : {M : Type 1} → statement M
+test-cut-spec = tie.close (tie.spec (λ c κs. tt) (λ c κs. tt) returns)
