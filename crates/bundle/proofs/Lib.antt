@@ -24,6 +24,9 @@ pub mod Keys
 pub mod Shaped
 pub mod ShapeOrder
 pub mod Reorder
+pub mod Shortening
+pub mod CutChunks
+pub mod CutBundles
 pub mod Onward
 pub mod SegmentRuns
 pub mod WalkLaws

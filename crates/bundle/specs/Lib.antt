@@ -3,6 +3,7 @@ pub mod Answer
 pub mod ByRows
 pub mod Cases
 pub mod Check
+pub mod Cutting
 pub mod Chunks
 pub mod Commands
 pub mod Find

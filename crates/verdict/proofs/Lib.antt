@@ -47,3 +47,6 @@ pub mod LabelsAgree
 pub mod LineageTails
 pub mod AccessSegments
 pub mod Partings
+pub mod CutWalks
+pub mod CutRaces
+pub mod LawOfCutting

@@ -18,3 +18,4 @@ pub mod Census
 pub mod Promise
 pub mod Agreement
 pub mod Parting
+pub mod Cutting
