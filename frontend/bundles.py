@@ -4,13 +4,22 @@ Nothing is judged here. It is used for bundles that the proved program accepted,
 not as expected raise NotAsExpected and nothing else.
 """
 
+import re
 from collections import namedtuple
 
-MEMBER, END, REGION, BARRIER, ACQUIRE, RELEASE = 0x01, 0x02, 0x10, 0x11, 0x20, 0x21
+from frontend.names import counted
+
+MEMBER, END, CUT, REGION, BARRIER, ACQUIRE, RELEASE = 0x01, 0x02, 0x03, 0x10, 0x11, 0x20, 0x21
 KINDS = {0x30: "read", 0x31: "write", 0x32: "atomic read", 0x33: "atomic write"}
-WORDS = {MEMBER: "MEMBER", END: "END", REGION: "REGION", BARRIER: "BARRIER", ACQUIRE: "ACQUIRE", RELEASE: "RELEASE", **KINDS}
+WORDS = {
+    MEMBER: "MEMBER", END: "END", CUT: "CUT", REGION: "REGION", BARRIER: "BARRIER", ACQUIRE: "ACQUIRE", RELEASE: "RELEASE", **KINDS,
+}
 ACCESS_WIDTHS = (2, 4, 2, 2, 1)
-WIDTHS = {MEMBER: (2, 1), END: (), REGION: (2, 1), BARRIER: (), ACQUIRE: (1,), RELEASE: (1,), **dict.fromkeys(KINDS, ACCESS_WIDTHS)}
+WIDTHS = {
+    MEMBER: (2, 1), END: (), CUT: (), REGION: (2, 1), BARRIER: (), ACQUIRE: (1,), RELEASE: (1,),
+    **dict.fromkeys(KINDS, ACCESS_WIDTHS),
+}
+CLOSES = (END, CUT)
 LENGTHS = {code: 1 + sum(widths) for code, widths in WIDTHS.items()}
 
 MOST_BYTES = 65536
@@ -82,10 +91,11 @@ def commands(data):
 
 
 class Member:
-    """The log of one member of a team."""
+    """The log of one member of a team; it is complete, or cut."""
 
     def __init__(self, team, member):
         self.team, self.member = team, member
+        self.is_cut = False
         self.segments, self.accesses, self.forks = [], [], {}  # forks by the segment that they end
         self.open_segment(MEMBER)
 
@@ -100,6 +110,9 @@ class Member:
                 found.append([])
             found[-1].append(number)
         return found
+
+    def barriers(self):
+        return self.segments.count(BARRIER)
 
 
 class Log:
@@ -125,9 +138,12 @@ class Log:
             length = offset + LENGTHS[code]
             if (code == MEMBER) != (member is None):
                 raise NotAsExpected("a misplaced command")
+            if code == MEMBER and operands in self.members or code == REGION and operands[0] in self.forked_by:
+                raise NotAsExpected("a member or a team that is there twice")
             if code == MEMBER:
                 member = self.members[operands] = Member(*operands)
-            elif code == END:
+            elif code in CLOSES:
+                member.is_cut = code == CUT
                 member, locks = None, set()
             elif code in KINDS:
                 number = len(member.accesses)
@@ -147,7 +163,8 @@ class Log:
         return length
 
     def demand_shape(self):
-        """What drawing relies on: a root, all members of each team, equal numbers of barriers, no team inside itself."""
+        """What drawing relies on: a root, all members of each team, no team inside itself, and equal numbers of barriers, of which a
+        cut member may lack some."""
         if (0, 0) not in self.members or set(self.teams) != {0, *self.forked_by}:
             raise NotAsExpected("teams and members that do not fit")
         for team, (outer, member, segment) in self.forked_by.items():
@@ -155,7 +172,8 @@ class Log:
             if outer >= team or [m.member for m in self.teams[team]] != list(range(size)):
                 raise NotAsExpected("teams and members that do not fit")
         for members in self.teams.values():
-            if len({len(m.intervals()) for m in members}) != 1:
+            complete = {m.barriers() for m in members if not m.is_cut}
+            if len(complete) > 1 or complete and max(m.barriers() for m in members) > max(complete):
                 raise NotAsExpected("members with unlike numbers of barriers")
 
     def counts(self):
@@ -218,14 +236,16 @@ class Log:
 
 
 def barrier_edges(members):
-    """The edges of a team's barriers; those inside one member's log are told by own_edges."""
+    """The edges of a team's barriers; those inside one member's log are told by own_edges. A barrier that a cut member lacks comes
+    after its last segment."""
     opened = [[interval[0] for interval in m.intervals()] for m in members]
-    for barrier in range(1, len(opened[0])):
+    for barrier in range(1, max(map(len, opened))):
         for m, firsts in zip(members, opened):
+            has = barrier < len(firsts)
+            here = (m.team, m.member, firsts[barrier] - 1 if has else len(m.segments) - 1)
             for other, seconds in zip(members, opened):
-                if m is not other:
-                    here = (m.team, m.member, firsts[barrier] - 1)
-                    yield here, (other.team, other.member, seconds[barrier]), f"barrier {barrier}"
+                if m is not other and barrier < len(seconds):
+                    yield here, (other.team, other.member, seconds[barrier]), f"barrier {barrier}" if has else f"missing barrier {barrier}"
 
 
 def read_log(data):
@@ -236,6 +256,30 @@ def read_log(data):
         raise
     except (KeyError, IndexError, ValueError, TypeError, AttributeError, RecursionError) as error:
         raise NotAsExpected(f"{type(error).__name__}: {error}") from error
+
+
+def command_pattern(codes):
+    return b"|".join(re.escape(bytes([code])) + b"." * (LENGTHS[code] - 1) for code in codes)
+
+
+# A chunk, and the byte that closes it. It is quicker than commands(), and the whole tray is looked through.
+CHUNK = re.compile(
+    b"%b(?:%b)*(%b)" % tuple(map(command_pattern, ([MEMBER], LENGTHS.keys() - {MEMBER, *CLOSES}, CLOSES))), re.DOTALL
+)
+
+
+def cut_chunks(data):
+    """(cut chunks, chunks) of an accepted bundle."""
+    closed, at = [], 0
+    while found := CHUNK.match(data, at):
+        closed.append(found[1][0])
+        at = found.end()
+    return closed.count(CUT), len(closed)
+
+
+def cut_text(cut, chunks):
+    """'2 of 5 chunks are cut'."""
+    return f"{cut:,} of {counted(chunks, 'chunk')} {'is' if cut == 1 else 'are'} cut"
 
 
 def command_text(command):

@@ -39,6 +39,8 @@ The words:
   refused    none has, but some bundle is torn, damaged or could not be read
   missing    there is no bundle: no folder of this name, or an empty one
 
+The word of a build with cut chunks, logs of runs that were stopped, is on what was logged. A note tells which bundles have them.
+
 A folder without a row is judged and told of, and counts for the exit status. A bundle whose worker dies, is killed, hangs
 or prints nonsense is refused, with the reason; the other bundles are judged all the same."""
 

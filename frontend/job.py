@@ -14,6 +14,7 @@ from frontend.tray import Build, read_tray
 
 
 MOST_TOLD = 20  # bundles of a build on the terminal; the page has all
+MOST_CUT = 5  # bundles with cut chunks that the note of a build names
 
 
 def judge_tray(options):
@@ -30,6 +31,7 @@ def judge_tray(options):
     progress = Progress(builds, not options.quiet)
     try:
         judge_all(programs, options.jobs, builds, progress)
+        notes += cut_notes(builds)
         files = files_of(options, programs, sheet, rows, builds, notes, progress)
         outputs.write_all(files)
     finally:
@@ -89,6 +91,17 @@ def tell_missing(name, build, notes):
         notes.append(f"build {readable(name)} has no folder in the tray")
     elif not build.bundles:
         notes.append(f"the folder of build {readable(name)} is empty")
+
+
+def cut_notes(builds):
+    """For each build whose runs were stopped: its word is on what was logged."""
+    for build in builds:
+        cut = [b for b in build.bundles if b.cut]
+        if cut:
+            named = ", ".join(f"{readable(b.name)} ({b.cut[0]} of {b.cut[1]})" for b in cut[:MOST_CUT])
+            more = f" and {len(cut) - MOST_CUT:,} more" if len(cut) > MOST_CUT else ""
+            there = f"{len(cut):,} of {counted(len(build.bundles), 'bundle')} {'has' if len(cut) == 1 else 'have'}"
+            yield f"build {readable(build.name)}: {there} cut chunks, and the word is on what was logged: {named}{more}"
 
 
 # -------------------------------------------------------------------- outputs

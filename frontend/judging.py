@@ -7,6 +7,7 @@ program counts that bundle as one that it could not read. Where that fails too, 
 import queue
 from concurrent.futures import ThreadPoolExecutor
 
+from frontend.bundles import MOST_BYTES, cut_chunks
 from frontend.failures import reason_of
 from frontend.tray import open_file, why_not_opened
 
@@ -31,10 +32,22 @@ def judge(programs, build):
         bundle.line = line
         if line.word == "refused" and line.refusal is None and bundle.reason is None:
             bundle.reason = why_not_opened(bundle.path)
+        if line.counts:
+            bundle.cut = cut_of(bundle)
     if run.failure:
         build.word, build.reason = "refused", f"the build could not be judged: {run.failure}"
     else:
         build.word = run.word
+
+
+def cut_of(bundle):
+    """(cut chunks, chunks) of an accepted bundle; None if no chunk is cut, or if the file is another one by now."""
+    try:
+        with open_file(bundle.path) as file:
+            cut, chunks = cut_chunks(file.read(MOST_BYTES))
+    except OSError:
+        return None
+    return (cut, chunks) if cut and chunks == bundle.line.counts.chunks else None
 
 
 def find_broken(programs, names, folder, run):

@@ -114,6 +114,9 @@ the build, the tray has no log of it. {word_html("race-free")}: every log of the
 <p class="soft">A segment is what a member of a team does between two forks or barriers. In the pictures each row is a member, named by
 its team and its number; time runs to the right; boxes are segments, filled if they have accesses; a team stands below the segment
 that forks it; a thick line down is a barrier. Addresses are hexadecimal.</p>
+<p class="soft">A chunk is the log of one member. A cut one was closed where the run was stopped: words and races are on what was logged,
+and {word_html("race-free")} does not speak of what came after. Its row in a picture says cut and ends in a jagged line; the barriers
+that it lacks and the join come after that, along the dashed line.</p>
 <p class="soft">An access in a loop touches one element in each turn of the loop: a turn is an element's number from 0 in its access.
 Where several elements of an access hold the byte, it is the lowest. An access of one element has turn 0 alone.</p>
 <p class="soft">The locks of an access are those that its member holds there, and those held at the REGIONs that lead down to it, up to
@@ -165,7 +168,7 @@ locks and pictures are worked out by this page from the log.</p>
         told = [race_html(race, both, drawing) for race, both in zip(shown, sides)]
         parts = [
             f"<p>{counted(line.pairs, 'race')} among {counted(line.counts.accesses, 'access', 'accesses')} in"
-            f" {counted(line.counts.segments, 'segment')} of {counted(line.counts.chunks, 'member')}. The least:</p>"
+            f" {counted(line.counts.segments, 'segment')} of {counted(line.counts.chunks, 'member')}. {cut_html(bundle)}The least:</p>"
         ]
         if not log:
             parts.append('<p class="soft">There are no turns and no pictures: the file is no longer the one that was judged.</p>')
@@ -230,7 +233,7 @@ class Drawing:
         caption = "No path leads from one marked segment to the other."
         if graph.left_out:
             caption += f" {counted(graph.left_out, 'other member')} left out."
-        if graph.is_cut:
+        if graph.has_more:
             caption += " Dotted: more segments or teams."
         return f'<figure><div class="box">{picture}</div><figcaption>{caption}</figcaption></figure>'
 
@@ -240,6 +243,11 @@ class Drawing:
         graph = self.whole
         title = f"The whole graph: {counted(len(graph.rows), 'member')}, {counted(len(graph.places), 'segment')}"
         return f'<details><summary>{title}</summary><div class="box">{graph.whole(title)}</div></details>'
+
+
+def cut_html(bundle):
+    """That chunks are cut, if some are."""
+    return f"{bundles.cut_text(*bundle.cut)}: only what was logged is judged. " if bundle.cut else ""
 
 
 def race_title(race):
@@ -291,10 +299,10 @@ def turn_html(side):
 def bytes_html(race, first, second):
     title = f"The bytes of both accesses around byte {race.witness:08x}"
     picture, whole = bytes_picture(title, first.range, second.range, race.witness)
-    cut = "" if whole else " Cut: a range goes on at a side."
+    more = "" if whole else " A range goes on at a side."
     return (
         f'<figure><div class="box">{picture}</div><figcaption>Bytes touched are filled, those of the turn in a'
-        f" stronger colour; a bar starts an element.{cut}</figcaption></figure>"
+        f" stronger colour; a bar starts an element.{more}</figcaption></figure>"
     )
 
 
@@ -355,11 +363,13 @@ def in_short(build):
     others = build.not_free()
     if not build.bundles:
         return "empty folder" if build.path else "no folder"
+    cut = sum(b.cut is not None for b in build.bundles)
+    stopped = f", {cut:,} with cut chunks" if cut else ""
     if not others:
-        return counted(len(build.bundles), "bundle")
+        return counted(len(build.bundles), "bundle") + stopped
     words = [b.line.word for b in others if b.line]
     parts = [f"{words.count(w):,} {w}" for w in ("race", "refused") if w in words]
-    return f"{', '.join(parts)} of {len(build.bundles):,}"
+    return f"{', '.join(parts)} of {len(build.bundles):,}{stopped}"
 
 
 def one_line(bundle):

@@ -1,7 +1,10 @@
 """Pictures (SVG) of the fork-join graph and of the bytes of two ranges. Colours come from the classes of frontend/style.css.
 
-The graph: a row for each member, time to the right, a team below the segment that forks it, a barrier as a line down its team.
+The graph: a row for each member, time to the right, a team below the segment that forks it, a barrier as a line down its team. The
+row of a cut chunk says so and ends in a jagged line; a dashed line leads on from there, through the barriers that it lacks, to the join.
 """
+
+from itertools import zip_longest
 
 from frontend.bundles import REGION
 
@@ -10,6 +13,7 @@ ROW = 34  # from one row to the next
 GAP = 12  # between two segments of an interval
 BUS = 10  # from a segment to the line that leads to the members of a team, and from there to them
 BARRIER_GAP = 18
+JAG = "l4 4l-4 4l4 4l-4 4l4 4"  # from the top of a row down, at the end of a cut chunk
 LETTER = 6.1  # width of a letter of a row's label
 MARGIN = 4
 
@@ -22,6 +26,10 @@ def number(x):
     return f"{x:g}"
 
 
+def row_label(m):
+    return f"{m.team}.{m.member}{' cut' * m.is_cut}"
+
+
 class Graph:
     """A drawing of a log, or of the members in keep, which gives for each (team, member) a segment to draw with those near it."""
 
@@ -30,16 +38,17 @@ class Graph:
         self.keep = keep
         self.places = {}  # (team, member, segment): (x, y) of the box
         self.rows = []  # (y, label)
-        self.lines, self.waits, self.barriers, self.cuts = [], [], [], []  # parts of paths
+        self.lines, self.waits, self.barriers, self.more = [], [], [], []  # parts of paths; more is what leads to segments left out
+        self.jags, self.missing = [], []  # the ends of cut chunks, and what leads on from there
         self.sizes, self.rows_of_team, self.ends = {}, {}, {}
-        labels = [f"{t}.{m}" for t, m in log.members if self.kept(t, m)]
+        labels = [row_label(m) for key, m in log.members.items() if self.kept(*key)]
         self.left = MARGIN + LETTER * max(map(len, labels)) + 14
         self.measure(0)
         width, height = self.place(0, self.left, MARGIN + 6)
         self.width = self.left + width + MARGIN + 8
         self.height = height + MARGIN + 4
         self.left_out = sum(not self.kept(t, m) for t, m in log.members)
-        self.is_cut = bool(self.cuts)
+        self.has_more = bool(self.more)
 
     def kept(self, team, member):
         return self.keep is None or (team, member) in self.keep
@@ -49,11 +58,11 @@ class Graph:
         return self.keep is None or abs(number - self.keep[m.team, m.member]) <= NEAR
 
     def intervals(self, m):
-        """The drawn segments between two barriers; an interval in which no kept member has any is left out."""
-        members = self.team(m.team)
-        all_of = [[[n for n in part if self.shown(x, n)] for part in x.intervals()] for x in members]
-        used = [k for k in range(len(all_of[0])) if any(parts[k] for parts in all_of)]
-        return [all_of[members.index(m)][k] for k in used]
+        """The drawn segments between two barriers; an interval in which no kept member has any is left out. A cut member has none in
+        those behind its last one."""
+        all_of = {x: [[n for n in part if self.shown(x, n)] for part in x.intervals()] for x in self.team(m.team)}
+        used = [any(parts) for parts in zip_longest(*all_of.values())]
+        return [part or [] for part, is_used in zip_longest(all_of[m], used) if is_used]
 
     def team(self, team):
         return [m for m in self.log.teams[team] if self.kept(m.team, m.member)]
@@ -105,7 +114,7 @@ class Graph:
         return total, height
 
     def place_member(self, m, starts, y):
-        self.rows.append((y + 4, f"{m.team}.{m.member}"))
+        self.rows.append((y + 4, row_label(m)))
         self.rows_of_team[m.team] = y + 4
         middle = y + 4 + TALL / 2
         behind = None  # the right end of the segment before
@@ -117,12 +126,15 @@ class Graph:
                     waits = m.segments[s] == REGION
                     (self.waits if waits else self.lines).append(f"M{number(behind)} {number(middle)}H{number(x)}")
                 elif s:
-                    self.cuts.append(f"M{number(x)} {number(middle)}h-10")
+                    self.more.append(f"M{number(x)} {number(middle)}h-10")
                 behind = x + BOX
                 if s in m.forks and self.shown(m, s + 1):
                     x = self.place_fork(m, s, behind, y, middle)
                 elif s + 1 < len(m.segments) and not self.shown(m, s + 1):
-                    self.cuts.append(f"M{number(behind)} {number(middle)}h10")
+                    self.more.append(f"M{number(behind)} {number(middle)}h10")
+        if m.is_cut and self.shown(m, len(m.segments) - 1):
+            self.jags.append(f"M{number(behind + 2)} {y + 1}{JAG}")
+            behind += 7
         self.ends[m.team, m.member] = behind
 
     def place_fork(self, m, segment, x, y, middle):
@@ -130,7 +142,7 @@ class Graph:
         team = m.forks[segment].team
         room = self.room_behind(m, segment)
         if team not in self.sizes:
-            self.cuts.append(f"M{number(x + GAP / 2)} {number(middle + 3)}v8")
+            self.more.append(f"M{number(x + GAP / 2)} {number(middle + 3)}v8")
             return x + room
         self.place(team, x + 2 * BUS, y + ROW)
         fork, join = x + BUS, x + room - BUS
@@ -141,7 +153,8 @@ class Graph:
             if first == 0:
                 self.lines.append(f"M{number(fork)} {number(row)}H{number(left)}")
             if self.shown(inner, len(inner.segments) - 1):
-                self.lines.append(f"M{number(self.ends[inner.team, inner.member])} {number(row)}H{number(join)}")
+                lines = self.missing if inner.is_cut else self.lines
+                lines.append(f"M{number(self.ends[inner.team, inner.member])} {number(row)}H{number(join)}")
         self.lines.append(f"M{number(x)} {number(middle)}H{number(fork)}V{number(row)}")
         self.lines.append(f"M{number(join)} {number(row)}V{number(middle)}H{number(x + room)}")
         return x + room
@@ -155,7 +168,10 @@ class Graph:
         for key, (x, y) in self.places.items():
             (full if key in busy else empty).append(f"M{number(x)} {y}h{BOX}v{TALL}h-{BOX}z")
             texts.append(f'<text x="{number(x + BOX / 2)}" y="{y + 12}">{key[2]}</text>')
-        parts = (("l", self.lines), ("w", self.waits), ("c", self.cuts), ("b", self.barriers), ("e", empty), ("f", full))
+        parts = (
+            ("l", self.lines), ("w", self.waits), ("d", self.missing), ("c", self.more), ("b", self.barriers), ("z", self.jags),
+            ("e", empty), ("f", full),
+        )
         paths = "".join(f'<path class="{name}" d="{"".join(drawn)}"/>' for name, drawn in parts if drawn)
         return f'{paths}<g class="n">{"".join(texts)}</g>'
 

@@ -239,19 +239,18 @@ class Programs:
 
     def rewrite(self, data):
         """What canon writes of a bundle to standard output, and to standard error."""
-        process = self.start("canon", subprocess.PIPE, errors=subprocess.PIPE)
+        process = self.start("canon", data, errors=subprocess.PIPE)
         deadline = time.monotonic() + self.timeout
         try:
             while True:
                 if self.stop.is_set():
                     raise Stopped()
                 try:
-                    written, said = process.communicate(data, timeout=TICK)
+                    written, said = process.communicate(timeout=TICK)
                     break
                 except subprocess.TimeoutExpired:
                     if time.monotonic() > deadline:
                         raise Failed(f"the program gave no answer within {self.timeout:g} s") from None
-                    data = None  # it is on its way
         finally:
             end(process)
         if process.returncode:
@@ -265,10 +264,11 @@ class Failed(Exception):
 
 def feed(process, data):
     """Gives a process what it reads. What may not fit into the pipe is written by a thread, so that neither side waits for the other."""
+    pipe, process.stdin = process.stdin, None  # nobody else writes or closes it
 
     def write():
         try:
-            with process.stdin as pipe:
+            with pipe:
                 rest = memoryview(data)
                 while rest:
                     rest = rest[pipe.write(rest) :]

@@ -39,9 +39,14 @@ REFUSALS = {
     ),
     11: Refusal("A team is nested more than 4 deep.", "its REGION", "This reader does not take such a case."),
     12: Refusal(
-        "A member met more or fewer barriers than member 0 of its team.",
+        "A complete member, its log closed by END, met more or fewer barriers than the lowest-numbered complete one of its team.",
         "its MEMBER",
-        "Part of the log is missing, or the run was broken off: ask for it again.",
+        "Part of the log is missing, or a log that was broken off was closed by END: ask for it again.",
+    ),
+    19: Refusal(
+        "A cut member, its log closed by CUT, met more barriers than a complete one of its team.",
+        "its MEMBER",
+        "Part of a complete member's log is missing, or a log that was broken off was closed by END: look at the logger.",
     ),
 }
 

@@ -84,6 +84,7 @@ def check_file(options):
         print(told(refusal, data))
         return 1
     print("accepted chunks {} segments {} accesses {}".format(*counts))
+    print_cut(data)
     return 0
 
 
@@ -108,7 +109,7 @@ def show_file(options):
         if command.code in (bundles.MEMBER, bundles.REGION, bundles.BARRIER):
             segment = 0 if command.code == bundles.MEMBER else segment + 1
             note = f"  -- segment {segment}"
-        inside = inside and command.code != bundles.END
+        inside = inside and command.code not in bundles.CLOSES
         print(f"{command.offset:6}  {'  ' if inside else ''}{bundles.command_text(command)}{note}")
         inside = inside or command.code == bundles.MEMBER
     if refusal:
@@ -116,8 +117,16 @@ def show_file(options):
         if data and refusal[0] != 1:
             print(plain_dump(data, refusal[1]))
         return 1
+    print_cut(data)
     print_races(listing, data, options.file)
     return 0
+
+
+def print_cut(data):
+    """How many chunks of an accepted bundle are cut, if any."""
+    cut, chunks = bundles.cut_chunks(data)
+    if cut:
+        print(f"{bundles.cut_text(cut, chunks)}: the verdict is on what was logged")
 
 
 def print_races(listing, data, name):
@@ -224,7 +233,8 @@ def print_dot(log):
         names = "; ".join(f'"{team}.{member}:{n}"' for n in range(len(m.segments)))
         print(f'  subgraph "{team}.{member}" {{ {names}; }}')
     for here, after, word in log.edges():
-        print(f'  "{segment_name(here)}" -> "{segment_name(after)}" [label="{word}"];')
+        dashed = ", style=dashed" if word.startswith("missing") else ""
+        print(f'  "{segment_name(here)}" -> "{segment_name(after)}" [label="{word}"{dashed}];')
     print("}")
 
 
@@ -236,7 +246,8 @@ def write_picture(path, log, name):
     graph = Graph(log)
     style = (
         "<style>svg{background:#fff}text{font:10px monospace;fill:#1b1f24}.n text{text-anchor:middle}path{fill:none;stroke:#6e7781}"
-        "path.w{stroke-dasharray:2 3}path.b{stroke:#1b1f24;stroke-width:2.5}path.e{fill:#fff}path.f{fill:#dbe4ee}</style>"
+        "path.w{stroke-dasharray:2 3}path.d{stroke-dasharray:5 3}path.z{stroke:#a40e26;stroke-width:2}"
+        "path.b{stroke:#1b1f24;stroke-width:2.5}path.e{fill:#fff}path.f{fill:#dbe4ee}</style>"
     )
     title = html.escape(f"The fork-join graph of {readable(os.path.basename(name))}")
     picture = graph.svg(title, style + graph.labels() + graph.shapes())

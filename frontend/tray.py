@@ -26,6 +26,7 @@ class Bundle:
         self.line = None
         self.races = []
         self.races_failure = None
+        self.cut = None  # (cut chunks, chunks) of an accepted bundle, if some are cut
 
     def given_name(self):
         """The name as judge_build gets it."""

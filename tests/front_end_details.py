@@ -356,6 +356,15 @@ class Single(Case):
             self.assertEqual((ended.status, ended.out, ended.err.startswith(said)), (1, "", True), ended)
             self.assertEqual(out.read_bytes(), wanted)
 
+    def test_a_canon_that_reads_late(self):
+        """What does not fit into a pipe is written when it reads."""
+        folder = self.faulty_programs("")
+        late = "import sys, time\ntime.sleep(0.5)\nread = sys.stdin.buffer.read()\nsys.stderr.write(f'refused 1 at {len(read)}\\n')\n"
+        (folder / "canon").write_text(f"#!{sys.executable}\n{late}")
+        (folder / "canon").chmod(0o755)
+        ended = self.run_command("canon", "--timeout", "20", "-", input=bytes(70000), programs_at=folder)
+        self.assertEqual((ended.status, ended.err.split(":")[0]), (1, "refused 1 at 65537"), ended)
+
     def test_files_that_cannot_be_read(self):
         for command in ("list", "check", "show", "graph", "canon"):
             for name in (self.folder / "none", self.tray):

@@ -102,7 +102,7 @@ def regions_of(data):
     found, locks, chunk = {}, set(), None
     for _, code, operands in bundles.commands(data):
         if code == sr.MEMBER:
-            chunk = operands
+            chunk, locks = operands, set()
         elif code == sr.REGION:
             found[operands[0]] = chunk, tuple(sorted(locks))
         elif code == sr.ACQUIRE:

@@ -198,8 +198,12 @@ class Terminal(Case):
         for more, shown in (([], True), (["--quiet"], False)):
             ended = subprocess.run([*command, *more], stderr=theirs, stdout=subprocess.PIPE, env=environment)
             self.assertEqual(ended.returncode, 0)
-            seen = os.read(ours, 10000) if select.select([ours], [], [], 0)[0] else b""
-            self.assertEqual(b"5 of 5 builds, 5 of 5 bundles, 0 not race-free" in seen, shown)
+            last = b"5 of 5 builds, 5 of 5 bundles, 0 not race-free"
+            seen = b""
+            # what was written reaches this side a little later where the machine is busy
+            while last not in seen and select.select([ours], [], [], 10 if shown else 0.2)[0]:
+                seen += os.read(ours, 10000)
+            self.assertEqual(last in seen, shown)
         os.close(theirs)
         self.assertEqual(self.run_command("tray", self.tray).err, "")
 

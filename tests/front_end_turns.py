@@ -219,13 +219,14 @@ class Pages(PageCase):
 
 class Show(Case):
     def races_shown(self, *arguments, **more):
-        """The lines of show below the commands."""
+        """The lines of show below the commands, and below the number of cut chunks, if there are any."""
         ended = self.run_command("show", *arguments, **more)
         self.assertEqual((ended.status, ended.err), (0, ""))
         lines = ended.out.splitlines()
         commands = [line for line in lines if line.startswith(" ")]
         self.assertEqual(lines[: len(commands)], commands)
-        return lines[len(commands) :]
+        below = lines[len(commands) :]
+        return below[1:] if below[0].endswith("the verdict is on what was logged") else below
 
     def test_by_hand(self):
         for name, (data, wanted) in BY_HAND.items():
