@@ -2,12 +2,16 @@
 
 use crate::generate::Random;
 
+const CUT: u8 = 0x03;
+/// Cutting has numbers of its own.
+pub const CUT_SEED: u64 = 4;
+
 pub struct Case {
     pub name: &'static str,
     pub bytes: Vec<u8>,
 }
 
-/// A chunk's bytes, MEMBER to END.
+/// A chunk's bytes, MEMBER to END or CUT.
 pub type Chunk = Vec<u8>;
 
 pub fn cases(random: &mut Random) -> Vec<Case> {
@@ -25,7 +29,7 @@ pub fn cases(random: &mut Random) -> Vec<Case> {
     add("256 chunks, 255 teams", small.concat());
     add("the same, shuffled", shuffled(small.clone(), random));
     add("the same, back to front", small.iter().rev().flatten().copied().collect());
-    add("1,024 accesses, 504 chunks", shuffled(accesses, random));
+    add("1,024 accesses, 504 chunks", shuffled(accesses.clone(), random));
     add("all limits reached", shuffled(full.clone(), random));
 
     let mut bytes = shuffled(full.clone(), random);
@@ -48,6 +52,9 @@ pub fn cases(random: &mut Random) -> Vec<Case> {
     let mut chunks = wide_teams(54);
     before_end(&mut chunks[502], &[0x11]);
     add("last barrier count unlike", chunks.concat());
+    *chunks[502].last_mut().unwrap() = CUT;
+    add("last cut chunk ahead", chunks.concat());
+    add("1,024 accesses, a third cut", third_cut(accesses, &mut Random::new(CUT_SEED)).concat());
     cases
 }
 
@@ -155,6 +162,39 @@ fn with_locks(mut chunks: Vec<Chunk>, bytes: usize) -> Vec<Chunk> {
     chunks
 }
 
+/// The chunks, a third of them cut at the end of a command chosen at random, with no REGION lost.
+pub fn third_cut(mut chunks: Vec<Chunk>, random: &mut Random) -> Vec<Chunk> {
+    for turn in 0..chunks.len() / 3 {
+        let at = 3 * turn + random.from(0, 2) as usize;
+        let ends = command_ends(&chunks[at]);
+        chunks[at].truncate(random.one_of(&ends) as usize);
+        chunks[at].push(CUT);
+    }
+    chunks
+}
+
+/// The ends of a chunk's commands from its last REGION on, or from its MEMBER, all but that of its END.
+fn command_ends(chunk: &[u8]) -> Vec<u64> {
+    let (mut ends, mut at) = (vec![], 0);
+    while at + 1 < chunk.len() {
+        if chunk[at] == 0x10 {
+            ends.clear();
+        }
+        at += command_length(chunk[at]);
+        ends.push(at as u64);
+    }
+    ends
+}
+
+pub fn command_length(code: u8) -> usize {
+    match code {
+        0x01 | 0x10 => 4,
+        0x20 | 0x21 => 2,
+        0x30..=0x33 => 12,
+        _ => 1,
+    }
+}
+
 /// The chunks in a random order.
 pub fn shuffled(mut chunks: Vec<Chunk>, random: &mut Random) -> Vec<u8> {
     for i in (1..chunks.len()).rev() {
@@ -169,7 +209,7 @@ pub fn damaged(bytes: &[u8], random: &mut Random) -> Vec<u8> {
     let at = random.from(0, bytes.len() as u64 - 1) as usize;
     let end = bytes.len().min(at + random.one_of(&[1, 2, 4, 12]) as usize);
     match random.from(0, 3) {
-        0 => bytes[at] = random.one_of(&[0x01, 0x02, 0x10, 0x11, 0x20, 0x21, 0x30, 0x40, 0x00]) as u8,
+        0 => bytes[at] = random.one_of(&[0x01, 0x02, 0x03, 0x10, 0x11, 0x20, 0x21, 0x30, 0x40, 0x00]) as u8,
         1 => drop(bytes.drain(at..end)),
         2 => bytes = [&bytes[..end], &bytes[at..]].concat(),
         _ => bytes.truncate(at),

@@ -266,7 +266,7 @@ fn fill_edges(bundle: &Bundle, rows: &mut [MatrixRow]) {
         }
     }
     for team in reader::teams(&bundle.chunks).filter(|team| team.len() > 1) {
-        let mut opened = vec![[0; 16]; team[0].barriers as usize];
+        let mut opened = vec![[0; 16]; most_barriers(team) as usize];
         for chunk in team {
             for (number, segment) in bundle.opened_by_barriers(chunk).enumerate() {
                 set_bit(&mut opened[number], segment);
@@ -276,8 +276,17 @@ fn fill_edges(bundle: &Bundle, rows: &mut [MatrixRow]) {
             for (number, segment) in bundle.opened_by_barriers(chunk).enumerate() {
                 join(&mut rows[segment - 1], &opened[number]);
             }
+            // The barriers that a cut chunk lacks come after its last segment.
+            for missing in &opened[chunk.barriers as usize..] {
+                join(&mut rows[chunk.segments.1 as usize - 1], missing);
+            }
         }
     }
+}
+
+/// Those of the complete members, if there are any; a cut chunk has no more.
+fn most_barriers(team: &[Chunk]) -> u16 {
+    team.iter().map(|chunk| chunk.barriers).max().unwrap_or(0)
 }
 
 fn close_by_warshall(rows: &mut [MatrixRow]) {
@@ -297,16 +306,17 @@ impl Bundle {
     }
 
     /// Fills the rows of a team and of all teams below it, given what its last segments reach; answers what its
-    /// segments 0 reach. Goes back from interval to interval; within one, a member's segments are parted by REGIONs.
+    /// segments 0 reach. Goes back from interval to interval; within one, a member's segments are parted by REGIONs. A cut
+    /// chunk joins in where its last interval is reached: what the next barrier opens reaches all that later ones open.
     fn close_team(&self, rows: &mut [MatrixRow], team: u16, mut after: MatrixRow) -> MatrixRow {
         let team = reader::team(&self.chunks, team);
         let mut ends = [0; 64];
         for (end, chunk) in ends.iter_mut().zip(team) {
             *end = chunk.segments.1 as usize;
         }
-        for _ in 0..=team[0].barriers {
+        for interval in (0..=most_barriers(team)).rev() {
             let mut reached = [0; 16];
-            for end in &mut ends[..team.len()] {
+            for (end, _) in ends.iter_mut().zip(team).filter(|(_, chunk)| chunk.barriers >= interval) {
                 let mut segment = *end - 1;
                 rows[segment] = with_bit(after, segment);
                 while self.openings[segment] != 0 {

@@ -39,14 +39,26 @@ pub fn cases(random: &mut Random) -> Vec<Case> {
             locked(&[lock, 32 + lock / 4], access(WRITE, WORD))
         }),
     );
-    add("8 members, 62 barriers", intervals(|| access(WRITE, WORD)));
+    add("8 members, 62 barriers", intervals(8, 62, || access(WRITE, WORD)));
     add("nested four deep", nested(|| access(any_kind(random), near(random)), region));
     add("10 accesses", small(random));
     add("E", example_e());
     add("locks around regions", around_regions(random));
     let bytes = without_locks(&cases[cases.len() - 1].bytes);
     cases.push(Case { name: "the same without locks", bytes });
+    cases.extend(cut_cases());
     cases
+}
+
+/// Bundles in which a third of the chunks are cut.
+fn cut_cases() -> [Case; 2] {
+    let mut random = Random::new(bundles::CUT_SEED);
+    let barriers = intervals(24, 20, || access(WRITE, WORD));
+    let locks = around_regions(&mut random);
+    [("24 members, a third cut", barriers), ("regions, a third cut", locks)].map(|(name, chunks)| {
+        let chunks = bundles::third_cut(chunks, &mut random);
+        Case { name, bytes: bundles::shuffled(chunks, &mut random) }
+    })
 }
 
 fn any_kind(random: &mut Random) -> u8 {
@@ -142,17 +154,18 @@ fn teams_in_turn(mut commands: impl FnMut() -> Vec<u8>) -> Vec<Chunk> {
     ended(chunks, SEGMENTS)
 }
 
-/// A team of 8 that passes 62 barriers, two accesses in each interval; 16 more in the root.
-fn intervals(mut commands: impl FnMut() -> Vec<u8>) -> Vec<Chunk> {
+/// A team that passes so many barriers, two accesses in each interval; the rest of them in the root.
+fn intervals(members: u8, barriers: usize, mut commands: impl FnMut() -> Vec<u8>) -> Vec<Chunk> {
+    let segments = members as usize * (1 + barriers);
     let mut root = bundles::member(0, 0);
-    for _ in 0..ACCESSES - 8 * 63 * 2 {
+    for _ in 0..ACCESSES - 2 * segments {
         root.extend(commands());
     }
-    root.extend(bundles::region(1, 8));
+    root.extend(bundles::region(1, members));
     let mut chunks = vec![root];
-    for member in 0..8 {
+    for member in 0..members {
         let mut chunk = bundles::member(1, member);
-        for interval in 0..63 {
+        for interval in 0..=barriers {
             if interval > 0 {
                 chunk.push(0x11);
             }
@@ -161,7 +174,7 @@ fn intervals(mut commands: impl FnMut() -> Vec<u8>) -> Vec<Chunk> {
         }
         chunks.push(chunk);
     }
-    ended(chunks, 2 + 8 * 63)
+    ended(chunks, 2 + segments)
 }
 
 /// Teams of 4, each of whose members forks a team of 4, down to depth 4; 3 accesses in each member, and 4 in the root.
@@ -209,13 +222,8 @@ fn around_regions(random: &mut Random) -> Vec<Chunk> {
 fn without_locks(bytes: &[u8]) -> Vec<u8> {
     let (mut kept, mut at) = (Vec::new(), 0);
     while at < bytes.len() {
-        let length = match bytes[at] {
-            0x01 | 0x10 => 4,
-            ACQUIRE | RELEASE => 2,
-            0x30..=0x33 => 12,
-            _ => 1,
-        };
-        if length != 2 {
+        let length = bundles::command_length(bytes[at]);
+        if !matches!(bytes[at], ACQUIRE | RELEASE) {
             kept.extend(&bytes[at..at + length]);
         }
         at += length;

@@ -61,7 +61,8 @@ pub fn compare(random: &mut Random) -> bool {
     println!();
     println!("listing, milliseconds for all races of a bundle");
     println!("{:<24}{:>10}{:>10}{:>10}{:>9}", "bundle", "races", "proved", "rust", "ratio");
-    for case in named(&cases, &["all clash", "coprime strides", "8 members, 62 barriers", "10 accesses", "E"]) {
+    let listed = ["all clash", "coprime strides", "8 members, 62 barriers", "10 accesses", "E", "24 members, a third cut"];
+    for case in named(&cases, &listed) {
         all_equal &= time_listing(case);
     }
     all_equal

@@ -1,4 +1,4 @@
-//! A plain reader of bundles, written from the scope paper: check, with refusals 1 to 12.
+//! A plain reader of bundles, written from the scope paper: check, with refusals 1 to 12 and 19.
 
 use crate::ranges::Range;
 
@@ -59,7 +59,8 @@ pub struct Access {
 
 enum Command {
     Member { team: u16, member: u8 },
-    End,
+    /// END, or CUT.
+    Close { cut: bool },
     Region { team: u16, size: u8 },
     Barrier,
     Acquire(u8),
@@ -72,7 +73,7 @@ enum Command {
 fn decode(bytes: &[u8], at: usize) -> Result<(Command, usize), Refusal> {
     Ok(match bytes[at..] {
         [0x01, low, high, member, ..] => (Command::Member { team: u16::from_le_bytes([low, high]), member }, at + 4),
-        [0x02, ..] => (Command::End, at + 1),
+        [code @ 0x02..=0x03, ..] => (Command::Close { cut: code == 0x03 }, at + 1),
         [0x10, low, high, size, ..] => (Command::Region { team: u16::from_le_bytes([low, high]), size }, at + 4),
         [0x11, ..] => (Command::Barrier, at + 1),
         [0x20, lock, ..] => (Command::Acquire(lock), at + 2),
@@ -89,13 +90,15 @@ fn decode(bytes: &[u8], at: usize) -> Result<(Command, usize), Refusal> {
     })
 }
 
-/// A chunk: the offset of its MEMBER, its name, the barriers that it passes, and its segments and accesses among those
-/// of the bundle, from a number up to a number, in the order of the bytes. An offset is at most 65,535.
+/// A chunk: the offset of its MEMBER, its name, whether it is closed by CUT, the barriers that it passes, and its segments
+/// and accesses among those of the bundle, from a number up to a number, in the order of the bytes. An offset is at most
+/// 65,535.
 #[derive(Clone, Copy)]
 pub struct Chunk {
     pub place: u16,
     pub team: u16,
     pub member: u8,
+    pub cut: bool,
     pub barriers: u16,
     pub segments: (u16, u16),
     pub accesses: (u16, u16),
@@ -116,7 +119,7 @@ fn scan(bytes: &[u8], log: &mut impl Log) -> Result<(Vec<Chunk>, Vec<Fork>), Ref
     let mut chunks = Vec::new();
     let mut forks = Vec::new();
     let mut open = false;
-    let mut chunk = Chunk { place: 0, team: 0, member: 0, barriers: 0, segments: (0, 0), accesses: (0, 0) };
+    let mut chunk = opened(0, 0, 0, (0, 0));
     let mut locks = 0u64;
     let mut segments = 0;
     let mut accesses = 0;
@@ -135,20 +138,20 @@ fn scan(bytes: &[u8], log: &mut impl Log) -> Result<(Vec<Chunk>, Vec<Fork>), Ref
                     return refuse(7, at);
                 }
                 open = true;
-                let (segment, access) = (segments as u16, accesses as u16);
-                let place = at as u16;
-                chunk = Chunk { place, team, member, barriers: 0, segments: (segment, 0), accesses: (access, 0) };
+                chunk = opened(at, team, member, (segments, accesses));
                 log.segment();
                 segments += 1;
             }
-            Command::End => {
+            Command::Close { cut } => {
                 if !open {
                     return refuse(4, at);
                 }
-                if locks != 0 {
+                if locks != 0 && !cut {
                     return refuse(6, at);
                 }
                 open = false;
+                locks = 0;
+                chunk.cut = cut;
                 chunk.segments.1 = segments as u16;
                 chunk.accesses.1 = accesses as u16;
                 chunks.push(chunk);
@@ -224,7 +227,13 @@ fn scan(bytes: &[u8], log: &mut impl Log) -> Result<(Vec<Chunk>, Vec<Fork>), Ref
     Ok((chunks, forks))
 }
 
-/// The lowest number of 8 to 12, then the lowest offset.
+/// A chunk at its MEMBER, with the numbers of segments and accesses before it.
+fn opened(at: usize, team: u16, member: u8, (segments, accesses): (u32, u32)) -> Chunk {
+    let (segments, accesses) = ((segments as u16, 0), (accesses as u16, 0));
+    Chunk { place: at as u16, team, member, cut: false, barriers: 0, segments, accesses }
+}
+
+/// The lowest number of 8 to 12 and 19, then the lowest offset.
 fn check_shape(chunks: &mut [Chunk], forks: &mut [Fork]) -> Result<(), Refusal> {
     // Sorted by name, then place: of equal names the first stands lowest in the bundle.
     chunks.sort_unstable_by_key(|chunk| (chunk.team as u64) << 24 | (chunk.member as u64) << 16 | chunk.place as u64);
@@ -236,7 +245,8 @@ fn check_shape(chunks: &mut [Chunk], forks: &mut [Fork]) -> Result<(), Refusal> 
     }
     refuse_lowest(10, places_lacking_chunks(chunks, forks))?;
     refuse_lowest(11, places_too_deep(forks))?;
-    refuse_lowest(12, places_of_unlike_barriers(chunks))
+    refuse_lowest(12, places_of_unlike_barriers(chunks))?;
+    refuse_lowest(19, places_of_cut_chunks_ahead(chunks))
 }
 
 fn refuse_lowest(number: u32, places: impl Iterator<Item = u16>) -> Result<(), Refusal> {
@@ -291,9 +301,23 @@ fn places_too_deep(forks: &[Fork]) -> impl Iterator<Item = u16> + '_ {
     forks.iter().zip(depths).filter(|(_, depth)| *depth > MOST_DEPTH).map(|(fork, _)| fork.place)
 }
 
-/// 12: a barrier count unlike that of member 0, which stands first of its team.
+/// The barriers of a team's lowest-numbered complete member, if there is one.
+fn complete_barriers(team: &[Chunk]) -> Option<u16> {
+    team.iter().find(|chunk| !chunk.cut).map(|chunk| chunk.barriers)
+}
+
+/// 12: a complete member whose barrier count is unlike that of the lowest-numbered complete one.
 fn places_of_unlike_barriers(chunks: &[Chunk]) -> impl Iterator<Item = u16> + '_ {
     teams(chunks).flat_map(|team| {
-        team.iter().filter(|chunk| chunk.barriers != team[0].barriers).map(|chunk| chunk.place)
+        let wanted = complete_barriers(team);
+        team.iter().filter(move |chunk| !chunk.cut && Some(chunk.barriers) != wanted).map(|chunk| chunk.place)
+    })
+}
+
+/// 19: a cut chunk with more barriers than the complete members of its team. Past 12, these have equal counts.
+fn places_of_cut_chunks_ahead(chunks: &[Chunk]) -> impl Iterator<Item = u16> + '_ {
+    teams(chunks).flat_map(|team| {
+        let most = complete_barriers(team).unwrap_or(u16::MAX);
+        team.iter().filter(move |chunk| chunk.cut && chunk.barriers > most).map(|chunk| chunk.place)
     })
 }
