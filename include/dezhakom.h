@@ -24,11 +24,12 @@
 extern "C" {
 #endif
 
-#define DEZHAKOM_VERSION "0.2.0"
+#define DEZHAKOM_VERSION "0.3.0"
 
 /* The bytes of the commands. */
 #define DEZHAKOM_MEMBER 0x01       /* team, member: opens a chunk, the whole log of one member of a team */
 #define DEZHAKOM_END 0x02          /* closes the chunk */
+#define DEZHAKOM_CUT 0x03          /* closes the chunk of a member that was stopped; locks may be held */
 #define DEZHAKOM_REGION 0x10       /* team, size: the member forks that team and waits for its join */
 #define DEZHAKOM_BARRIER 0x11      /* a barrier of the member's own team */
 #define DEZHAKOM_ACQUIRE 0x20      /* lock */
@@ -59,7 +60,7 @@ typedef enum dezhakom_refusal {
     DEZHAKOM_BUNDLE_TOO_LONG = 1,      /* over 65,536 bytes; 0 */
     DEZHAKOM_UNKNOWN_COMMAND = 2,      /* a byte that is no command; its offset */
     DEZHAKOM_OPERANDS_CUT_OFF = 3,     /* the bytes end inside a command; its offset */
-    DEZHAKOM_MISPLACED = 4,            /* not MEMBER outside a chunk, MEMBER inside one; its offset; or an END is missing; the length */
+    DEZHAKOM_MISPLACED = 4,            /* not MEMBER outside a chunk, MEMBER inside one; its offset; or a chunk is not closed; the length */
     DEZHAKOM_OUT_OF_RANGE = 5,         /* an operand outside its range; the command's offset; of two ranges, 1 or 2 */
     DEZHAKOM_LOCK_MISUSED = 6,         /* a held lock acquired, one not held released, or one held at END; the command's offset */
     DEZHAKOM_TOO_MANY_ENTRIES = 7,     /* the 513th segment or the 1,025th access; the command's offset */
@@ -67,13 +68,14 @@ typedef enum dezhakom_refusal {
     DEZHAKOM_STRAY_CHUNK = 9,          /* a chunk whose team is never forked, whose member is not below the size, or a second one; its offset */
     DEZHAKOM_MISSING_CHUNK = 10,       /* a member's chunk is missing; its team's REGION; 0 for the root's */
     DEZHAKOM_TOO_DEEP = 11,            /* a team is nested over 4 deep; its REGION's offset */
-    DEZHAKOM_BARRIER_COUNT = 12,       /* a member has not as many barriers as member 0 of its team; its chunk's offset */
+    DEZHAKOM_BARRIER_COUNT = 12,       /* a complete member's barriers are not as many as the lowest-numbered complete one's; its chunk's offset */
     DEZHAKOM_WORK_AREA_TOO_SMALL = 13, /* a work area under 16,384 words; 0 */
     DEZHAKOM_NONE_SUCH = 14,           /* no such member or segment; 0 */
     DEZHAKOM_BAD_LABEL = 15,           /* a label that no segment can have; 1 or 2 for the label */
     DEZHAKOM_UNEQUAL_SPANS = 16,       /* the first triples that differ have unequal spans; the triple, from 0 */
     DEZHAKOM_DOES_NOT_FIT = 17,        /* a command does not fit into the buffer; the position */
-    DEZHAKOM_PAST_END = 18             /* the position is at or past the end; the position */
+    DEZHAKOM_PAST_END = 18,            /* the position is at or past the end; the position */
+    DEZHAKOM_CUT_AHEAD = 19            /* a cut chunk has more barriers than a complete member of its team; its offset */
 } dezhakom_refusal;
 
 /* What comparing two labels answers: the first segment against the second. */
@@ -160,10 +162,10 @@ uint32_t dezhakom_put_command(const dezhakom_command *command, uint8_t *buffer, 
                               size_t *place);
 
 /* Whether the bytes are a bundle: 0 where they are.
- * Refused with 1, then with 2 to 7 at the first command that fails, then with the lowest of 8 to 12. */
+ * Refused with 1, then with 2 to 7 at the first command that fails, then with the lowest of 8 to 12 and 19. */
 uint32_t dezhakom_check(const uint8_t *bytes, size_t length, size_t *place);
 
-/* Where the chunk of a member stands in a bundle: from start, its MEMBER, up to end, behind its END.
+/* Where the chunk of a member stands in a bundle: from start, its MEMBER, up to end, behind its END or CUT.
  * Refused as check, then with 14 where there is no such member. */
 uint32_t dezhakom_find_chunk(const uint8_t *bytes, size_t length, uint16_t team, uint8_t member, size_t *start, size_t *end,
                              size_t *place);

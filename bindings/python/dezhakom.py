@@ -13,7 +13,7 @@ import os
 from collections import namedtuple
 from ctypes import POINTER, Structure, byref, c_char_p, c_size_t, c_uint8, c_uint16, c_uint32, c_uint64
 
-MEMBER, END, REGION, BARRIER, ACQUIRE, RELEASE = 0x01, 0x02, 0x10, 0x11, 0x20, 0x21
+MEMBER, END, CUT, REGION, BARRIER, ACQUIRE, RELEASE = 0x01, 0x02, 0x03, 0x10, 0x11, 0x20, 0x21
 READ, WRITE, ATOMIC_READ, ATOMIC_WRITE = 0x30, 0x31, 0x32, 0x33
 WORK_WORDS, MOST_ACCESSES, COMMAND_BYTES, MOST_TRIPLES, NAME_WORDS = 16384, 1024, 12, 5, 2
 ORDERS = ("same", "before", "after", "concurrent")

@@ -51,10 +51,11 @@ pub enum Cause {
     UnequalSpans,
     DoesNotFit,
     PastEnd,
+    CutAhead,
 }
 
 impl Cause {
-    const ALL: [Cause; 18] = [
+    const ALL: [Cause; 19] = [
         Cause::BundleTooLong,
         Cause::UnknownCommand,
         Cause::OperandsCutOff,
@@ -73,15 +74,16 @@ impl Cause {
         Cause::UnequalSpans,
         Cause::DoesNotFit,
         Cause::PastEnd,
+        Cause::CutAhead,
     ];
 
-    /// 1 to 18.
+    /// 1 to 19.
     pub fn number(self) -> u32 {
         self as u32
     }
 
     fn of(number: u32) -> Cause {
-        *Self::ALL.get((number as usize).wrapping_sub(1)).expect("a refusal from 1 to 18")
+        *Self::ALL.get((number as usize).wrapping_sub(1)).expect("a refusal from 1 to 19")
     }
 
     fn text(self) -> &'static str {
@@ -89,7 +91,7 @@ impl Cause {
             Cause::BundleTooLong => "the bundle has over 65,536 bytes",
             Cause::UnknownCommand => "unknown command byte",
             Cause::OperandsCutOff => "the bytes end inside a command",
-            Cause::Misplaced => "not MEMBER outside a chunk, MEMBER inside one, or an END is missing",
+            Cause::Misplaced => "not MEMBER outside a chunk, MEMBER inside one, or a chunk is not closed",
             Cause::OutOfRange => "an operand outside its range",
             Cause::LockMisused => "a held lock acquired, one not held released, or one held at END",
             Cause::TooManyEntries => "the 513th segment or the 1,025th access",
@@ -97,13 +99,14 @@ impl Cause {
             Cause::StrayChunk => "a chunk of no forked team, of a member not below its size, or a second one",
             Cause::MissingChunk => "a member's chunk is missing",
             Cause::TooDeep => "a team is nested over 4 deep",
-            Cause::BarrierCount => "a number of barriers unlike member 0's",
+            Cause::BarrierCount => "a complete member's barriers are not as many as the lowest-numbered complete one's",
             Cause::WorkAreaTooSmall => "the work area has under 16,384 words",
             Cause::NoneSuch => "no such member or segment",
             Cause::BadLabel => "a label that no segment can have",
             Cause::UnequalSpans => "the first triples that differ have unequal spans",
             Cause::DoesNotFit => "the command does not fit into the buffer",
             Cause::PastEnd => "the position is at or past the end",
+            Cause::CutAhead => "a cut chunk has more barriers than a complete member of its team",
         }
     }
 }
@@ -170,6 +173,8 @@ pub enum Command {
     Member { team: u16, member: u8 },
     /// Closes the chunk.
     End,
+    /// Closes the chunk of a member that was stopped; locks may be held.
+    Cut,
     /// The member forks that team and waits for its join.
     Region { team: u16, size: u8 },
     /// A barrier of the member's own team.
@@ -188,6 +193,7 @@ impl Command {
                 ffi::Command { byte: 0x01, team: team.into(), member: member.into(), ..none }
             }
             Command::End => ffi::Command { byte: 0x02, ..none },
+            Command::Cut => ffi::Command { byte: 0x03, ..none },
             Command::Region { team, size } => ffi::Command { byte: 0x10, team: team.into(), size: size.into(), ..none },
             Command::Barrier => ffi::Command { byte: 0x11, ..none },
             Command::Acquire { lock } => ffi::Command { byte: 0x20, lock: lock.into(), ..none },
@@ -215,6 +221,7 @@ impl Command {
         match record.byte {
             0x01 => Command::Member { team, member: record.member as u8 },
             0x02 => Command::End,
+            0x03 => Command::Cut,
             0x10 => Command::Region { team, size },
             0x11 => Command::Barrier,
             0x20 => Command::Acquire { lock },
@@ -296,7 +303,7 @@ impl Iterator for Commands<'_> {
 
 // ------------------------------------------------------------------ bundles
 
-/// Whether the bytes are a bundle. Refused with 1 to 12.
+/// Whether the bytes are a bundle. Refused with 1 to 12, or with 19.
 #[inline]
 pub fn check(bytes: &[u8]) -> Result<(), Refusal> {
     let mut place = 0;
@@ -304,7 +311,7 @@ pub fn check(bytes: &[u8]) -> Result<(), Refusal> {
     answer(refusal, place)
 }
 
-/// The chunk of a member, from MEMBER to END. Refused as check, then with 14.
+/// The chunk of a member, from MEMBER to END or CUT. Refused as check, then with 14.
 #[inline]
 pub fn find_chunk(bytes: &[u8], team: u16, member: u8) -> Result<&[u8], Refusal> {
     let (mut start, mut end, mut place) = (0, 0, 0);

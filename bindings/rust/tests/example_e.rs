@@ -77,6 +77,26 @@ fn race_free_behind_the_barrier() {
     assert!(Listing::of(&bytes, &mut vec![0; WORK_WORDS]).unwrap().is_empty());
 }
 
+/// Member 1 is stopped before its barrier, with a lock held: its read races with the write, and comes before what is behind the barrier.
+#[test]
+fn a_stopped_run() {
+    let mut commands = e_commands();
+    commands.insert(6, word(AccessKind::Write, 11, 4106, 0, 1));
+    commands.truncate(10);
+    commands.extend([Command::Acquire { lock: 3 }, Command::Cut]);
+    let bytes = written(&commands);
+    let read: Result<Vec<_>, _> = dezhakom::commands(&bytes).map(|item| item.map(|(_, command)| command)).collect();
+    assert_eq!(read, Ok(commands.clone()));
+    let judgement = judge(&bytes, &mut vec![0; WORK_WORDS]).unwrap();
+    assert_eq!(judgement.counts, Counts { chunks: 3, segments: 5, accesses: 3, races: 1 });
+    assert_eq!(judgement.least.unwrap().to_string(), "race 0000100a 1.0.0 10 1.1.0 20");
+    assert_eq!(find_chunk(&bytes, 1, 1).unwrap().last(), Some(&0x03));
+    // A cut chunk that passed a barrier more than the complete member of its team.
+    commands.splice(10.., [Command::Barrier, Command::Barrier, Command::Cut]);
+    let ahead = check(&written(&commands)).unwrap_err();
+    assert_eq!((ahead.cause, ahead.cause.number(), ahead.place), (Cause::CutAhead, 19, 39));
+}
+
 #[test]
 fn refusals() {
     let refused = |cause, place| Err(Refusal { cause, place });

@@ -53,6 +53,7 @@ impl<'a> Body<'a> {
         match record.number(1) {
             0x01 => Command::Member { team: record.number(2) as u16, member: record.number(1) as u8 },
             0x02 => Command::End,
+            0x03 => Command::Cut,
             0x10 => Command::Region { team: record.number(2) as u16, size: record.number(1) as u8 },
             0x11 => Command::Barrier,
             0x20 => Command::Acquire { lock: record.number(1) as u8 },
@@ -78,6 +79,7 @@ fn command_text(command: Command) -> String {
     match command {
         Command::Member { team, member } => format!("member {team} {member}"),
         Command::End => "end".to_string(),
+        Command::Cut => "cut".to_string(),
         Command::Region { team, size } => format!("region {team} {size}"),
         Command::Barrier => "barrier".to_string(),
         Command::Acquire { lock } => format!("acquire {lock}"),
