@@ -7,7 +7,7 @@ use mathlib.Core.List.{List, [], _∷_, _++_, map, List·Memᴰ, List·Memᴰ·h
 use native.Mathlib.Omega.{arith}
 use Rattle.bundle.specs.Lists.{any, concatMap}
 use Rattle.bundle.specs.Commands.{formOf, codeOf, widthsOf, fitWidths, operandsOk, inRange}
-use Rattle.bundle.specs.Chunks.{Placed, Chunk, afterBarrier, afterJoin, afterAcquire, afterRelease, afterCommand, afterCommands, commandsOf, isEnd, complete}
+use Rattle.bundle.specs.Chunks.{Placed, Chunk, afterCommand, afterCommands, commandsOf, isEnd, complete}
 use Rattle.bundle.specs.Walk.{opensSegment, addsAccess, Entry, entriesFrom, entriesOf, barriersOf, forkAt, forksIn}
 use Rattle.bundle.specs.Scan.{isMember, misplaced, aboveOwnTeam, misusesLock, start, scanned}
 use Rattle.bundle.specs.Index.{total, logOf}
@@ -17,7 +17,7 @@ use Rattle.bundle.specs.declared.index.Fork.{Fork}
 use Rattle.bundle.specs.declared.command.Command.{Command}
 use Rattle.bundle.specs.declared.command.Command.the-variants as Com
 use Rattle.bundle.proofs.Tests.{false-is-true, both, and-left}
-use Rattle.bundle.proofs.Delimiters.{plain, closes, on-plain, forking, on-other, closes-forks-none, plain-not-end}
+use Rattle.bundle.proofs.Delimiters.{plain, closes, on-plain, forking, on-other, closes-forks-none, plain-not-end, barriers-rise}
 use Rattle.bundle.proofs.Scanning.{passes, uncounted, orderly, orderly-tail}
 use Rattle.bundle.proofs.Gathering.{Body, ends, goes, Formed}
 use Rattle.bundle.proofs.Shortening.{Shortened}
@@ -106,17 +106,6 @@ left-total f least (cuts {p = p} h) = let one = least (p .command) in omega arit
 left-total f least (keeps e l) = let ih = left-total f least l in omega arith
 
 -- the barriers passed never fall
-barriers-rise : (k : ChunkState) (c : Command) → k .barriers ≤ afterCommand k c .barriers
-unfolding afterCommand afterBarrier afterJoin afterAcquire afterRelease
-barriers-rise k (Com.Member t m) = omega arith
-barriers-rise k Com.End = omega arith
-barriers-rise k (Com.Region t z) = omega arith
-barriers-rise k Com.Barrier = omega arith
-barriers-rise k (Com.Acquire l) = omega arith
-barriers-rise k (Com.Release l) = omega arith
-barriers-rise k (Com.Access a) = omega arith
-barriers-rise k Com.Cut = omega arith
-
 barriers-never-fall : (k : ChunkState) (cs : List Command) → k .barriers ≤ afterCommands k cs .barriers
 unfolding afterCommands
 barriers-never-fall k [] = omega arith
@@ -139,7 +128,7 @@ left-ended (keeps {p = p} {qs = qs} e l) f =
     ap (λ (rs : List Placed). p ∷ rs) (left-ended l (rw (plain-not-end (p .command) e) at f))
 
 -- no REGION is lost
-no-fork : (t m : ℕ) (e : Entry) → forking (e .command) ≡ false → forkAt t m e ≡ []
+pub no-fork : (t m : ℕ) (e : Entry) → forking (e .command) ≡ false → forkAt t m e ≡ []
 unfolding forkAt
 no-fork t m e h = on-other [] _ (e .command) h
 

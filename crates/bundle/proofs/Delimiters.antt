@@ -221,6 +221,18 @@ state-counts k (Com.Release l) = omega arith
 state-counts k (Com.Access a) = omega arith
 state-counts k Com.Cut = omega arith
 
+-- no command takes a barrier back
+pub barriers-rise : (k : ChunkState) (c : Command) → k .barriers ≤ afterCommand k c .barriers
+unfolding afterCommand afterBarrier afterJoin afterAcquire afterRelease
+barriers-rise k (Com.Member t m) = omega arith
+barriers-rise k Com.End = omega arith
+barriers-rise k (Com.Region t z) = omega arith
+barriers-rise k Com.Barrier = omega arith
+barriers-rise k (Com.Acquire l) = omega arith
+barriers-rise k (Com.Release l) = omega arith
+barriers-rise k (Com.Access a) = omega arith
+barriers-rise k Com.Cut = omega arith
+
 -- a command that neither opens nor closes a chunk is not END
 pub plain-not-end : (c : Command) → plain c ≡ true → isEnd c ≡ false
 unfolding plain isEnd

@@ -201,6 +201,11 @@ module _ {A B : Type 0} where
   concatMap-append f [] ys = refl
   concatMap-append f (x ∷ xs) ys = ap (λ (l : List B). f x ++ l) (concatMap-append f xs ys) ∙ sym (append-assoc (f x) (concatMap f xs) (concatMap f ys))
 
+  pub concatMap-none : (f : A → List B) (xs : List A) → ((x : A) → List·Memᴰ x xs → f x ≡ []) → concatMap f xs ≡ []
+  concatMap-none f [] h = refl
+  concatMap-none f (x ∷ xs) h =
+      rw (h x (List·Memᴰ·head refl), concatMap-none f xs (λ y m. h y (List·Memᴰ·tail m)))
+
   -- the lists of a permutation back to back are a permutation
   pub perm-concatMap : (f : A → List B) {xs ys : List A} → List·Permᴰ xs ys → List·Permᴰ (concatMap f xs) (concatMap f ys)
   perm-concatMap f List·Permᴰ·nil = List·Permᴰ·nil

@@ -210,6 +210,10 @@ module _ (chunks forks order masks leads : List ℕ) (count n : ℕ) (settled : 
           order-of (no h) (yes l) = absurd (apart (y .index) (x .index) l (x .below) (sym (rw (x .is, y .is) at t)) (sym (rw (x .is, y .is) at m)))
           order-of (no h) (no l) = let e : x .index ≡ y .index = omega arith in x .is ∙ ap (chunkRowAt chunks) e ∙ sym (y .is)
 
+  -- the barriers of the chunk whose number it is
+  lead-read : {w : ℕ} (d : ChunkRow) → List·Memᴰ d rows → leadWord d ≡ w → w % 65536 ≡ d .barriers
+  lead-read d m e = ap (λ (x : ℕ). x % 65536) (sym e) ∙ lead-barriers d (small d m .1)
+
   -- a complete chunk among these
   module _ {t w : ℕ} (l : Lead rows t w) where
     lowest-is : (d : ChunkRow) → List·Memᴰ d rows → completeRow t d ≡ true → leadWord d ≡ w → lowestRow rows t d ≡ true
@@ -273,7 +277,7 @@ module _ (chunks forks order masks leads : List ℕ) (count n : ℕ) (settled : 
               let p = lead-positive r (member-small chunks i) in
               omega arith)
           go (inr d) =
-              let same : w % 65536 ≡ d .0 .barriers = ap (λ (x : ℕ). x % 65536) (sym (d .3)) ∙ lead-barriers (d .0) (small (d .0) (d .1) .1) in
+              let same = lead-read (d .0) (d .1) (d .3) in
               any-intro (λ (q : ChunkRow). lowestRow rows (r .team) q && not (eqb (r .barriers) (q .barriers))) (d .1)
               (both (lowest-is l (d .0) (d .1) (d .2) (d .3)) (rw same at (and-right (r .complete) _ e)))
 
@@ -284,7 +288,7 @@ module _ (chunks forks order masks leads : List ℕ) (count n : ℕ) (settled : 
           let q = any-elim (λ (q : ChunkRow). lowestRow rows (r .team) q && not (eqb (r .barriers) (q .barriers))) rows (and-right (r .complete) _ e) in
           let d = q .element in
           let low = and-left (lowestRow rows (r .team) d) _ (q .passes) in
-          let same : w % 65536 ≡ d .barriers = ap (λ (x : ℕ). x % 65536) (sym (lowest-lead l d (q .present) low)) ∙ lead-barriers d (small d (q .present) .1) in
+          let same = lead-read d (q .present) (lowest-lead l d (q .present) low) in
           both (and-left (r .complete) _ e) (rw same (and-right (lowestRow rows (r .team) d) _ (q .passes)))
 
   abbrev beyondAt : ℕ → Bool
@@ -321,7 +325,7 @@ module _ (chunks forks order masks leads : List ℕ) (count n : ℕ) (settled : 
               → any (λ (q : ChunkRow). completeRow (r .team) q && ltb (q .barriers) (r .barriers)) rows ≡ true
           go (inl z) = absurd (let p = leb-true 1 w (and-left (leb 1 w) _ more) in omega arith)
           go (inr d) =
-              let same : w % 65536 ≡ d .0 .barriers = ap (λ (x : ℕ). x % 65536) (sym (d .3)) ∙ lead-barriers (d .0) (small (d .0) (d .1) .1) in
+              let same = lead-read (d .0) (d .1) (d .3) in
               any-intro (λ (q : ChunkRow). completeRow (r .team) q && ltb (q .barriers) (r .barriers)) (d .1)
               (both (d .2) (rw same at (and-right (leb 1 w) _ more)))
 

@@ -11,11 +11,12 @@ use Rattle.bundle.specs.Walk.{Border, ofChunk, ofBarrier, ofRegion, borders, op
 use Rattle.bundle.specs.declared.chunk.ChunkState.{ChunkState}
 use Rattle.bundle.specs.declared.command.Command.{Command}
 use Rattle.bundle.specs.declared.index.Fork.{Fork}
-use Rattle.bundle.proofs.ListLaws.{concatMap-elim, concatMap-intro, concatMap-append}
-use Rattle.bundle.proofs.Delimiters.{closes, forking, on-other, on-no-access, on-no-opening, closes-forks-none, closes-opens-none, closes-accesses-none}
+use Rattle.bundle.proofs.ListLaws.{concatMap-elim, concatMap-intro, concatMap-append, concatMap-none}
+use Rattle.bundle.proofs.Delimiters.{closes, forking, on-no-access, on-no-opening, closes-forks-none, closes-opens-none, closes-accesses-none}
 use Rattle.bundle.proofs.Places.{unplacedCommand, unplaced}
 use Rattle.bundle.proofs.ShapeOrder.{unplacedFork, forks-unplaced}
 use Rattle.bundle.proofs.Onward.{entry-stands}
+use Rattle.bundle.proofs.CutChunks.{no-fork}
 use Rattle.bundle.proofs.Shortening.{Shortened, EachShortened, none, more}
 use Rattle.verdict.specs.Graph.{Segment, segmentsIn, segmentsOf}
 use Rattle.verdict.specs.Accesses.{NamedAccess, accessAt, accessesIn, accessesOf}
@@ -103,15 +104,6 @@ module _ (e : Entry) (h : closes (e .command) ≡ true) where
       ap (map (λ (b : Border). record { border = b; state = afterCommand (e .state) (e .command) }))
       (on-no-opening [] (ofChunk ∷ []) (λ t. ofRegion t ∷ []) (ofBarrier (e .state .barriers) ∷ []) (e .command) (closes-opens-none (e .command) h))
 
-other-fork : (t m : ℕ) (e : Entry) → forking (e .command) ≡ false → forkAt t m e ≡ []
-unfolding forkAt
-other-fork t m e h = on-other [] _ (e .command) h
-
-concatMap-none : {A B : Type 0} (f : A → List B) (xs : List A) → ((x : A) → List·Memᴰ x xs → f x ≡ []) → concatMap f xs ≡ []
-concatMap-none f [] h = refl
-concatMap-none f (x ∷ xs) h =
-    rw (h x (List·Memᴰ·head refl), concatMap-none f xs (λ y m. h y (List·Memᴰ·tail m)))
-
 -- what is read off the entries, in the two chunks
 module _ {c d : Chunk} (w : Walked c d) {B : Type 0} (f : Entry → List B) where
   in-whole : concatMap f (entriesOf (unplaced c)) ≡ concatMap f (w .before) ++ concatMap f (w .behind)
@@ -181,9 +173,9 @@ module _ {c d : Chunk} (s : Shortened c d) where
   forks-in =
       let f = forkAt (c .team) (c .member) in
       in-whole walk f
-      ∙ ap (λ (l : List Fork). concatMap f (walk .before) ++ l) (concatMap-none f (walk .behind) (λ e m. other-fork (c .team) (c .member) e (walk .no-region e m)))
+      ∙ ap (λ (l : List Fork). concatMap f (walk .before) ++ l) (concatMap-none f (walk .behind) (λ e m. no-fork (c .team) (c .member) e (walk .no-region e m)))
       ∙ append-nil (concatMap f (walk .before))
-      ∙ sym (in-cut walk f (other-fork (c .team) (c .member) (walk .closing) (closes-forks-none (walk .closing .command) (walk .closed))))
+      ∙ sym (in-cut walk f (no-fork (c .team) (c .member) (walk .closing) (closes-forks-none (walk .closing .command) (walk .closed))))
       ∙ ap₂ (λ (t m : ℕ). concatMap (forkAt t m) (entriesOf (unplaced d))) (sym (s .team)) (sym (s .member))
 
   segments-in : {g : Segment} → List·Memᴰ g (segmentsIn (unplaced d)) → Lasting (segmentsIn (unplaced c)) g
