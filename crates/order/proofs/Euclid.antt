@@ -33,6 +33,10 @@ first-least stride low element k c past =
     let below : element * stride < suc k * stride = omega (arith, c .closest) in
     omega (arith, lt-of-mul-lt-mul-right stride below)
 
+-- it is below 65,536 where such an element reaches low
+pub first-fits : (stride low : ℕ) → 1 ≤ stride → low ≤ 65535 * stride → (low + (stride - 1)) / stride < 65536
+first-fits stride low some long = omega (arith, first-least stride low ((low + (stride - 1)) / stride) 65535 (first-from stride low some) long)
+
 -- no element below the count is at or past low
 pub none-reaches : (stride spacing low high count limit : ℕ) → (count - 1) * stride < low
     → FirstPair stride spacing low high count limit Pr.Nothing
@@ -186,6 +190,11 @@ module _ {stride spacing low high count limit : ℕ} (g : PairGiven stride spaci
   module _ (long : low ≤ (count - 1) * stride) where
     pub stride-some : 1 ≤ stride
     stride-some = multiple-some (count - 1) stride low (g .low-some) long
+
+    pub low-reached : low ≤ 65535 * stride
+    low-reached =
+        let last : count - 1 ≤ 65535 = omega (arith, g .count-fits) in
+        omega (arith, mul-le-mul-right stride last)
 
     -- the measure falls
     pub rest-falls : (t : ℕ) → stride ≡ t → spacing % stride < t

@@ -216,9 +216,6 @@ module _ (a b : Range) (ok : (rangeOk a ≡ true) × (rangeOk b ≡ true)) where
       }
 
 -- what the code makes of a meeting
-pub count-fits : {element count : ℕ} → count < 65536 → element < count → element < 4294967296
-count-fits h l = omega arith
-
 module _ (a b : Range) {m : Meeting} (h : MeetingOf a b m) where
   module _ {byte one other : ℕ} (e : m ≡ Mee.At byte one other) where
     met : MeetingOf a b (Mee.At byte one other)
@@ -226,9 +223,6 @@ module _ (a b : Range) {m : Meeting} (h : MeetingOf a b m) where
 
     pub byte-fits : rangeOk a ≡ true → byte < 4294967296
     byte-fits ok = touch-fits a byte ok (met .0 .one)
-
-    pub elements-below : (one < a .count) × (other < b .count)
-    elements-below = (met .1 .covers .element-below, met .2 .covers .element-below)
 
     pub meeting-told : gives (some (record { byte = byte; «first_element» = one; «second_element» = other })) ≡ gives (overlapOf a b)
     meeting-told = ap gives (met-at a b (met .0) (met .1) (met .2))

@@ -49,27 +49,27 @@ pub enum Lowest {
 
 // The lowest byte that two ranges share, and the lowest element of each that covers it.
 enum Meeting {
-    At { byte: u64, one: u64, other: u64 },
+    At { byte: u64, one: u32, other: u32 },
     Nothing,
 }
 
-// An element of each of two ranges.
+// An element of each of two ranges. Element numbers have 32 bits in the search; positions and products have 64.
 enum ElementPair {
-    Elements { one: u64, other: u64 },
+    Elements { one: u32, other: u32 },
     Nothing,
 }
 
 // The first pair, made of the inner step's, where the two ranges have changed places.
-fn outer_pair(pair: ElementPair, element: u64, quotient: u64, count: u64) -> ElementPair
+fn outer_pair(pair: ElementPair, element: u32, quotient: u64, count: u32) -> ElementPair
     requires { ⌜ PairFits pair × (element < 65536) × (quotient < 65536) ⌝ }
     ensures { λ r. ⌜ r ≡ outerOf pair element quotient count ⌝ }
 {
     match pair {
         ElementPair::Elements { one, other } => {
-            let sum = element + other + quotient * one;
-            if sum < count {
+            let sum = (element + other) as u64 + quotient * (one as u64);
+            if sum < count as u64 {
                 return ElementPair::Elements {
-                    one: sum,
+                    one: sum as u32,
                     other: one,
                 };
             }
@@ -80,26 +80,26 @@ fn outer_pair(pair: ElementPair, element: u64, quotient: u64, count: u64) -> Ele
 }
 
 // The first element that starts at or past low.
-fn first_from(stride: u64, low: u64) -> u64
-    requires { ⌜ (1 ≤ stride) × (stride < 65536) × (low < 8589934592) ⌝ }
+fn first_from(stride: u64, low: u64) -> u32
+    requires { ⌜ (1 ≤ stride) × (stride < 65536) × (low ≤ 65535 * stride) ⌝ }
     ensures { λ r. ⌜ FirstFrom stride low r ⌝ }
 {
-    (low + (stride - 1)) / stride
+    ((low + (stride - 1)) / stride) as u32
 }
 
 // The least elements, `one` below count and `other` below limit, whose starts lie near each other:
 // `other * spacing + low <= one * stride <= other * spacing + high`. Spacing and limit are the other range's stride and
 // count. Where no multiple of the stride lies from low to high, only the spacing's remainder counts, and the two ranges
 // change places: Euclid's algorithm, which stops once an element passes its count.
-fn first_pair(stride: u64, spacing: u64, low: u64, high: u64, count: u64, limit: u64) -> ElementPair
+fn first_pair(stride: u64, spacing: u64, low: u64, high: u64, count: u32, limit: u32) -> ElementPair
     requires { ⌜ PairGiven stride spacing low high count limit ⌝ }
     ensures { λ r. ⌜ FirstPair stride spacing low high count limit r ⌝ }
 {
-    if (count - 1) * stride < low {
+    if (count - 1) as u64 * stride < low {
         return ElementPair::Nothing;
     }
     let element = first_from(stride, low);
-    let start = element * stride;
+    let start = element as u64 * stride;
     if start <= high {
         return ElementPair::Elements {
             one: element,
@@ -118,11 +118,11 @@ fn first_pair(stride: u64, spacing: u64, low: u64, high: u64, count: u64, limit:
 }
 
 // Where an element of a range starts.
-fn start_of(range: Range, element: u64) -> u64
+fn start_of(range: Range, element: u32) -> u64
     requires { ⌜ element < 65536 ⌝ }
     ensures { λ r. ⌜ r ≡ range .base + element * range .stride ⌝ }
 {
-    range.base as u64 + element * (range.stride as u64)
+    range.base as u64 + element as u64 * (range.stride as u64)
 }
 
 // The larger of two numbers.
@@ -161,8 +161,8 @@ fn pair_of(lower: Range, upper: Range) -> ElementPair
         upper.stride as u64,
         low,
         high,
-        lower.count as u64,
-        upper.count as u64,
+        lower.count as u32,
+        upper.count as u32,
     )
 }
 
@@ -258,8 +258,8 @@ fn shared_upward(lower: Range, upper: Range) -> Shared
     match meet_in_order(lower, upper) {
         Meeting::At { byte, one, other } => Shared::Byte(Overlap {
             byte: byte as u32,
-            first_element: one as u32,
-            second_element: other as u32,
+            first_element: one,
+            second_element: other,
         }),
         Meeting::Nothing => Shared::Nothing,
     }

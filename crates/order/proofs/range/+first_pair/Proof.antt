@@ -9,6 +9,7 @@ use Rattle.order.proofs.Euclid.{
   reach-fits,
   none-reaches,
   stride-some,
+  low-reached,
   rest-falls,
   start-fits,
   element-below,
@@ -46,9 +47,11 @@ pub +first-pair-spec : {M : Type 1} → statement M
     (first-pair-at t)
     first-pair.Post
     (λ c. c .pre .1 .counted)
+    (λ c. search needs)
     (λ c. record { fits = omega (arith, reach-fits (c .pre .1)) })
     (λ c. none-reaches _ _ _ _ _ _ (c .if1 .taken))
-    (λ c κs. let g = c .before .pre .1 in (stride-some g (c .if1 .left), g .stride-fits, g .low-fits))
+    (λ c κs. let g = c .before .pre .1 in (stride-some g (c .if1 .left), g .stride-fits, low-reached g (c .if1 .left)))
+    (λ c. search needs)
     (λ c.
     record {
       fits = omega (arith, start-fits (c .before .before .pre .1) (c .before .if1 .left) (c .first-from .ensures));

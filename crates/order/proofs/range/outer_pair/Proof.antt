@@ -26,4 +26,15 @@ returns-3 c = outer-nothing _ _ _ (c .enum-told .given .1)
 pub outer-pair-spec : {M : Type 1} → statement M
 outer-pair-spec =
     tie.close
-    (tie.spec (λ c. search needs) add-sum mul-sum add-sum-2 returns (λ c. search needs) returns-2 returns-3)
+    (tie.spec
+    (λ c. search needs)
+    add-sum
+    (λ c. search needs)
+    (λ c. search needs)
+    mul-sum
+    add-sum-2
+    (λ c. search needs)
+    returns
+    (λ c. search needs)
+    returns-2
+    returns-3)

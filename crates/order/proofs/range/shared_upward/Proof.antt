@@ -1,6 +1,6 @@
 -- `order::range::shared_upward` meets its contract. Assumes nothing.
 use borrow.Author.Needs.{needs}
-use Rattle.order.proofs.PairBytes.{valid-order, count-fits, byte-fits, elements-below, meeting-told, nothing-told}
+use Rattle.order.proofs.PairBytes.{valid-order, byte-fits, meeting-told, nothing-told}
 use Rattle.order.proofs.range.shared_upward.Statement.{statement}
 use Rattle.order.proofs.range.shared_upward.Tie as tie
 
@@ -10,18 +10,6 @@ meet-in-order-requires c κs = valid-order _ _ (c .pre .0, c .pre .1) (c .pre .2
 cast-t8 : tie.Need-cast-t8
 cast-t8 c =
     record { fits = byte-fits _ _ (c .before .before .before .meet-in-order .ensures) (c .before .byte .given .1) (c .before .before .before .before .pre .0) }
-
-cast-t9 : tie.Need-cast-t9
-cast-t9 c =
-    let start = c .before .before .before .before in
-    let below = elements-below (start .args .lower) (start .args .upper) (c .before .before .before .meet-in-order .ensures) (c .before .byte .given .1) in
-    record { fits = count-fits (search needs) (below .0) }
-
-cast-t10 : tie.Need-cast-t10
-cast-t10 c =
-    let start = c .before .before .before .before in
-    let below = elements-below (start .args .lower) (start .args .upper) (c .before .before .before .meet-in-order .ensures) (c .before .byte .given .1) in
-    record { fits = count-fits (search needs) (below .1) }
 
 returns : tie.Need-returns
 returns c = meeting-told _ _ (c .before .before .before .meet-in-order .ensures) (c .before .byte .given .1)
@@ -36,8 +24,6 @@ shared-upward-spec =
     meet-in-order-requires
     (λ c. search needs)
     cast-t8
-    cast-t9
-    cast-t10
     (λ c. search needs)
     returns
     returns-2)
