@@ -530,6 +530,8 @@ LONG_RANGES = [
     Shared("count 65,535, stride 65,535", (0, 65535, 65535, 8), (4294770697, 0, 1, 8), (4294770697, 65534, 0)),
     Shared("element 1 of both", (0, 65535, 65535, 1), (1, 65534, 65535, 1), (65535, 1, 1)),
     Shared("the last element of both", (0, 65535, 65535, 1), (65534, 65534, 65535, 1), (4294770690, 65534, 65534)),
+    Shared("one element fewer in the first", (0, 65535, 65534, 1), (65534, 65534, 65535, 1), None),
+    Shared("one element fewer in the second", (0, 65535, 65535, 1), (65534, 65534, 65534, 1), None),
     # elements 65,533 and 65,534 have byte 4,294,967,288 in common
     Shared("up to the last byte of memory", (4294508550, 7, 65535, 8), (4294967288, 0, 1, 8), (4294967288, 65533, 0)),
     Shared("the last byte of memory", (4294508550, 7, 65535, 8), (4294967289, 0, 1, 4), (4294967289, 65534, 0)),
