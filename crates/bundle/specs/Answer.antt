@@ -21,6 +21,8 @@ use Rattle.bundle.specs.declared.refusal.Cause.the-variants.{
   DoesNotFit,
   PastEnd,
   CutAhead,
+  OtherGroup,
+  SiteTooLarge,
 }
 
 -- an operation's answer: a value, or a refusal by its number and place
@@ -54,3 +56,5 @@ numberOf UnequalSpans = 16
 numberOf DoesNotFit = 17
 numberOf PastEnd = 18
 numberOf CutAhead = 19
+numberOf OtherGroup = 20
+numberOf SiteTooLarge = 21

@@ -30,7 +30,7 @@ unfoldable pub numberAt : ℕ → List ℕ → ℕ → ℕ
 numberAt zero s at = 0
 numberAt (suc k) s at = getD s at 0 + 256 * numberAt k s (at + 1)
 
--- the commands 0x30 to 0x33
+-- the commands 0x30 to 0x33, the narrow group
 unfoldable pub kindOf : ℕ → AccessKind
 kindOf b = cond (eqb b 0x30) Kind.Read (cond (eqb b 0x31) Kind.Write (cond (eqb b 0x32) Kind.AtomicRead Kind.AtomicWrite))
 
@@ -39,6 +39,10 @@ kindByte Kind.Read = 0x30
 kindByte Kind.Write = 0x31
 kindByte Kind.AtomicRead = 0x32
 kindByte Kind.AtomicWrite = 0x33
+
+-- A.6: "Commands 0x38 to 0x3b are 0x30 to 0x33 with a 4-byte site", the wide group: the command byte of an access
+unfoldable pub accessByte : Bool → AccessKind → ℕ
+accessByte wide kind = cond wide (kindByte kind + 8) (kindByte kind)
 
 -- what a command byte says: the widths of the operands in bytes, and the command that operands make
 pub record Form : Type 0 where
@@ -49,16 +53,17 @@ pub record Form : Type 0 where
 abbrev pub form : List ℕ → ((ℕ → ℕ) → Command) → Option Form
 form widths command = some (record { widths = widths; command = λ operands. command (λ k. getD operands k 0) })
 
--- site (2), base (4), stride (2), count (2), size (1)
-abbrev pub accessWidths : List ℕ
-accessWidths = 2 ∷ 4 ∷ 2 ∷ 2 ∷ 1 ∷ []
+-- site (2, or 4 in the wide group), base (4), stride (2), count (2), size (1)
+abbrev pub accessWidths : Bool → List ℕ
+accessWidths wide = cond wide 4 2 ∷ 4 ∷ 2 ∷ 2 ∷ 1 ∷ []
 
-abbrev pub accessOf : AccessKind → (ℕ → ℕ) → Command
-accessOf kind x =
-    Com.Access (record { kind = kind; site = x 0; range = record { base = x 1; stride = x 2; count = x 3; size = x 4 } })
+abbrev pub accessOf : Bool → AccessKind → (ℕ → ℕ) → Command
+accessOf wide kind x =
+    Com.Access
+    (record { kind = kind; wide = wide; site = x 0; range = record { base = x 1; stride = x 2; count = x 3; size = x 4 } })
 
-abbrev pub accessForm : AccessKind → Option Form
-accessForm kind = form accessWidths (accessOf kind)
+abbrev pub accessForm : Bool → AccessKind → Option Form
+accessForm wide kind = form (accessWidths wide) (accessOf wide kind)
 
 -- each command's byte, the widths of its operands, and the command; none for an unknown command byte
 unfoldable pub formOf : ℕ → Option Form
@@ -70,7 +75,8 @@ formOf b =
     (cond (eqb b 0x11) (form [] (λ x. Com.Barrier))
     (cond (eqb b 0x20) (form (1 ∷ []) (λ x. Com.Acquire (x 0)))
     (cond (eqb b 0x21) (form (1 ∷ []) (λ x. Com.Release (x 0)))
-    (cond (leb 0x30 b && ltb b 0x34) (accessForm (kindOf b)) none)))))))
+    (cond (leb 0x30 b && ltb b 0x34) (accessForm false (kindOf b))
+    (cond (leb 0x38 b && ltb b 0x3c) (accessForm true (kindOf (b - 8))) none))))))))
 
 -- the other way round: a command's byte and its operands
 pub record Code : Type 0 where
@@ -86,7 +92,7 @@ codeOf (Com.Acquire l) = record { byte = 0x20; operands = l ∷ [] }
 codeOf (Com.Release l) = record { byte = 0x21; operands = l ∷ [] }
 codeOf (Com.Access a) =
     record {
-      byte = kindByte (a .kind);
+      byte = accessByte (a .wide) (a .kind);
       operands = a .site ∷ a .range .base ∷ a .range .stride ∷ a .range .count ∷ a .range .size ∷ [];
     }
 codeOf Com.Cut = record { byte = 0x03; operands = [] }

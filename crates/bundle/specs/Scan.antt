@@ -1,4 +1,4 @@
--- The scan: check's tests of each command, front to back, in the order 2, 3, 4, 5, 6, 7.
+-- The scan: check's tests of each command, front to back, in the order 2, 3, 4, 20, 5, 6, 7.
 use Prim.Native.Nat.{ℕ, _+_}
 use mathlib.Core.Bool.{Bool, true, false, cond, not, _&&_, _||_}
 use mathlib.Core.List.{List, [], _∷_}
@@ -6,7 +6,7 @@ use lib.Dec.{eqb, ltb}
 use Rattle.bundle.specs.Answer.{Answer, gives, refuses, whenGiven}
 use Rattle.bundle.specs.Locks.{holds}
 use Rattle.bundle.specs.Commands.{inRange}
-use Rattle.bundle.specs.Cases.{onDelimiter, onRegion}
+use Rattle.bundle.specs.Cases.{onDelimiter, onRegion, onAccess}
 use Rattle.bundle.specs.Chunks.{Placed, fresh, afterCommand, frontOf}
 unfoldable pub use Rattle.bundle.specs.Walk.{opensSegment, addsAccess}
 use Rattle.bundle.specs.declared.scan.Scan.{Scan}
@@ -19,6 +19,14 @@ isMember = onDelimiter false (λ t m. true) false
 -- 4: not MEMBER outside a chunk, MEMBER inside one
 unfoldable pub misplaced : Scan → Command → Bool
 misplaced k c = cond (isMember c) (k .inside) (not (k .inside))
+
+-- 20: "an access of the other group than the bundle's first access" (A.6). The scan has the group of the accesses so far, which is that of
+-- the first
+unfoldable pub differs : Bool → Bool → Bool
+differs wide other = cond wide (not other) other
+
+unfoldable pub ofOtherGroup : Scan → Command → Bool
+ofOtherGroup k = onAccess false (λ a. ltb 0 (k .accesses) && differs (k .wide) (a .wide))
 
 -- 5: the operands' ranges, and the own-team rule: "A REGION's team number is greater than that of the chunk it stands in"
 unfoldable pub aboveOwnTeam : ℕ → Command → Bool
@@ -43,12 +51,13 @@ tooMany k c = ltb 512 (k .segments + opensSegment c) || ltb 1024 (k .accesses + 
 unfoldable pub faultOf : Scan → Command → ℕ
 faultOf k c =
     cond (misplaced k c) 4
+    (cond (ofOtherGroup k c) 20
     (cond (not (inRange c && aboveOwnTeam (k .team) c)) 5
     (cond (misusesLock (k .state .locks) c) 6
-    (cond (tooMany k c) 7 0)))
+    (cond (tooMany k c) 7 0))))
 
 unfoldable pub start : Scan
-start = record { inside = false; team = 0; state = fresh; segments = 0; accesses = 0 }
+start = record { inside = false; team = 0; state = fresh; segments = 0; accesses = 0; wide = false }
 
 -- the scan after a command
 unfoldable pub scanned : Scan → Command → Scan
@@ -59,6 +68,7 @@ scanned k c =
       state = onDelimiter (afterCommand (k .state) c) (λ t m. fresh) fresh c;
       segments = k .segments + opensSegment c;
       accesses = k .accesses + addsAccess c;
+      wide = onAccess (k .wide) (λ a. a .wide) c;
     }
 
 -- 4: the bundle ending inside a chunk, at its length

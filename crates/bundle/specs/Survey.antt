@@ -32,14 +32,15 @@ pub record Bounded (k : Scan) : Type 0 where
   pub accesses : k .accesses ≤ 1024
   pub opened : k .state .barriers + k .state .regions ≤ k .segments
 
-abbrev pub scanWith : Scan → ChunkState → ℕ → ℕ → Scan
-scanWith k state opens adds =
+abbrev pub scanWith : Scan → ChunkState → ℕ → ℕ → Bool → Scan
+scanWith k state opens adds wide =
     record {
       inside = k .inside;
       team = k .team;
       state = state;
       segments = k .segments + opens;
       accesses = k .accesses + adds;
+      wide = wide;
     }
 
 -- one command of the scan: the scan after it, the command, and the position after it
@@ -52,10 +53,12 @@ pub record Stepped : Type 0 where
 abbrev pub unmoved : Scan → Answer Taken → Answer Stepped
 unmoved k a = whenGiven a (λ t. gives (record { scan = k; command = t .command; next = t .next }))
 
--- 4 to 7 in that order, where the tests say so
-abbrev pub decided : ℕ → Bool → Bool → Bool → Bool → Answer Stepped → Answer Stepped
-decided at misplaced beyond misused many onward =
-    cond misplaced (refuses 4 at) (cond beyond (refuses 5 at) (cond misused (refuses 6 at) (cond many (refuses 7 at) onward)))
+-- 4, 20, 5, 6 and 7 in that order, where the tests say so
+abbrev pub decided : ℕ → Bool → Bool → Bool → Bool → Bool → Answer Stepped → Answer Stepped
+decided at misplaced foreign beyond misused many onward =
+    cond misplaced (refuses 4 at)
+    (cond foreign (refuses 20 at)
+    (cond beyond (refuses 5 at) (cond misused (refuses 6 at) (cond many (refuses 7 at) onward))))
 
 unfoldable pub testedAt : Scan → ℕ → Taken → Answer Stepped
 testedAt k at t =

@@ -2,15 +2,16 @@
 use crate::copy::copy_in;
 use crate::refusal::Cause;
 ghost use mathlib.Core.Path.{_≡_};
+ghost use mathlib.Core.Bool.{true, false, _||_};
 ghost use Prim.Native.Nat.{_+_, _-_, _%_, _≤_};
-ghost use lib.Dec.{leb};
+ghost use lib.Dec.{ltb, leb};
 ghost use mathlib.Core.List.{[], _∷_};
 ghost use lib.ListN.{length};
-ghost use Rattle.bundle.specs.Commands.{numberAt, kindOf, sizeOk, strideOk, lastByte, rangeOk, inRange, decodeAt, readAt, readingOf, kindByte, operandBytes, bytesOf, putAt, puttingOf, ranged};
-ghost use Rattle.bundle.specs.Inner.{StandsAt, AccessAt, Holds};
+ghost use Rattle.bundle.specs.Commands.{numberAt, kindOf, sizeOk, strideOk, lastByte, rangeOk, inRange, decodeAt, readAt, readingOf, kindByte, accessByte, accessWidths, operandBytes, bytesOf, putAt, puttingOf, ranged};
+ghost use Rattle.bundle.specs.Inner.{StandsAt, AccessAt, rangeAt, rangeOperands, Holds};
 ghost use Rattle.bundle.specs.Answer.{refuses, whenGiven};
 
-// What an access does: the commands 0x30 to 0x33 in this order.
+// What an access does: the commands 0x30 to 0x33, and 0x38 to 0x3b, in this order.
 pub enum AccessKind {
     Read,
     Write,
@@ -26,9 +27,11 @@ pub struct Range {
     pub size: u8,
 }
 
+// An access of the narrow group, 0x30 to 0x33, or of the wide one, 0x38 to 0x3b, whose site has 4 bytes.
 pub struct Access {
     pub kind: AccessKind,
-    pub site: u16,
+    pub wide: bool,
+    pub site: u32,
     pub range: Range,
 }
 
@@ -99,6 +102,13 @@ pub fn range_ok(range: Range) -> bool
     last_ok(range)
 }
 
+// Whether a site fits the width of its group.
+fn site_ok(wide: bool, site: u32) -> bool
+    ensures { λ r. ⌜ r ≡ (wide || ltb site 65536) ⌝ }
+{
+    wide | (site < 65536)
+}
+
 // Whether every operand is in its range.
 pub fn in_range(command: Command) -> bool
     ensures { λ r. ⌜ r ≡ inRange command ⌝ }
@@ -110,7 +120,7 @@ pub fn in_range(command: Command) -> bool
         Command::Barrier => true,
         Command::Acquire(lock) => lock < 64,
         Command::Release(lock) => lock < 64,
-        Command::Access(access) => range_ok(access.range),
+        Command::Access(access) => site_ok(access.wide, access.site) & range_ok(access.range),
         Command::Cut => true,
     }
 }
@@ -204,7 +214,7 @@ fn decode_release(bytes: &[u8], position: usize) -> Reading
     }
 }
 
-// The kind of an access by its command byte.
+// The kind of an access of the narrow group by its command byte.
 pub fn kind_of(byte: u8) -> AccessKind
     ensures { λ r. ⌜ r ≡ kindOf byte ⌝ }
 {
@@ -220,28 +230,63 @@ pub fn kind_of(byte: u8) -> AccessKind
     AccessKind::AtomicWrite
 }
 
+// The range of an access whose operands after the site begin at a position.
+fn decode_range(bytes: &[u8], at: usize) -> Range
+    requires { ⌜ at + 9 ≤ length (now bytes) ⌝ }
+    ensures { λ r. ⌜ r ≡ rangeAt (now (bytes .entry)) at ⌝ }
+{
+    let base = four_bytes(bytes, at);
+    let stride = two_bytes(bytes, at + 4);
+    let count = two_bytes(bytes, at + 6);
+    let size = bytes[at + 8];
+    Range {
+        base,
+        stride,
+        count,
+        size,
+    }
+}
+
 fn decode_access(bytes: &[u8], position: usize) -> Reading
-    requires { ⌜ AccessAt (now bytes) position ⌝ }
+    requires { ⌜ AccessAt (now bytes) position 0x30 ⌝ }
     ensures { λ r. ⌜ readingOf r ≡ decodeAt (now (bytes .entry)) position ⌝ }
 {
     if bytes.len() - position < 12 {
         return cut_off(position);
     }
     let kind = kind_of(bytes[position]);
-    let site = two_bytes(bytes, position + 1);
-    let base = four_bytes(bytes, position + 3);
-    let stride = two_bytes(bytes, position + 7);
-    let count = two_bytes(bytes, position + 9);
-    let size = bytes[position + 11];
-    let range = Range {
-        base,
-        stride,
-        count,
-        size,
+    let site = two_bytes(bytes, position + 1) as u32;
+    let range = decode_range(bytes, position + 3);
+    let access = Access {
+        kind,
+        wide: false,
+        site,
+        range,
     };
-    let access = Access { kind, site, range };
     Reading::Taken {
         next: position + 12,
+        command: Command::Access(access),
+    }
+}
+
+fn decode_wide_access(bytes: &[u8], position: usize) -> Reading
+    requires { ⌜ AccessAt (now bytes) position 0x38 ⌝ }
+    ensures { λ r. ⌜ readingOf r ≡ decodeAt (now (bytes .entry)) position ⌝ }
+{
+    if bytes.len() - position < 14 {
+        return cut_off(position);
+    }
+    let kind = kind_of(bytes[position] - 8);
+    let site = four_bytes(bytes, position + 1);
+    let range = decode_range(bytes, position + 5);
+    let access = Access {
+        kind,
+        wide: true,
+        site,
+        range,
+    };
+    Reading::Taken {
+        next: position + 14,
         command: Command::Access(access),
     }
 }
@@ -274,6 +319,7 @@ pub fn decode_command(bytes: &[u8], position: usize) -> Reading
         0x20 => decode_acquire(bytes, position),
         0x21 => decode_release(bytes, position),
         0x30..=0x33 => decode_access(bytes, position),
+        0x38..=0x3b => decode_wide_access(bytes, position),
         _ => Reading::Refused {
             place: position,
             cause: Cause::UnknownCommand,
@@ -326,6 +372,7 @@ pub fn read_command(bytes: &[u8], position: usize) -> Reading
         0x20 => accept(decode_acquire(bytes, position), position),
         0x21 => accept(decode_release(bytes, position), position),
         0x30..=0x33 => accept(decode_access(bytes, position), position),
+        0x38..=0x3b => accept(decode_wide_access(bytes, position), position),
         _ => Reading::Refused {
             place: position,
             cause: Cause::UnknownCommand,
@@ -335,7 +382,7 @@ pub fn read_command(bytes: &[u8], position: usize) -> Reading
 
 // A command's bytes: the first ones of `bytes`, as many as `length` says.
 struct Encoded {
-    bytes: [u8; 12],
+    bytes: [u8; 14],
     length: usize,
 }
 
@@ -349,7 +396,7 @@ fn encode_plain(byte: u8) -> Encoded
     ensures { λ r. ⌜ Holds r (byte ∷ []) ⌝ }
 {
     Encoded {
-        bytes: [byte, 0, 0, 0, 0, 0, 0, 0, 0, 0, 0, 0],
+        bytes: [byte, 0, 0, 0, 0, 0, 0, 0, 0, 0, 0, 0, 0, 0],
         length: 1,
     }
 }
@@ -359,7 +406,7 @@ fn encode_lock(byte: u8, lock: u8) -> Encoded
 {
     let lock = low(lock as u32);
     Encoded {
-        bytes: [byte, lock, 0, 0, 0, 0, 0, 0, 0, 0, 0, 0],
+        bytes: [byte, lock, 0, 0, 0, 0, 0, 0, 0, 0, 0, 0, 0, 0],
         length: 2,
     }
 }
@@ -372,12 +419,12 @@ fn encode_team(byte: u8, team: u16, last: u8) -> Encoded
     let team_1 = low(team / 256);
     let last = low(last as u32);
     Encoded {
-        bytes: [byte, team_0, team_1, last, 0, 0, 0, 0, 0, 0, 0, 0],
+        bytes: [byte, team_0, team_1, last, 0, 0, 0, 0, 0, 0, 0, 0, 0, 0],
         length: 4,
     }
 }
 
-// The command byte of an access.
+// The command byte of an access of the narrow group.
 pub fn kind_byte(kind: AccessKind) -> u8
     ensures { λ r. ⌜ r ≡ kindByte kind ⌝ }
 {
@@ -389,13 +436,17 @@ pub fn kind_byte(kind: AccessKind) -> u8
     }
 }
 
-fn encode_access(access: Access) -> Encoded
-    ensures { λ r. ⌜ Holds r (bytesOf (Command.Access access)) ⌝ }
+// The command byte of an access.
+pub fn access_byte(wide: bool, kind: AccessKind) -> u8
+    ensures { λ r. ⌜ r ≡ accessByte wide kind ⌝ }
 {
-    let kind = access.kind;
     let byte = kind_byte(kind);
-    let site = access.site as u32;
-    let range = access.range;
+    if wide { byte + 8 } else { byte }
+}
+
+fn encode_narrow(byte: u8, site: u32, range: Range) -> Encoded
+    ensures { λ r. ⌜ Holds r (byte ∷ operandBytes (accessWidths false) (site ∷ rangeOperands range)) ⌝ }
+{
     let base = range.base;
     let stride = range.stride as u32;
     let count = range.count as u32;
@@ -414,9 +465,50 @@ fn encode_access(access: Access) -> Encoded
             low(count),
             low(count / 256),
             low(size),
+            0,
+            0,
         ],
         length: 12,
     }
+}
+
+fn encode_wide(byte: u8, site: u32, range: Range) -> Encoded
+    ensures { λ r. ⌜ Holds r (byte ∷ operandBytes (accessWidths true) (site ∷ rangeOperands range)) ⌝ }
+{
+    let base = range.base;
+    let stride = range.stride as u32;
+    let count = range.count as u32;
+    let size = range.size as u32;
+    Encoded {
+        bytes: [
+            byte,
+            low(site),
+            low(site / 256),
+            low(site / 256 / 256),
+            low(site / 256 / 256 / 256),
+            low(base),
+            low(base / 256),
+            low(base / 256 / 256),
+            low(base / 256 / 256 / 256),
+            low(stride),
+            low(stride / 256),
+            low(count),
+            low(count / 256),
+            low(size),
+        ],
+        length: 14,
+    }
+}
+
+fn encode_access(access: Access) -> Encoded
+    ensures { λ r. ⌜ Holds r (bytesOf (Command.Access access)) ⌝ }
+{
+    let kind = access.kind;
+    let byte = access_byte(access.wide, kind);
+    if access.wide {
+        return encode_wide(byte, access.site, access.range);
+    }
+    encode_narrow(byte, access.site, access.range)
 }
 
 fn encode(command: Command) -> Encoded

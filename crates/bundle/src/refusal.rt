@@ -23,6 +23,8 @@ pub enum Cause {
     DoesNotFit, // 17
     PastEnd, // 18
     CutAhead, // 19
+    OtherGroup, // 20
+    SiteTooLarge, // 21
 }
 
 // The number of a cause.
@@ -49,5 +51,7 @@ pub fn number(cause: Cause) -> u8
         Cause::DoesNotFit => 17,
         Cause::PastEnd => 18,
         Cause::CutAhead => 19,
+        Cause::OtherGroup => 20,
+        Cause::SiteTooLarge => 21,
     }
 }

@@ -1,4 +1,4 @@
-// The scan, front to back: the tests 2 to 7 of each command in that order.
+// The scan, front to back: the tests 2, 3, 4, 20, 5, 6 and 7 of each command in that order.
 use crate::chunk::ChunkState;
 use crate::chunk::holds_lock;
 use crate::command::Access;
@@ -16,15 +16,17 @@ ghost use lib.Dec.{ltb};
 ghost use Rattle.bundle.specs.Answer.{refuses, numberOf};
 ghost use Rattle.bundle.specs.Chunks.{fresh};
 ghost use Rattle.bundle.specs.Commands.{readingOf};
+ghost use Rattle.bundle.specs.Scan.{differs};
 ghost use Rattle.bundle.specs.Survey.{Bounded, stepOf, unmoved, decided, testedAt, stepAt, scanWith};
 
-// Whether a chunk is open, its team and state, and the segments and accesses of the bundle so far.
+// Whether a chunk is open, its team and state, the segments and accesses of the bundle so far, and whether these accesses are of the wide group.
 pub struct Scan {
     pub inside: bool,
     pub team: u16,
     pub state: ChunkState,
     pub segments: u32,
     pub accesses: u32,
+    pub wide: bool,
 }
 
 // What the scan says to a command.
@@ -41,10 +43,10 @@ pub enum Step {
     },
 }
 
-// The scan with another state, and so many segments and accesses more.
-fn count(scan: Scan, state: ChunkState, opens: u32, adds: u32) -> Scan
+// The scan with another state, so many segments and accesses more, and the group.
+fn count(scan: Scan, state: ChunkState, opens: u32, adds: u32, wide: bool) -> Scan
     requires { ⌜ (scan .segments + opens < 65536) × (scan .accesses + adds < 65536) ⌝ }
-    ensures { λ r. ⌜ r ≡ scanWith scan state opens adds ⌝ }
+    ensures { λ r. ⌜ r ≡ scanWith scan state opens adds wide ⌝ }
 {
     Scan {
         inside: scan.inside,
@@ -52,12 +54,13 @@ fn count(scan: Scan, state: ChunkState, opens: u32, adds: u32) -> Scan
         state,
         segments: scan.segments + opens,
         accesses: scan.accesses + adds,
+        wide,
     }
 }
 
 fn open_chunk(scan: Scan, team: u16) -> Scan
     requires { ⌜ scan .segments ≤ 512 ⌝ }
-    ensures { λ r. ⌜ r ≡ record { inside = true; team = team; state = fresh; segments = scan .segments + 1; accesses = scan .accesses } ⌝ }
+    ensures { λ r. ⌜ r ≡ record { inside = true; team = team; state = fresh; segments = scan .segments + 1; accesses = scan .accesses; wide = scan .wide } ⌝ }
 {
     Scan {
         inside: true,
@@ -65,11 +68,12 @@ fn open_chunk(scan: Scan, team: u16) -> Scan
         state: ChunkState::fresh(),
         segments: scan.segments + 1,
         accesses: scan.accesses,
+        wide: scan.wide,
     }
 }
 
 fn close_chunk(scan: Scan) -> Scan
-    ensures { λ r. ⌜ r ≡ record { inside = false; team = 0; state = fresh; segments = scan .segments; accesses = scan .accesses } ⌝ }
+    ensures { λ r. ⌜ r ≡ record { inside = false; team = 0; state = fresh; segments = scan .segments; accesses = scan .accesses; wide = scan .wide } ⌝ }
 {
     Scan {
         inside: false,
@@ -77,6 +81,7 @@ fn close_chunk(scan: Scan) -> Scan
         state: ChunkState::fresh(),
         segments: scan.segments,
         accesses: scan.accesses,
+        wide: scan.wide,
     }
 }
 
@@ -94,19 +99,23 @@ fn refuse(cause: Cause, place: usize) -> Step
     Step::Refused { cause, place }
 }
 
-// 4 to 7 in that order, where the tests say so; else onward.
+// 4, 20, 5, 6 and 7 in that order, where the tests say so; else onward.
 fn decide(
     misplaced: bool,
+    foreign: bool,
     beyond: bool,
     misused: bool,
     many: bool,
     onward: Step,
     place: usize,
 ) -> Step
-    ensures { λ r. ⌜ stepOf r ≡ decided place misplaced beyond misused many (stepOf onward) ⌝ }
+    ensures { λ r. ⌜ stepOf r ≡ decided place misplaced foreign beyond misused many (stepOf onward) ⌝ }
 {
     if misplaced {
         return refuse(Cause::Misplaced, place);
+    }
+    if foreign {
+        return refuse(Cause::OtherGroup, place);
     }
     if beyond {
         return refuse(Cause::OutOfRange, place);
@@ -132,6 +141,7 @@ fn test_member(scan: Scan, team: u16, member: u8, next: usize, place: usize) -> 
     };
     decide(
         scan.inside,
+        false,
         !in_range(command),
         false,
         full(scan),
@@ -154,6 +164,7 @@ fn test_end(scan: Scan, next: usize, place: usize) -> Step
     decide(
         !scan.inside,
         false,
+        false,
         !(state.locks == 0),
         false,
         onward,
@@ -170,11 +181,12 @@ fn test_region(scan: Scan, team: u16, size: u8, next: usize, place: usize) -> St
     let state = scan.state;
     let onward = Step::Onward {
         next,
-        scan: count(scan, state.after_join(), 1, 0),
+        scan: count(scan, state.after_join(), 1, 0, scan.wide),
         command,
     };
     decide(
         !scan.inside,
+        false,
         !(in_range(command) & (scan.team < team)),
         false,
         full(scan),
@@ -191,10 +203,10 @@ fn test_barrier(scan: Scan, next: usize, place: usize) -> Step
     let state = scan.state;
     let onward = Step::Onward {
         next,
-        scan: count(scan, state.after_barrier(), 1, 0),
+        scan: count(scan, state.after_barrier(), 1, 0, scan.wide),
         command,
     };
-    decide(!scan.inside, false, false, full(scan), onward, place)
+    decide(!scan.inside, false, false, false, full(scan), onward, place)
 }
 
 fn test_acquire(scan: Scan, lock: u8, next: usize, place: usize) -> Step
@@ -205,11 +217,12 @@ fn test_acquire(scan: Scan, lock: u8, next: usize, place: usize) -> Step
     let state = scan.state;
     let onward = Step::Onward {
         next,
-        scan: count(scan, state.after_acquire(lock), 0, 0),
+        scan: count(scan, state.after_acquire(lock), 0, 0, scan.wide),
         command,
     };
     decide(
         !scan.inside,
+        false,
         !in_range(command),
         holds_lock(state.locks, lock),
         false,
@@ -226,17 +239,25 @@ fn test_release(scan: Scan, lock: u8, next: usize, place: usize) -> Step
     let state = scan.state;
     let onward = Step::Onward {
         next,
-        scan: count(scan, state.after_release(lock), 0, 0),
+        scan: count(scan, state.after_release(lock), 0, 0, scan.wide),
         command,
     };
     decide(
         !scan.inside,
+        false,
         !in_range(command),
         !holds_lock(state.locks, lock),
         false,
         onward,
         place,
     )
+}
+
+// Whether two accesses are of different groups.
+fn differ(wide: bool, other: bool) -> bool
+    ensures { λ r. ⌜ r ≡ differs wide other ⌝ }
+{
+    if wide { !other } else { other }
 }
 
 fn test_access(scan: Scan, access: Access, next: usize, place: usize) -> Step
@@ -247,11 +268,12 @@ fn test_access(scan: Scan, access: Access, next: usize, place: usize) -> Step
     let state = scan.state;
     let onward = Step::Onward {
         next,
-        scan: count(scan, state, 0, 1),
+        scan: count(scan, state, 0, 1, access.wide),
         command,
     };
     decide(
         !scan.inside,
+        (0 < scan.accesses) & differ(scan.wide, access.wide),
         !in_range(command),
         false,
         MOST_ACCESSES < scan.accesses + 1,
@@ -270,10 +292,10 @@ fn test_cut(scan: Scan, next: usize, place: usize) -> Step
         scan: close_chunk(scan),
         command: Command::Cut,
     };
-    decide(!scan.inside, false, false, false, onward, place)
+    decide(!scan.inside, false, false, false, false, onward, place)
 }
 
-// A command that was decoded: 4 to 7 in that order.
+// A command that was decoded: 4, 20, 5, 6 and 7 in that order.
 fn test(scan: Scan, command: Command, next: usize, place: usize) -> Step
     requires { ⌜ Bounded scan ⌝ }
     ensures { λ r. ⌜ stepOf r ≡ testedAt scan place (record { command = command; next = next }) ⌝ }

@@ -49,6 +49,7 @@ fn begin() -> Progress
             state: ChunkState::fresh(),
             segments: 0,
             accesses: 0,
+            wide: false,
         },
         chunk: Open {
             place: 0,
