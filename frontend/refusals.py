@@ -59,12 +59,8 @@ REFUSALS = {
 
 # What an accepted bundle cannot be converted for.
 CONVERTING = {
-    1: Refusal("With wide sites it would have over 65,536 bytes.", "0", "Keep it with narrow sites: the verdict is the same."),
-    21: Refusal(
-        "The site of an access is over 65,535 and does not fit into a narrow command.",
-        "that access",
-        "Keep it with wide sites: the verdict is the same.",
-    ),
+    1: Refusal("With wide sites it would have over 65,536 bytes.", "0", "Keep it with narrow sites."),
+    21: Refusal("An access has a site over 65,535, which needs 4 bytes.", "that access", "Keep it with wide sites."),
 }
 
 TORN = "It ends inside a member's log: it was torn."

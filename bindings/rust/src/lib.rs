@@ -58,7 +58,7 @@ pub enum Cause {
     CutAhead,
     OtherGroup,
     /// Where a bundle is converted to narrow accesses; no function of this crate does so.
-    SiteTooWide,
+    SiteTooLarge,
 }
 
 impl Cause {
@@ -83,7 +83,7 @@ impl Cause {
         Cause::PastEnd,
         Cause::CutAhead,
         Cause::OtherGroup,
-        Cause::SiteTooWide,
+        Cause::SiteTooLarge,
     ];
 
     /// 1 to 21.
@@ -117,7 +117,7 @@ impl Cause {
             Cause::PastEnd => "the position is at or past the end",
             Cause::CutAhead => "a cut chunk has more barriers than a complete member of its team",
             Cause::OtherGroup => "an access is wide and the bundle's first narrow, or the other way round",
-            Cause::SiteTooWide => "a site over 65,535, which no narrow access has",
+            Cause::SiteTooLarge => "a site over 65,535, which no narrow access has",
         }
     }
 }
