@@ -52,7 +52,8 @@ extern "C" {
 #define DEZHAKOM_MOST_MEMBERS 64     /* of a team; members are numbered from 0: 5 */
 #define DEZHAKOM_MOST_DEPTH 4        /* of nested teams, below the root: 11 */
 #define DEZHAKOM_MOST_LOCKS 64       /* locks are numbered from 0: 5 */
-#define DEZHAKOM_MOST_SITE 65535     /* the highest site of a narrow access: 5; a wide one takes any of 32 bits */
+#define DEZHAKOM_MOST_SITE 65535     /* the highest site of a narrow access: 5 */
+#define DEZHAKOM_MOST_WIDE_SITE 4294967295 /* the highest site of a wide one: every number of 32 bits is a site */
 #define DEZHAKOM_MOST_TRIPLES 5      /* of a label: 15 */
 #define DEZHAKOM_COMMAND_BYTES 14    /* the length of the longest command */
 #define DEZHAKOM_WORK_WORDS 16384    /* the least length of a work area, in words of 32 bits: 13 */
