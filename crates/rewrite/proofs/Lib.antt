@@ -6,3 +6,7 @@ pub mod FixedChunks
 pub mod Pieces
 pub mod WordOrder
 pub mod Fitting
+pub mod Regrouping
+pub mod RegroupedChunks
+pub mod RegroupedRaces
+pub mod Conversions
