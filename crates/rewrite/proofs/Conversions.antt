@@ -56,13 +56,13 @@ narrow-gives : (o : Option Placed) (x c : List ℕ) → fromOption (gives x) (λ
 narrow-gives none x c e = let s : x ≡ c = cc in (sym s, refl)
 narrow-gives (some p) x c e = let z : _≡_ {A = ℕ} 0 1 = cc in absurd (omega arith)
 
-none-over : (ps : List Placed) → firstOver ps ≡ none → (c : Command) → List·Memᴰ c (map (λ (p : Placed). p .command) ps) → siteOver c ≡ false
+pub none-over : (ps : List Placed) → firstOver ps ≡ none → (c : Command) → List·Memᴰ c (map (λ (p : Placed). p .command) ps) → siteOver c ≡ false
 unfolding firstOver
 none-over ps e c m =
     let x = Memᴰ·of-map (λ (p : Placed). p .command) ps m in
     rw (← x .2) (is-false (siteOver (x .0 .command)) (λ h. first-none (λ (p : Placed). siteOver (p .command)) e (x .1) h))
 
-over-none : (ps : List Placed) → ((c : Command) → List·Memᴰ c (map (λ (p : Placed). p .command) ps) → siteOver c ≡ false) → firstOver ps ≡ none
+pub over-none : (ps : List Placed) → ((c : Command) → List·Memᴰ c (map (λ (p : Placed). p .command) ps) → siteOver c ≡ false) → firstOver ps ≡ none
 unfolding firstOver
 over-none ps h = go (first (λ (p : Placed). siteOver (p .command)) ps) refl
   where
@@ -86,9 +86,6 @@ module _ (b : List ℕ) (ok : Accepted b) where
   group-intro false h = rw (ok, over-none (frontOf b .placed) (unfold commandsIn in h))
 
 module _ (b : List ℕ) (bytes : Bytes b) (ok : Accepted b) where
-  cs : List Chunk
-  cs = chunksOf b
-
   logs : commandsIn b ≡ concatMap logOf (chunksOf b)
   unfolding commandsIn
   logs = ap (map (λ (p : Placed). p .command)) (legible b ok .parts) ∙ commands-of-chunks (chunksOf b)
@@ -96,15 +93,23 @@ module _ (b : List ℕ) (bytes : Bytes b) (ok : Accepted b) where
   itself : b ≡ printed (commandsIn b)
   itself = known b bytes ok .bytes ∙ ap printed (sym logs)
 
+  its-bytes : concatMap bytesOf (commandsIn b) ≡ b
+  its-bytes = unfold printed in (sym itself)
+
   in-range : (c : Command) → List·Memᴰ c (commandsIn b) → inRange c ≡ true
   in-range c m = orderly-range start (concatMap logOf (chunksOf b)) (known b bytes ok .sound .order) c (subst (List·Memᴰ c) logs m)
 
   converted-own : (w : Bool) → OfGroup w b → converted w b ≡ b
   unfolding converted
-  converted-own w own = ap (concatMap bytesOf) (all-own w (commandsIn b) own) ∙ sym (unfold printed in itself)
+  converted-own w own = ap (concatMap bytesOf) (all-own w (commandsIn b) own) ∙ its-bytes
 
   short : length b ≤ 65536
   short = legible b ok .short
+
+  narrow-length : length (converted false b) ≤ length b
+  unfolding converted
+  narrow-length =
+      subst (λ (s : List ℕ). length (concatMap bytesOf (map (regrouped false) (commandsIn b))) ≤ length s) its-bytes (narrower (commandsIn b))
 
   feasible-own : (w : Bool) → OfGroup w b → Feasible w b
   feasible-own true own = rw (converted-own true own) short
@@ -137,14 +142,7 @@ module _ (b : List ℕ) (bytes : Bytes b) (ok : Accepted b) where
       where
         go : (v : Bool) → Feasible v b → length (converted v b) ≤ 65536
         go true g = g
-        go false g =
-            let one = narrower (commandsIn b) in
-            let other = ap length itself in
-            let most = short in
-            unfold converted printed in (omega arith)
-
-    ds : List Chunk
-    ds = map (regroupedChunk w) (chunksOf b)
+        go false g = omega (arith, narrow-length, short)
 
     same-logs : map (regrouped w) (commandsIn b) ≡ concatMap logOf (map (regroupedChunk w) (chunksOf b))
     same-logs = ap (map (regrouped w)) logs ∙ sym (logs-regrouped w (chunksOf b))
@@ -167,12 +165,13 @@ module _ (b : List ℕ) (bytes : Bytes b) (ok : Accepted b) where
     -- the commands of the result
     pub commands-result : commandsIn (converted w b) ≡ map (regrouped w) (commandsIn b)
     unfolding commandsIn converted
-    commands-result =
-        ap (λ (r : Front). map (λ (p : Placed). p .command) (r .placed)) (unfold printed in (front-of-printed (map (regrouped w) (commandsIn b)) all))
-        ∙ commands-placed 0 (map (regrouped w) (commandsIn b))
+    commands-result = ap (map (λ (p : Placed). p .command)) front ∙ commands-placed 0 (map (regrouped w) (commandsIn b))
       where
         all : (c : Command) → List·Memᴰ c (map (regrouped w) (commandsIn b)) → inRange c ≡ true
         all c m = let x = Memᴰ·of-map (regrouped w) (commandsIn b) m in rw (← x .2) (ranged (x .0) (x .1))
+
+        front : frontOf (concatMap bytesOf (map (regrouped w) (commandsIn b))) .placed ≡ placedFrom 0 (map (regrouped w) (commandsIn b))
+        front = unfold printed in (ap (λ (r : Front). r .placed) (front-of-printed (map (regrouped w) (commandsIn b)) all))
 
     pub of-group : OfGroup w (converted w b)
     of-group a m = all-of-group w (commandsIn b) a (subst (List·Memᴰ (Com.Access a)) commands-result m)

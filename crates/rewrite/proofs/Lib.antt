@@ -10,3 +10,4 @@ pub mod Regrouping
 pub mod RegroupedChunks
 pub mod RegroupedRaces
 pub mod Conversions
+pub mod ConvertPass

@@ -134,7 +134,9 @@ module _ (w : Bool) where
 
   barriers-regrouped : (c : Chunk) → barriersOf (regroupedChunk c) ≡ barriersOf c
   unfolding barriersOf
-  barriers-regrouped c = rw (commands-regrouped c, after-regrouped fresh (commandsOf c))
+  barriers-regrouped c =
+      ap (λ (cs : List Command). afterCommands fresh cs .barriers) (commands-regrouped c)
+      ∙ ap (λ (k : ChunkState). k .barriers) (after-regrouped fresh (commandsOf c))
 
   complete-regrouped : (c : Chunk) → complete (regroupedChunk c) ≡ complete c
   unfolding complete
