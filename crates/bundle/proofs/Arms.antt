@@ -1,20 +1,22 @@
 -- What each arm of decoding answers, at the byte that stands at the position; and what reading makes of it.
 -- Assumes nothing.
 use mathlib.Core.Path.{_≡_, refl, sym, ap, _∙_}
-use mathlib.Core.Bool.{true, false}
+use mathlib.Core.Bool.{Bool, true, false}
 use mathlib.Core.List.{List}
 use mathlib.Core.Option.{none}
 use Prim.Native.Nat.{ℕ, suc, _+_, _-_, _≤_, _<_}
+use native.Mathlib.Nat.{add-assoc}
 use native.Mathlib.Omega.{arith}
 use borrow.Author.Tests.{ne-eqb, lt-leb, le-leb, lt-ltb, le-ltb}
 use lib.ListN.{length, getD}
 use Rattle.bundle.specs.Answer.{Answer, gives, refuses, whenGiven}
-use Rattle.bundle.specs.Commands.{Taken, kindOf, accessWidths, accessOf, formOf, sum, widthOf, operandsFrom, commandAt, inRange, decodeByte, decodeAt, ranged, readAt, readingOf}
-use Rattle.bundle.specs.Inner.{StandsAt, AccessAt}
+use Rattle.bundle.specs.Commands.{Taken, numberAt, accessWidths, accessOf, formOf, sum, widthOf, operandsFrom, commandAt, inRange, decodeByte, decodeAt, ranged, readAt, readingOf}
+use Rattle.bundle.specs.Inner.{StandsAt, AccessAt, rangeAt}
 use Rattle.bundle.specs.declared.command.Command.{Command}
 use Rattle.bundle.specs.declared.command.Reading.{Reading}
 use Rattle.bundle.specs.declared.command.Reading.the-variants as Read
-use Rattle.bundle.proofs.Forms.{form-of-access}
+use Rattle.bundle.proofs.Digits.{number-one}
+use Rattle.bundle.proofs.Forms.{groupByte, kindIn, form-of-access}
 use Rattle.bundle.proofs.Decoding.{width-none}
 
 pub decode-past : (s : List ℕ) (at : ℕ) → length s ≤ at → refuses 18 at ≡ decodeAt s at
@@ -52,28 +54,47 @@ module _ {b : ℕ} (s : List ℕ) (at : ℕ) (stands : StandsAt s at b) where
         ← e,
       ))
 
-module _ (s : List ℕ) (at : ℕ) (stands : AccessAt s at) where
+module _ (s : List ℕ) (at : ℕ) (wide : Bool) (stands : AccessAt s at (groupByte wide)) where
   access-stands : StandsAt s at (getD s at 0)
   access-stands = record { within = stands .within; byte = refl }
 
-  access-width : widthOf (getD s at 0) ≡ suc (sum accessWidths)
+  access-width : widthOf (getD s at 0) ≡ suc (sum (accessWidths wide))
   unfolding widthOf
-  access-width = rw (form-of-access (getD s at 0) (stands .low) (stands .high))
+  access-width = rw (form-of-access wide (getD s at 0) (stands .low) (stands .high))
 
-  pub access-cut : length s - at < suc (sum accessWidths) → refuses 3 at ≡ decodeAt s at
+  pub access-cut : length s - at < suc (sum (accessWidths wide)) → refuses 3 at ≡ decodeAt s at
   access-cut h = decode-cut s at access-stands (rw access-width h)
 
   pub access-whole :
       (c : Command)
-      → suc (sum accessWidths) ≤ length s - at
-      → c ≡ accessOf (kindOf (getD s at 0)) (λ k. getD (operandsFrom s at 1 accessWidths) k 0)
-      → gives (record { command = c; next = at + suc (sum accessWidths) }) ≡ decodeAt s at
+      → suc (sum (accessWidths wide)) ≤ length s - at
+      → c ≡ accessOf wide (kindIn wide (getD s at 0)) (λ k. getD (operandsFrom s at 1 (accessWidths wide)) k 0)
+      → gives (record { command = c; next = at + suc (sum (accessWidths wide)) }) ≡ decodeAt s at
   unfolding commandAt
   access-whole c h e =
       let w = access-width in
       ap (λ (m : ℕ). gives (record { command = c; next = at + m })) (sym w)
       ∙ decode-whole s at access-stands c (omega arith) (rw w h)
-      (rw (form-of-access (getD s at 0) (stands .low) (stands .high)) e)
+      (rw (form-of-access wide (getD s at 0) (stands .low) (stands .high)) e)
+
+-- the range of an access by its operands, which stand behind an operand of another width
+pub range-behind :
+    (s : List ℕ) (at n : ℕ)
+    → rangeAt s (at + n)
+    ≡ record {
+      base = numberAt 4 s (at + n);
+      stride = numberAt 2 s (at + (n + 4));
+      count = numberAt 2 s (at + (n + 6));
+      size = numberAt 1 s (at + (n + 8));
+    }
+range-behind s at n =
+    λ i.
+    record {
+      base = numberAt 4 s (at + n);
+      stride = numberAt 2 s (add-assoc at n 4 i);
+      count = numberAt 2 s (add-assoc at n 6 i);
+      size = (ap (λ (p : ℕ). getD s p 0) (add-assoc at n 8) ∙ sym (number-one s (at + (n + 8)))) i;
+    }
 
 -- what the test of ranges makes of what is decoded
 module _ (at : ℕ) {r : Reading} where

@@ -19,7 +19,7 @@ use Rattle.bundle.specs.Cutting.{isRegion, logBytes, CutTo, CutEach, Cut
 use Rattle.bundle.specs.declared.command.Command.{Command}
 use Rattle.bundle.specs.declared.command.Command.the-variants as Com
 use Rattle.bundle.proofs.Tests.{both, and-left, and-right, is-false, decide, not-both, not-of-false, refuted}
-use Rattle.bundle.proofs.ListLaws.{any-elim, any-intro, all-elim, all-intro, concatMap-append, Passing}
+use Rattle.bundle.proofs.ListLaws.{any-elim, any-intro, all-elim, all-intro, concatMap-elim, concatMap-intro, concatMap-append, Passing}
 use Rattle.bundle.proofs.Delimiters.{forking, closes-width}
 use Rattle.bundle.proofs.RoundTrip.{bytes-some}
 use Rattle.bundle.proofs.Places.{memberKey}
@@ -32,7 +32,7 @@ use Rattle.bundle.proofs.Shaped.{Shaped}
 use Rattle.bundle.proofs.ShapeOrder.{lacks-same}
 use Rattle.bundle.proofs.Reorder.{Sound, known, Made, made, part-printed}
 use Rattle.bundle.proofs.Shortening.{Shortened, EachShortened}
-use Rattle.bundle.proofs.CutChunks.{LeftAs, cut-closes, left-whole, left-cut, left-body, Remains, remains-orderly, remains-total, remains-barriers, remains-complete, remains-forks, remains-shortened}
+use Rattle.bundle.proofs.CutChunks.{LeftAs, cut-closes, left-whole, left-cut, left-body, Remains, remains-orderly, remains-total, remains-access, remains-barriers, remains-complete, remains-forks, remains-shortened}
 
 -- chunk by chunk
 data EachRemains : List Chunk → List Chunk → Type 0 where
@@ -245,6 +245,16 @@ still-sound {cs} {ds} rs s =
           record {
             segments = omega (arith, fewer opensSegment cut-opens rs, s .room .segments);
             accesses = omega (arith, fewer addsAccess cut-accesses rs, s .room .accesses);
+            one-group =
+                record {
+                  group = s .room .one-group .group;
+                  before = s .room .one-group .before;
+                  each =
+                      λ a m.
+                      let f = concatMap-elim logOf ds m in
+                      let u = source rs (f .present) in
+                      s .room .one-group .each a (concatMap-intro logOf (u .present) (remains-access (u .remains) (f .gives)));
+                };
           };
       short = le-ltb 65536 (length (printed (concatMap logOf ds))) short;
       shaped = still-shaped rs (s .shaped);

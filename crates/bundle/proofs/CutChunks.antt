@@ -2,8 +2,9 @@
 -- more barriers, and is whole where it is complete.
 use Prim.Native.Nat.{ℕ, _+_, _≤_}
 use mathlib.Core.Path.{_≡_, refl, sym, _∙_, ap, subst}
+use mathlib.Core.Logic.{⊎-elim}
 use mathlib.Core.Bool.{true, false}
-use mathlib.Core.List.{List, [], _∷_, _++_, map, List·Memᴰ, List·Memᴰ·head, List·Memᴰ·tail, List·Memᴰ·eq-of-singleton, tail-eq-of-cons-eq, head-eq-of-cons-eq, append-ne-nil-of-right-ne-nil}
+use mathlib.Core.List.{List, [], _∷_, _++_, map, List·Memᴰ, List·Memᴰ·head, List·Memᴰ·tail, List·Memᴰ·eq-of-singleton, tail-eq-of-cons-eq, head-eq-of-cons-eq, append-ne-nil-of-right-ne-nil, List·Memᴰ·cases-cons}
 use native.Mathlib.Omega.{arith}
 use Rattle.bundle.specs.Lists.{any, concatMap}
 use Rattle.bundle.specs.Commands.{formOf, codeOf, widthsOf, fitWidths, operandsOk, inRange}
@@ -14,11 +15,12 @@ use Rattle.bundle.specs.Index.{total, logOf}
 use Rattle.bundle.specs.declared.scan.Scan.{Scan}
 use Rattle.bundle.specs.declared.chunk.ChunkState.{ChunkState}
 use Rattle.bundle.specs.declared.index.Fork.{Fork}
+use Rattle.bundle.specs.declared.command.Access.{Access}
 use Rattle.bundle.specs.declared.command.Command.{Command}
 use Rattle.bundle.specs.declared.command.Command.the-variants as Com
 use Rattle.bundle.proofs.Tests.{false-is-true, both, and-left}
-use Rattle.bundle.proofs.Delimiters.{plain, closes, on-plain, forking, on-other, closes-forks-none, plain-not-end, barriers-rise}
-use Rattle.bundle.proofs.Scanning.{passes, uncounted, orderly, orderly-tail}
+use Rattle.bundle.proofs.Delimiters.{accessing, plain, closes, on-plain, forking, on-other, closes-forks-none, plain-not-end, barriers-rise}
+use Rattle.bundle.proofs.Scanning.{passes, uncounted, orderly, orderly-tail, not-access}
 use Rattle.bundle.proofs.Gathering.{Body, ends, goes, Formed}
 use Rattle.bundle.proofs.Shortening.{Shortened}
 
@@ -104,6 +106,13 @@ unfolding total
 left-total f least (stays e) = omega arith
 left-total f least (cuts {p = p} h) = let one = least (p .command) in omega arith
 left-total f least (keeps e l) = let ih = left-total f least l in omega arith
+
+-- an access that is left was there before
+left-access : {ps qs : List Placed} {a : Access} → Left ps qs → List·Memᴰ (Com.Access a) (bare qs) → List·Memᴰ (Com.Access a) (bare ps)
+unfolding accessing
+left-access (stays e) m = m
+left-access (cuts h) m = absurd (not-access {c = Com.Cut} refl (List·Memᴰ·eq-of-singleton m))
+left-access (keeps e l) m = ⊎-elim List·Memᴰ·head (λ n. List·Memᴰ·tail (left-access l n)) (List·Memᴰ·cases-cons m)
 
 -- the barriers passed never fall
 barriers-never-fall : (k : ChunkState) (cs : List Command) → k .barriers ≤ afterCommands k cs .barriers
@@ -212,6 +221,11 @@ pub remains-total :
     (f : Command → ℕ) → ((c : Command) → f Com.Cut ≤ f c) → {c d : Chunk} → Remains c d → total f (logOf d) ≤ total f (logOf c)
 unfolding total logOf commandsOf
 remains-total f least {c} {d} r = rw (r .team, r .member) (let rest = left-total f least (r .body) in omega arith)
+
+pub remains-access : {c d : Chunk} {a : Access} → Remains c d → List·Memᴰ (Com.Access a) (logOf d) → List·Memᴰ (Com.Access a) (logOf c)
+unfolding logOf commandsOf accessing
+remains-access {d = d} r m =
+    ⊎-elim (λ q. absurd (not-access {c = Com.Member (d .team) (d .member)} refl q)) (λ n. List·Memᴰ·tail (left-access (r .body) n)) (List·Memᴰ·cases-cons m)
 
 pub remains-barriers : {c d : Chunk} → Remains c d → barriersOf d ≤ barriersOf c
 unfolding barriersOf commandsOf

@@ -10,7 +10,7 @@ use lib.ListN.{length}
 use borrow.Author.Tests.{eqb-true, le-leb, lt-leb, ltb-false}
 use Rattle.bundle.specs.Answer.{Answer, gives, refuses, whenGiven}
 use Rattle.bundle.specs.Lists.{any, concatMap}
-use Rattle.bundle.specs.Cases.{onRegion}
+use Rattle.bundle.specs.Cases.{onRegion, onAccess}
 use Rattle.bundle.specs.Commands.{Taken, decodeAt}
 use Rattle.bundle.specs.Chunks.{Placed, Front, fresh, afterCommand, afterCommands, follow, frontFrom, frontOf, gatherOne, gather, chunksOf, commandsOf, isEnd, complete}
 use Rattle.bundle.specs.Walk.{opensSegment, addsAccess, entriesFrom, entriesOf, barriersOf, forkAt, forksIn, forksOf}
@@ -61,6 +61,7 @@ record Continued (p : Progress) (c : Command) (next : ℕ) : Type 0 where
         state = afterCommand (p .scan .state) c;
         segments = p .scan .segments + opensSegment c;
         accesses = p .scan .accesses + addsAccess c;
+        wide = onAccess (p .scan .wide) (λ a. a .wide) c;
       }
   pass :
       passAfter p c (scanned (p .scan) c) next
@@ -293,7 +294,7 @@ front-done (suc fuel) s at h = rw (le-leb (length s) at h)
 not-misplaced : (k : Scan) (c : Command) → faultOf k c ≡ 0 → (misplaced k c ≡ false) × (tooMany k c ≡ false)
 not-misplaced k c e =
     let n = no-fault k c e in
-    (false-of-not (misplaced k c) (tested k c (n .0) .in-place), n .1)
+    (false-of-not (misplaced k c) (tested k c (n .0) .in-place), n .2)
 
 -- the fuel left, where the bundle goes on
 record More (s : List ℕ) (p : Progress) (chunks forks : List ℕ) : Type 0 where

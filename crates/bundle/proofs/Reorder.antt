@@ -17,7 +17,7 @@ use Rattle.bundle.specs.declared.scan.Scan.{Scan}
 use Rattle.bundle.specs.declared.command.Command.{Command}
 use Rattle.bundle.proofs.ListLaws.{all-elim, all-intro, perm-mem, perm-map, perm-length, perm-concatMap, concatMap-append, Distinct}
 use Rattle.bundle.proofs.Places.{unplaced, memberKey}
-use Rattle.bundle.proofs.Scanning.{total, perm-total, orderly, orderly-head, orderly-tail, Room, Passed, walk-elim, walk-intro}
+use Rattle.bundle.proofs.Scanning.{total, perm-total, orderly, orderly-head, orderly-tail, no-group, Room, Passed, walk-elim, walk-intro}
 use Rattle.bundle.proofs.Gathering.{Formed, placedOf, logOf, all-in-chunks}
 use Rattle.bundle.proofs.ScanChunks.{scan-chunks, commands-of-chunks}
 use Rattle.bundle.proofs.Printing.{printed, placedFrom, commands-placed, prints-front, front-of-printed}
@@ -80,7 +80,7 @@ unfolding scanOf
 scan-passed s k e = walk-elim (frontOf s .placed) (frontOf s .stop) start k room e
   where
     room : Room start []
-    room = unfold start total in (record { segments = omega arith; accesses = omega arith })
+    room = unfold start total in (record { segments = omega arith; accesses = omega arith; one-group = no-group start })
 
 pub known : (b : List ℕ) → Bytes b → Accepted b → Known b
 known b bytes a = go (scan-passed b (k .scan) (k .scan-ok))
@@ -197,6 +197,12 @@ sound-perm {cs} {ds} p s =
           record {
             segments = rw (← perm-total opensSegment logs) (s .room .segments);
             accesses = rw (← perm-total addsAccess logs) (s .room .accesses);
+            one-group =
+                record {
+                  group = s .room .one-group .group;
+                  before = s .room .one-group .before;
+                  each = λ a m. s .room .one-group .each a (perm-mem (Permᴰ·symm logs) m);
+                };
           };
       short = rw (← long) (s .short);
       shaped = shaped-perm p (s .shaped);

@@ -11,7 +11,7 @@ use Rattle.bundle.specs.Locks.{holds}
 use Rattle.bundle.specs.Commands.{Taken, operandsOk, inRange, decodeAt, readingOf}
 use Rattle.bundle.specs.Chunks.{afterBarrier, afterJoin, afterAcquire, afterRelease, afterCommand}
 use Rattle.bundle.specs.Walk.{opensSegment, addsAccess}
-use Rattle.bundle.specs.Scan.{misplaced, aboveOwnTeam, misusesLock, tooMany, faultOf, scanned}
+use Rattle.bundle.specs.Scan.{misplaced, differs, ofOtherGroup, aboveOwnTeam, misusesLock, tooMany, faultOf, scanned}
 use Rattle.bundle.specs.Survey.{Bounded, scanWith, Stepped, unmoved, decided, testedAt, stepAt}
 use Rattle.bundle.specs.declared.refusal.Cause.{Cause}
 use Rattle.bundle.specs.declared.chunk.ChunkState.{ChunkState}
@@ -28,19 +28,19 @@ module _ {k r : Scan} {st : ChunkState} (b : Bounded k) where
   pub after-region :
       (t z : ℕ)
       → st ≡ cond (ltb (k .state .regions) 4294967295) (afterJoin (k .state)) (k .state)
-      → r ≡ scanWith k st 1 0
+      → r ≡ scanWith k st 1 0 (k .wide)
       → r ≡ scanned k (Com.Region t z)
   unfolding scanned afterCommand opensSegment addsAccess
   after-region t z e q =
-      q ∙ ap (λ (x : ChunkState). scanWith k x 1 0) (e ∙ rw (lt-ltb (k .state .regions) 4294967295 (omega (arith, b .segments, b .opened))))
+      q ∙ ap (λ (x : ChunkState). scanWith k x 1 0 (k .wide)) (e ∙ rw (lt-ltb (k .state .regions) 4294967295 (omega (arith, b .segments, b .opened))))
 
   pub after-barrier :
       st ≡ cond (ltb (k .state .barriers) 4294967295) (afterBarrier (k .state)) (k .state)
-      → r ≡ scanWith k st 1 0
+      → r ≡ scanWith k st 1 0 (k .wide)
       → r ≡ scanned k Com.Barrier
   unfolding scanned afterCommand opensSegment addsAccess
   after-barrier e q =
-      q ∙ ap (λ (x : ChunkState). scanWith k x 1 0) (e ∙ rw (lt-ltb (k .state .barriers) 4294967295 (omega (arith, b .segments, b .opened))))
+      q ∙ ap (λ (x : ChunkState). scanWith k x 1 0 (k .wide)) (e ∙ rw (lt-ltb (k .state .barriers) 4294967295 (omega (arith, b .segments, b .opened))))
 
 module _ (k : Scan) {r : Scan} {st : ChunkState} where
   pub after-acquire :
@@ -48,27 +48,27 @@ module _ (k : Scan) {r : Scan} {st : ChunkState} where
       → inRange (Com.Acquire l) ≡ true
       → misusesLock (k .state .locks) (Com.Acquire l) ≡ false
       → st ≡ cond (ltb l 64 && not (holds l (k .state .locks))) (afterAcquire l (k .state)) (k .state)
-      → r ≡ scanWith k st 0 0
+      → r ≡ scanWith k st 0 0 (k .wide)
       → r ≡ scanned k (Com.Acquire l)
   unfolding scanned afterCommand opensSegment addsAccess operandsOk misusesLock
   after-acquire l i o e q =
-      q ∙ ap (λ (x : ChunkState). scanWith k x 0 0) (e ∙ rw (in-range-ok (Com.Acquire l) i, o))
+      q ∙ ap (λ (x : ChunkState). scanWith k x 0 0 (k .wide)) (e ∙ rw (in-range-ok (Com.Acquire l) i, o))
 
   pub after-release :
       (l : ℕ)
       → misusesLock (k .state .locks) (Com.Release l) ≡ false
       → st ≡ cond (holds l (k .state .locks)) (afterRelease l (k .state)) (k .state)
-      → r ≡ scanWith k st 0 0
+      → r ≡ scanWith k st 0 0 (k .wide)
       → r ≡ scanned k (Com.Release l)
   unfolding scanned afterCommand opensSegment addsAccess misusesLock
   after-release l o e q =
-      q ∙ ap (λ (x : ChunkState). scanWith k x 0 0) (e ∙ rw (held (holds l (k .state .locks)) o))
+      q ∙ ap (λ (x : ChunkState). scanWith k x 0 0 (k .wide)) (e ∙ rw (held (holds l (k .state .locks)) o))
     where
       held : (t : Bool) → not t ≡ false → t ≡ true
       held true h = refl
       held false h = sym h
 
-pub after-access : (k : Scan) {r : Scan} (a : Access) → r ≡ scanWith k (k .state) 0 1 → r ≡ scanned k (Com.Access a)
+pub after-access : (k : Scan) {r : Scan} (a : Access) → r ≡ scanWith k (k .state) 0 1 (a .wide) → r ≡ scanned k (Com.Access a)
 unfolding scanned afterCommand opensSegment addsAccess
 after-access k a q = q
 
@@ -90,6 +90,11 @@ module _ (k : Scan) (c : Command) (b : Bounded k) where
   unfolding tooMany
   many-none e f = rw (e, f, le-ltb 512 (k .segments + 0) (omega (arith, b .segments)), le-ltb 1024 (k .accesses + 0) (omega (arith, b .accesses)))
 
+-- 20: the group of an access against that of those before it
+pub other-group : (k : Scan) (a : Access) {d : Bool} → d ≡ differs (k .wide) (a .wide) → ltb 0 (k .accesses) && d ≡ ofOtherGroup k (Com.Access a)
+unfolding ofOtherGroup
+other-group k a e = ap (λ (t : Bool). ltb 0 (k .accesses) && t) e
+
 -- 5: the ranges, and the own-team rule at a REGION
 pub beyond-range : (c : Command) {r : Bool} → r ≡ inRange c → not r ≡ not (inRange c && true)
 beyond-range c e = ap not e ∙ go (inRange c)
@@ -107,18 +112,20 @@ beyond-team own t z e = ap (λ (x : Bool). not (x && ltb own t)) e
 
 -- the tests in their order
 pub tested :
-    (k : Scan) (at : ℕ) (t : Taken) {m b l n : Bool} {k′ : Scan}
+    (k : Scan) (at : ℕ) (t : Taken) {m f b l n : Bool} {k′ : Scan}
     → m ≡ misplaced k (t .command)
+    → f ≡ ofOtherGroup k (t .command)
     → b ≡ not (inRange (t .command) && aboveOwnTeam (k .team) (t .command))
     → l ≡ misusesLock (k .state .locks) (t .command)
     → n ≡ tooMany k (t .command)
     → (inRange (t .command) ≡ true → misusesLock (k .state .locks) (t .command) ≡ false → k′ ≡ scanned k (t .command))
-    → decided at m b l n (gives (record { scan = k′; command = t .command; next = t .next })) ≡ testedAt k at t
+    → decided at m f b l n (gives (record { scan = k′; command = t .command; next = t .next })) ≡ testedAt k at t
 unfolding testedAt faultOf
-tested k at t {k′ = k′} e₄ e₅ e₆ e₇ after =
-    rw (e₄, e₅, e₆, e₇)
+tested k at t {k′ = k′} e₄ e₂₀ e₅ e₆ e₇ after =
+    rw (e₄, e₂₀, e₅, e₆, e₇)
     (go
     (misplaced k (t .command))
+    (ofOtherGroup k (t .command))
     (inRange (t .command))
     (aboveOwnTeam (k .team) (t .command))
     (misusesLock (k .state .locks) (t .command))
@@ -128,20 +135,21 @@ tested k at t {k′ = k′} e₄ e₅ e₆ e₇ after =
     stepped : Scan → Answer Stepped
     stepped scan = gives (record { scan = scan; command = t .command; next = t .next })
 
-    fault : Bool → Bool → Bool → Bool → Bool → ℕ
-    fault m i o l n = cond m 4 (cond (not (i && o)) 5 (cond l 6 (cond n 7 0)))
+    fault : Bool → Bool → Bool → Bool → Bool → Bool → ℕ
+    fault m f i o l n = cond m 4 (cond f 20 (cond (not (i && o)) 5 (cond l 6 (cond n 7 0))))
 
     go :
-        (m i o l n : Bool)
+        (m f i o l n : Bool)
         → (i ≡ true → l ≡ false → k′ ≡ scanned k (t .command))
-        → decided at m (not (i && o)) l n (stepped k′)
-        ≡ cond (eqb (fault m i o l n) 0) (stepped (scanned k (t .command))) (refuses (fault m i o l n) at)
-    go true i o l n h = refl
-    go false false o l n h = refl
-    go false true false l n h = refl
-    go false true true true n h = refl
-    go false true true false true h = refl
-    go false true true false false h = ap stepped (h refl refl)
+        → decided at m f (not (i && o)) l n (stepped k′)
+        ≡ cond (eqb (fault m f i o l n) 0) (stepped (scanned k (t .command))) (refuses (fault m f i o l n) at)
+    go true f i o l n h = refl
+    go false true i o l n h = refl
+    go false false false o l n h = refl
+    go false false true false l n h = refl
+    go false false true true true n h = refl
+    go false false true true false true h = refl
+    go false false true true false false h = ap stepped (h refl refl)
 
 -- what was decoded, refused or taken
 module _ (s : List ℕ) (at : ℕ) (k : Scan) {r : Reading} (decodes : readingOf r ≡ decodeAt s at) where

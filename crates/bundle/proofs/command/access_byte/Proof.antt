@@ -1,25 +1,20 @@
-use borrow.Author.Needs.{needs}
+-- `bundle::command::access_byte` meets its contract. Assumes nothing.
+use native.Mathlib.Omega.{arith}
+use Rattle.bundle.specs.Commands.{accessByte}
+use Rattle.bundle.proofs.Forms.{kind-byte-low}
 use Rattle.bundle.proofs.command.access_byte.Statement.{statement}
 use Rattle.bundle.proofs.command.access_byte.Tie as tie
-use Rattle.bundle.proofs.command.access_byte.Reads as reads
-use Rattle.bundle.proofs.command.access_byte.Lts as lts
-use Rattle.bundle.proofs.command.kind_byte.Reads as kind-byte-reads
 
--- src/command.rt:443:9
-kind-byte-requires : tie.Need-kind-byte-requires
-kind-byte-requires c κs = search needs
-
--- src/command.rt:444:15
 add-result : tie.Need-add-result
-add-result c = ?
+add-result c = omega (arith, c .before .kind-byte .ensures, kind-byte-low (c .before .before .args .kind))
 
--- src/command.rt:440:1
 returns : tie.Need-returns
-returns c = ?
+unfolding accessByte
+returns c = rw (c .if1 .taken, c .before .kind-byte .ensures)
 
--- src/command.rt:440:1
 returns-2 : tie.Need-returns-2
-returns-2 c = ?
+unfolding accessByte
+returns-2 c = rw (c .if1 .left) (c .before .kind-byte .ensures)
 
 pub access-byte-spec : {M : Type 1} → statement M
-access-byte-spec = tie.close (tie.spec kind-byte-requires add-result returns returns-2)
+access-byte-spec = tie.close (tie.spec (λ c κs. tt) add-result returns returns-2)

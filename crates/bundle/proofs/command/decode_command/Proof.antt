@@ -26,19 +26,27 @@ unfolding formOf sum widthOf commandAt
 returns-6 c =
     decode-whole _ _ (record { within = c .before .before .if1 .left; byte = c .match .keys5 }) _ (omega arith) (search needs) refl
 
-returns-10 : tie.Need-returns-10
-returns-10 c =
-    let r = c .before .match .rest in
-    let tested = c .if2 .taken in
-    decode-unknown _ _ (record { within = c .before .before .before .if1 .left; byte = refl })
-    (no-form (r .0 .0 .0 .0 .0 .0 .1) (r .0 .0 .0 .0 .0 .1) (r .0 .0 .0 .0 .1) (r .0 .0 .0 .1) (r .0 .0 .1) (r .0 .1) (r .1) (λ low high. omega arith))
-
 returns-11 : tie.Need-returns-11
 returns-11 c =
-    let r = c .before .before .match .rest in
-    let tested = c .if3 .left in
-    decode-unknown _ _ (record { within = c .before .before .before .before .if1 .left; byte = refl })
-    (no-form (r .0 .0 .0 .0 .0 .0 .1) (r .0 .0 .0 .0 .0 .1) (r .0 .0 .0 .0 .1) (r .0 .0 .0 .1) (r .0 .0 .1) (r .0 .1) (r .1) (λ low high. omega arith))
+    let r = c .before .match .rest in
+    let below = c .if2 .taken in
+    decode-unknown _ _ (record { within = c .before .before .before .if1 .left; byte = refl })
+    (no-form (r .0 .0 .0 .0 .0 .0 .1) (r .0 .0 .0 .0 .0 .1) (r .0 .0 .0 .0 .1) (r .0 .0 .0 .1) (r .0 .0 .1) (r .0 .1) (r .1) (λ low high. omega arith) (λ low high. omega arith))
+
+returns-12 : tie.Need-returns-12
+returns-12 c =
+    let r = c .before .before .before .match .rest in
+    let below = c .if4 .taken in
+    let above = c .before .if3 .left in
+    decode-unknown _ _ (record { within = c .before .before .before .before .before .if1 .left; byte = refl })
+    (no-form (r .0 .0 .0 .0 .0 .0 .1) (r .0 .0 .0 .0 .0 .1) (r .0 .0 .0 .0 .1) (r .0 .0 .0 .1) (r .0 .0 .1) (r .0 .1) (r .1) (λ low high. omega arith) (λ low high. omega arith))
+
+returns-13 : tie.Need-returns-13
+returns-13 c =
+    let r = c .before .before .before .before .match .rest in
+    let above = c .if5 .left in
+    decode-unknown _ _ (record { within = c .before .before .before .before .before .before .if1 .left; byte = refl })
+    (no-form (r .0 .0 .0 .0 .0 .0 .1) (r .0 .0 .0 .0 .0 .1) (r .0 .0 .0 .0 .1) (r .0 .0 .0 .1) (r .0 .0 .1) (r .0 .1) (r .1) (λ low high. omega arith) (λ low high. omega arith))
 
 pub decode-command-spec : {M : Type 1} → statement M
 decode-command-spec =
@@ -54,6 +62,7 @@ decode-command-spec =
     (λ c κs. search needs)
     (λ c κs. search needs)
     (λ c κs. search needs)
+    (λ c κs. search needs)
     (λ c. search needs)
     returns-3
     returns-4
@@ -62,5 +71,7 @@ decode-command-spec =
     (λ c. search needs)
     (λ c. search needs)
     (λ c. search needs)
-    returns-10
-    returns-11)
+    (λ c. search needs)
+    returns-11
+    returns-12
+    returns-13)

@@ -1,39 +1,14 @@
 -- `bundle::command::encode_access` meets its contract. Assumes nothing.
-use mathlib.Core.Path.{refl}
-use Rattle.bundle.specs.Commands.{lowFirst, codeOf, operandBytes}
-use Rattle.bundle.proofs.Forms.{access-bytes, same-cons}
-use borrow.Author.Needs.{needs}
+use mathlib.Core.Bool.{true, false}
+use Rattle.bundle.proofs.Forms.{encoded-as}
 use Rattle.bundle.proofs.command.encode_access.Statement.{statement}
 use Rattle.bundle.proofs.command.encode_access.Tie as tie
 
 returns : tie.Need-returns
-unfolding lowFirst codeOf operandBytes
-returns c =
-    rw (access-bytes _)
-    (record {
-      prefix = same-cons (c .before .before .before .before .before .before .before .before .before .before .before .before .before .before .before .before .kind-byte .ensures) (same-cons (c .before .before .before .before .before .before .before .before .before .before .low .ensures) (same-cons (c .before .before .before .before .before .before .before .before .before .low2 .ensures) (same-cons (c .before .before .before .before .before .before .before .before .low3 .ensures) (same-cons (c .before .before .before .before .before .before .before .low4 .ensures) (same-cons (c .before .before .before .before .before .before .low5 .ensures) (same-cons (c .before .before .before .before .before .low6 .ensures) (same-cons (c .before .before .before .before .low7 .ensures) (same-cons (c .before .before .before .low8 .ensures) (same-cons (c .before .before .low9 .ensures) (same-cons (c .before .low10 .ensures) (same-cons (c .low11 .ensures) refl)))))))))));
-      long = refl;
-      within = search needs;
-    })
+returns c = encoded-as _ true (c .before .before .access-byte .ensures) (c .before .if1 .taken) (c .encode-wide .ensures)
+
+returns-2 : tie.Need-returns-2
+returns-2 c = encoded-as _ false (c .before .before .access-byte .ensures) (c .before .if1 .left) (c .encode-narrow .ensures)
 
 pub encode-access-spec : {M : Type 1} → statement M
-encode-access-spec =
-    tie.close
-    (tie.spec
-    (λ c κs. tt)
-    (λ c. search needs)
-    (λ c. search needs)
-    (λ c. search needs)
-    (λ c. search needs)
-    (λ c κs. tt)
-    (λ c κs. tt)
-    (λ c κs. tt)
-    (λ c κs. tt)
-    (λ c κs. tt)
-    (λ c κs. tt)
-    (λ c κs. tt)
-    (λ c κs. tt)
-    (λ c κs. tt)
-    (λ c κs. tt)
-    (λ c κs. tt)
-    returns)
+encode-access-spec = tie.close (tie.spec (λ c κs. tt) (λ c κs. tt) returns (λ c κs. tt) returns-2)

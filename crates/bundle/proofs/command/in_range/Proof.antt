@@ -1,10 +1,11 @@
 -- `bundle::command::in_range` meets its contract: the operands' widths hold by their types. Assumes nothing.
-use mathlib.Core.Path.{sym, ap, _∙_}
+use mathlib.Core.Path.{sym, ap, ap₂, _∙_}
+use mathlib.Core.Bool.{Bool, _&&_}
 use borrow.Author.Needs.{needs}
 use Rattle.bundle.specs.Commands.{formOf, codeOf, widthsOf, operandsOk, inRange}
 use Rattle.bundle.specs.declared.command.Command.the-variants as Com
 use Rattle.bundle.proofs.Operands.{fit-none, fit-one}
-use Rattle.bundle.proofs.Forms.{access-fits}
+use Rattle.bundle.proofs.Forms.{access-in-range}
 use Rattle.bundle.proofs.Ranges.{ranges-decide}
 use Rattle.bundle.proofs.command.in_range.Statement.{statement}
 use Rattle.bundle.proofs.command.in_range.Tie as tie
@@ -34,11 +35,10 @@ unfolding formOf codeOf widthsOf operandsOk
 returns-6 c = ranges-decide (Com.Release _) (fit-one (search needs) fit-none) ∙ ap inRange (sym (c .before .command4 .given .1))
 
 returns-7 : tie.Need-returns-7
-unfolding codeOf operandsOk
 returns-7 c =
-    c .range-ok .ensures
-    ∙ ranges-decide (Com.Access _) (access-fits _ (fit-one (search needs) (fit-one (search needs) (fit-one (search needs) (fit-one (search needs) (fit-one (search needs) fit-none))))))
-    ∙ ap inRange (sym (c .before .before .command5 .given .1))
+    ap₂ (λ (s r : Bool). s && r) (c .before .site-ok .ensures) (c .range-ok .ensures)
+    ∙ access-in-range _ (search needs) (fit-one (search needs) (fit-one (search needs) (fit-one (search needs) (fit-one (search needs) fit-none))))
+    ∙ ap inRange (sym (c .before .before .before .command5 .given .1))
 
 returns-8 : tie.Need-returns-8
 unfolding formOf codeOf widthsOf operandsOk
@@ -55,6 +55,7 @@ in-range-spec =
     (λ c. search needs)
     (λ c. search needs)
     (λ c. search needs)
+    (λ c κs. tt)
     (λ c κs. tt)
     (λ c. search needs)
     returns

@@ -39,20 +39,32 @@ returns-9 : tie.Need-returns-9
 returns-9 c = read-accepted _ _ (c .before .decode-access .ensures) (c .accept5 .ensures)
 
 returns-10 : tie.Need-returns-10
-returns-10 c =
-    let r = c .before .match .rest in
-    let tested = c .if2 .taken in
-    read-not _ _ 2 _
-    (decode-unknown _ _ (record { within = c .before .before .before .if1 .left; byte = refl })
-    (no-form (r .0 .0 .0 .0 .0 .0 .1) (r .0 .0 .0 .0 .0 .1) (r .0 .0 .0 .0 .1) (r .0 .0 .0 .1) (r .0 .0 .1) (r .0 .1) (r .1) (λ low high. omega arith)))
+returns-10 c = read-accepted _ _ (c .before .decode-wide-access .ensures) (c .accept6 .ensures)
 
 returns-11 : tie.Need-returns-11
 returns-11 c =
-    let r = c .before .before .match .rest in
-    let tested = c .if3 .left in
+    let r = c .before .match .rest in
+    let below = c .if2 .taken in
     read-not _ _ 2 _
-    (decode-unknown _ _ (record { within = c .before .before .before .before .if1 .left; byte = refl })
-    (no-form (r .0 .0 .0 .0 .0 .0 .1) (r .0 .0 .0 .0 .0 .1) (r .0 .0 .0 .0 .1) (r .0 .0 .0 .1) (r .0 .0 .1) (r .0 .1) (r .1) (λ low high. omega arith)))
+    (decode-unknown _ _ (record { within = c .before .before .before .if1 .left; byte = refl })
+    (no-form (r .0 .0 .0 .0 .0 .0 .1) (r .0 .0 .0 .0 .0 .1) (r .0 .0 .0 .0 .1) (r .0 .0 .0 .1) (r .0 .0 .1) (r .0 .1) (r .1) (λ low high. omega arith) (λ low high. omega arith)))
+
+returns-12 : tie.Need-returns-12
+returns-12 c =
+    let r = c .before .before .before .match .rest in
+    let below = c .if4 .taken in
+    let above = c .before .if3 .left in
+    read-not _ _ 2 _
+    (decode-unknown _ _ (record { within = c .before .before .before .before .before .if1 .left; byte = refl })
+    (no-form (r .0 .0 .0 .0 .0 .0 .1) (r .0 .0 .0 .0 .0 .1) (r .0 .0 .0 .0 .1) (r .0 .0 .0 .1) (r .0 .0 .1) (r .0 .1) (r .1) (λ low high. omega arith) (λ low high. omega arith)))
+
+returns-13 : tie.Need-returns-13
+returns-13 c =
+    let r = c .before .before .before .before .match .rest in
+    let above = c .if5 .left in
+    read-not _ _ 2 _
+    (decode-unknown _ _ (record { within = c .before .before .before .before .before .before .if1 .left; byte = refl })
+    (no-form (r .0 .0 .0 .0 .0 .0 .1) (r .0 .0 .0 .0 .0 .1) (r .0 .0 .0 .0 .1) (r .0 .0 .0 .1) (r .0 .0 .1) (r .0 .1) (r .1) (λ low high. omega arith) (λ low high. omega arith)))
 
 pub read-command-spec : {M : Type 1} → statement M
 read-command-spec =
@@ -73,6 +85,8 @@ read-command-spec =
     (λ c κs. tt)
     (λ c κs. search needs)
     (λ c κs. tt)
+    (λ c κs. search needs)
+    (λ c κs. tt)
     returns-2
     returns-3
     returns-4
@@ -82,4 +96,6 @@ read-command-spec =
     returns-8
     returns-9
     returns-10
-    returns-11)
+    returns-11
+    returns-12
+    returns-13)

@@ -1,15 +1,15 @@
+-- `bundle::scan::differ` meets its contract. Assumes nothing.
+use Rattle.bundle.specs.Scan.{differs}
 use Rattle.bundle.proofs.scan.differ.Statement.{statement}
 use Rattle.bundle.proofs.scan.differ.Tie as tie
-use Rattle.bundle.proofs.scan.differ.Reads as reads
-use Rattle.bundle.proofs.scan.differ.Lts as lts
 
--- src/scan.rt:257:1
 returns : tie.Need-returns
-returns c = ?
+unfolding differs
+returns c = rw (c .if1 .taken)
 
--- src/scan.rt:257:1
 returns-2 : tie.Need-returns-2
-returns-2 c = ?
+unfolding differs
+returns-2 c = rw (c .if1 .left)
 
 pub differ-spec : {M : Type 1} → statement M
 differ-spec = tie.close (tie.spec returns returns-2)

@@ -2,7 +2,7 @@
 use mathlib.Core.Path.{refl, sym, _∙_}
 use borrow.Author.Needs.{needs}
 use Rattle.bundle.specs.Scan.{isMember, misplaced, aboveOwnTeam, misusesLock, opensSegment, addsAccess}
-use Rattle.bundle.proofs.Stepping.{tested, beyond-range, many-accesses, after-access}
+use Rattle.bundle.proofs.Stepping.{tested, other-group, beyond-range, many-accesses, after-access}
 use Rattle.bundle.proofs.scan.test_access.Statement.{statement}
 use Rattle.bundle.proofs.scan.test_access.Tie as tie
 
@@ -12,10 +12,11 @@ returns c =
     c .decide .ensures
     ∙ tested _ _ _
     refl
+    (other-group _ _ (c .before .before .before .differ .ensures))
     (beyond-range _ (c .before .before .in-range .ensures))
     refl
-    (sym (many-accesses _ _ (c .before .before .before .before .before .before .pre) refl refl))
-    (λ _ _. after-access _ _ (c .before .before .before .before .count .ensures))
+    (sym (many-accesses _ _ (c .before .before .before .before .before .before .before .before .pre) refl refl))
+    (λ _ _. after-access _ _ (c .before .before .before .before .before .before .count .ensures))
 
 pub test-access-spec : {M : Type 1} → statement M
-test-access-spec = tie.close (tie.spec (λ c κs. search needs) (λ c κs. tt) (λ c. search needs) (λ c κs. tt) returns)
+test-access-spec = tie.close (tie.spec (λ c κs. search needs) (λ c κs. tt) (λ c κs. tt) (λ c. search needs) (λ c κs. tt) returns)

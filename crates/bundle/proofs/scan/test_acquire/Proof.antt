@@ -1,16 +1,17 @@
 -- `bundle::scan::test_acquire` meets its contract. Assumes nothing.
 use mathlib.Core.Path.{refl, sym, _∙_}
 use borrow.Author.Needs.{needs}
-use Rattle.bundle.specs.Scan.{isMember, misplaced, aboveOwnTeam, misusesLock, opensSegment, addsAccess}
+use Rattle.bundle.specs.Scan.{isMember, misplaced, ofOtherGroup, aboveOwnTeam, misusesLock, opensSegment, addsAccess}
 use Rattle.bundle.proofs.Stepping.{tested, beyond-range, many-none, after-acquire}
 use Rattle.bundle.proofs.scan.test_acquire.Statement.{statement}
 use Rattle.bundle.proofs.scan.test_acquire.Tie as tie
 
 returns : tie.Need-returns
-unfolding misplaced isMember aboveOwnTeam misusesLock opensSegment addsAccess
+unfolding misplaced isMember ofOtherGroup aboveOwnTeam misusesLock opensSegment addsAccess
 returns c =
     c .decide .ensures
     ∙ tested _ _ _
+    refl
     refl
     (beyond-range _ (c .before .before .in-range .ensures))
     (c .before .holds-lock .ensures)

@@ -2,16 +2,17 @@
 use mathlib.Core.Path.{refl, sym, _∙_}
 use borrow.Author.Needs.{needs}
 use Rattle.bundle.specs.Commands.{formOf, codeOf, widthsOf, operandsOk, fitWidths, inRange}
-use Rattle.bundle.specs.Scan.{isMember, misplaced, aboveOwnTeam, misusesLock, opensSegment, addsAccess}
+use Rattle.bundle.specs.Scan.{isMember, misplaced, ofOtherGroup, aboveOwnTeam, misusesLock, opensSegment, addsAccess}
 use Rattle.bundle.proofs.Stepping.{tested, many-segments, after-barrier}
 use Rattle.bundle.proofs.scan.test_barrier.Statement.{statement}
 use Rattle.bundle.proofs.scan.test_barrier.Tie as tie
 
 returns : tie.Need-returns
-unfolding formOf codeOf widthsOf operandsOk fitWidths inRange misplaced isMember aboveOwnTeam misusesLock opensSegment addsAccess
+unfolding formOf codeOf widthsOf operandsOk fitWidths inRange misplaced isMember ofOtherGroup aboveOwnTeam misusesLock opensSegment addsAccess
 returns c =
     c .decide .ensures
     ∙ tested _ _ _
+    refl
     refl
     refl
     refl

@@ -2,16 +2,17 @@
 use mathlib.Core.Path.{refl, sym, _∙_}
 use native.Mathlib.Nat.{add-zero}
 use Rattle.bundle.specs.Commands.{formOf, codeOf, widthsOf, operandsOk, fitWidths, inRange}
-use Rattle.bundle.specs.Scan.{isMember, misplaced, aboveOwnTeam, misusesLock, opensSegment, addsAccess, scanned}
+use Rattle.bundle.specs.Scan.{isMember, misplaced, ofOtherGroup, aboveOwnTeam, misusesLock, opensSegment, addsAccess, scanned}
 use Rattle.bundle.proofs.Stepping.{tested, many-none}
 use Rattle.bundle.proofs.scan.test_cut.Statement.{statement}
 use Rattle.bundle.proofs.scan.test_cut.Tie as tie
 
 returns : tie.Need-returns
-unfolding formOf codeOf widthsOf operandsOk fitWidths inRange misplaced isMember aboveOwnTeam misusesLock opensSegment addsAccess scanned
+unfolding formOf codeOf widthsOf operandsOk fitWidths inRange misplaced isMember ofOtherGroup aboveOwnTeam misusesLock opensSegment addsAccess scanned
 returns c =
     c .decide .ensures
     ∙ tested _ _ _
+    refl
     refl
     refl
     refl

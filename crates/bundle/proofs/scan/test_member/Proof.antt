@@ -2,16 +2,17 @@
 use mathlib.Core.Path.{refl, sym, _∙_}
 use native.Mathlib.Nat.{add-zero}
 use borrow.Author.Needs.{needs}
-use Rattle.bundle.specs.Scan.{isMember, misplaced, aboveOwnTeam, misusesLock, opensSegment, addsAccess, scanned}
+use Rattle.bundle.specs.Scan.{isMember, misplaced, ofOtherGroup, aboveOwnTeam, misusesLock, opensSegment, addsAccess, scanned}
 use Rattle.bundle.proofs.Stepping.{tested, beyond-range, many-segments}
 use Rattle.bundle.proofs.scan.test_member.Statement.{statement}
 use Rattle.bundle.proofs.scan.test_member.Tie as tie
 
 returns : tie.Need-returns
-unfolding misplaced isMember aboveOwnTeam misusesLock opensSegment addsAccess scanned
+unfolding misplaced isMember ofOtherGroup aboveOwnTeam misusesLock opensSegment addsAccess scanned
 returns c =
     c .decide .ensures
     ∙ tested _ _ _
+    refl
     refl
     (beyond-range _ (c .before .before .in-range .ensures))
     refl

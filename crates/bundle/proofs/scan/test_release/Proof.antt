@@ -1,17 +1,18 @@
 -- `bundle::scan::test_release` meets its contract. Assumes nothing.
 use mathlib.Core.Path.{refl, sym, ap, _∙_}
 use borrow.Author.Needs.{needs}
-use Rattle.bundle.specs.Scan.{isMember, misplaced, aboveOwnTeam, misusesLock, opensSegment, addsAccess}
+use Rattle.bundle.specs.Scan.{isMember, misplaced, ofOtherGroup, aboveOwnTeam, misusesLock, opensSegment, addsAccess}
 use Rattle.bundle.proofs.Stepping.{tested, beyond-range, many-none, after-release}
 use mathlib.Core.Bool.{not}
 use Rattle.bundle.proofs.scan.test_release.Statement.{statement}
 use Rattle.bundle.proofs.scan.test_release.Tie as tie
 
 returns : tie.Need-returns
-unfolding misplaced isMember aboveOwnTeam misusesLock opensSegment addsAccess
+unfolding misplaced isMember ofOtherGroup aboveOwnTeam misusesLock opensSegment addsAccess
 returns c =
     c .decide .ensures
     ∙ tested _ _ _
+    refl
     refl
     (beyond-range _ (c .before .before .in-range .ensures))
     (ap not (c .before .holds-lock .ensures))
