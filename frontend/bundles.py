@@ -10,14 +10,16 @@ from collections import namedtuple
 from frontend.names import counted
 
 MEMBER, END, CUT, REGION, BARRIER, ACQUIRE, RELEASE = 0x01, 0x02, 0x03, 0x10, 0x11, 0x20, 0x21
-KINDS = {0x30: "read", 0x31: "write", 0x32: "atomic read", 0x33: "atomic write"}
+NARROW = {0x30: "read", 0x31: "write", 0x32: "atomic read", 0x33: "atomic write"}  # with a site of 2 bytes
+WIDE = {code + 8: kind for code, kind in NARROW.items()}  # with a site of 4 bytes
+GROUPS = {"narrow": NARROW, "wide": WIDE}
+KINDS = {**NARROW, **WIDE}
 WORDS = {
     MEMBER: "MEMBER", END: "END", CUT: "CUT", REGION: "REGION", BARRIER: "BARRIER", ACQUIRE: "ACQUIRE", RELEASE: "RELEASE", **KINDS,
 }
-ACCESS_WIDTHS = (2, 4, 2, 2, 1)
 WIDTHS = {
     MEMBER: (2, 1), END: (), CUT: (), REGION: (2, 1), BARRIER: (), ACQUIRE: (1,), RELEASE: (1,),
-    **dict.fromkeys(KINDS, ACCESS_WIDTHS),
+    **dict.fromkeys(NARROW, (2, 4, 2, 2, 1)), **dict.fromkeys(WIDE, (4, 4, 2, 2, 1)),
 }
 CLOSES = (END, CUT)
 LENGTHS = {code: 1 + sum(widths) for code, widths in WIDTHS.items()}
@@ -88,6 +90,12 @@ def commands(data):
             place += width
         yield Command(at, code, tuple(operands))
         at = place
+
+
+def converted_length(data, group):
+    """How many bytes a bundle has once its accesses are in a group, by its word."""
+    access = LENGTHS[min(GROUPS[group])]
+    return sum(access if command.code in KINDS else LENGTHS[command.code] for command in commands(data))
 
 
 class Member:

@@ -21,7 +21,8 @@ programs; this front end walks the tray, runs them, and writes the spreadsheet a
 
 STATUSES = """\
 exit status:
-  0  every build is race-free (list: the bundle is race-free; check, show, graph, canon: it is accepted)
+  0  every build is race-free (list: the bundle is race-free; check, show, graph, canon: it is accepted;
+     convert: it is accepted and was converted)
   1  some build or bundle is not
   2  the job could not be done, or was stopped: there is no verdict, and no file was changed"""
 
@@ -58,6 +59,12 @@ Files are written whole and last: a job that is stopped leaves the old ones as t
 CANON = """\
 example (are these two the same run?):
   ./dezhakom canon ONE --out one.fixed && ./dezhakom canon OTHER --out other.fixed && cmp one.fixed other.fixed"""
+
+CONVERT = """\
+Writes an accepted bundle with all of its accesses in one group: narrow, with sites up to 65,535 in 2 bytes, or wide, with sites in
+4 bytes. The rest is copied, and the verdict stays the same. A bundle that is in that group already, or has no accesses, is copied.
+
+It is refused with 1 if it would have over 65,536 bytes with wide sites, and with 21 if a site does not fit into a narrow command."""
 
 
 def jobs_of(text):
@@ -135,8 +142,11 @@ def parser():
         "Writes an accepted bundle with its chunks by team, then member: two bundles come out as equal bytes exactly when they hold the same chunks.",
         CANON + "\n\n" + STATUSES,
     )
-    canon.add_argument("--out", metavar="OUT", help="the file to write, whole and last (default: standard output)")
-    for made in (listing, check, show, graph, canon):
+    convert = add("convert", "write a bundle with wide or with narrow sites", CONVERT)
+    convert.add_argument("--to", required=True, choices=("wide", "narrow"), help="which sites the result has")
+    for made in (canon, convert):
+        made.add_argument("--out", metavar="OUT", help="the file to write, whole and last (default: standard output)")
+    for made in (listing, check, show, graph, canon, convert):
         made.add_argument("file", metavar="FILE", help=one)
     form = graph.add_mutually_exclusive_group()
     form.add_argument("--svg", metavar="OUT", help="write a picture instead")
@@ -158,6 +168,7 @@ def command_of(options):
         "show": single.show_file,
         "graph": single.graph_file,
         "canon": single.canon_file,
+        "convert": single.convert_file,
     }[options.command]
 
 

@@ -90,16 +90,16 @@ class Programs:
         lacking = [n for n in names if not (os.path.isfile(self.path(n)) and os.access(self.path(n), os.X_OK))]
         if lacking:
             raise CannotDo(
-                f"no program {' and no '.join(self.path(n) for n in lacking)}; build with: rt check judge_build racelist canon"
+                f"no program {' and no '.join(self.path(n) for n in lacking)}; build with: rt check judge_build racelist canon convert"
             )
 
-    def start(self, name, given, folder=None, errors=subprocess.DEVNULL):
+    def start(self, name, given, *arguments, folder=None, errors=subprocess.DEVNULL):
         """Starts a program; given is what it reads: bytes, or an open file."""
         stdin = subprocess.PIPE if isinstance(given, bytes) else given
         for tries in range(MOST_TRIES):
             try:
                 process = subprocess.Popen(
-                    [self.path(name)], stdin=stdin, stdout=subprocess.PIPE, stderr=errors, cwd=folder, bufsize=0
+                    [self.path(name), *arguments], stdin=stdin, stdout=subprocess.PIPE, stderr=errors, cwd=folder, bufsize=0
                 )
                 break
             except OSError as error:
@@ -159,7 +159,7 @@ class Programs:
         """One run over the bundles of a build. Names are bytes, read in the folder; an empty one cannot be read."""
         lines, word = [], None
         try:
-            process = self.start("judge_build", b"".join(n + b"\0" for n in names), folder)
+            process = self.start("judge_build", b"".join(n + b"\0" for n in names), folder=folder)
         except Failed as failure:
             return Run(lines, None, str(failure))
         try:
@@ -235,11 +235,11 @@ class Programs:
             end(process)
         return Listing(races, pairs, refusal)
 
-    # ------------------------------------------------------------------ canon
+    # --------------------------------------------------------- canon, convert
 
-    def rewrite(self, data):
-        """What canon writes of a bundle to standard output, and to standard error."""
-        process = self.start("canon", data, errors=subprocess.PIPE)
+    def rewrite(self, name, data, *arguments):
+        """What canon or convert writes of a bundle to standard output, and to standard error."""
+        process = self.start(name, data, *arguments, errors=subprocess.PIPE)
         deadline = time.monotonic() + self.timeout
         try:
             while True:

@@ -1,6 +1,8 @@
-"""The refusals in plain words: the table of README.md."""
+"""The refusals in plain words: the tables of README.md."""
 
 from collections import namedtuple
+
+from frontend.bundles import MOST_BYTES
 
 Refusal = namedtuple("Refusal", "wrong place advice")
 
@@ -48,6 +50,17 @@ REFUSALS = {
         "its MEMBER",
         "Part of a complete member's log is missing, or a log that was broken off was closed by END: look at the logger.",
     ),
+    20: Refusal(
+        "An access has a wide site, of 4 bytes, where the log's first access has a narrow one, of 2; or the other way round.",
+        "that access",
+        "The log is damaged, or its members were logged with sites of different widths: look at the logger.",
+    ),
+}
+
+# What an accepted bundle cannot be converted for.
+CONVERTING = {
+    1: Refusal("With wide sites it would have over 65,536 bytes.", "0", "Keep it with narrow sites."),
+    21: Refusal("An access has a site over 65,535, which needs 4 bytes.", "that access", "Keep it with wide sites."),
 }
 
 TORN = "It ends inside a member's log: it was torn."
@@ -65,3 +78,10 @@ def in_words(number, place, length):
     if number == 10 and length == 0:
         return NONE_THERE, known.advice
     return known.wrong, known.advice
+
+
+def converting_in_words(number, place, length):
+    """The same where a bundle was to be converted: one that is accepted, or one that is refused by check."""
+    if number in CONVERTING and length <= MOST_BYTES:
+        return CONVERTING[number].wrong, CONVERTING[number].advice
+    return in_words(number, place, length)

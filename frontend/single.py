@@ -1,4 +1,4 @@
-"""The commands for one bundle: list, check, show, graph, canon. Whether it is accepted, and its races, come from a proved program."""
+"""The commands for one bundle: list, check, show, graph, canon, convert. Whether it is accepted, and its races, come from a proved program."""
 
 import html
 import os
@@ -8,7 +8,7 @@ from frontend import bundles
 from frontend.failures import CannotDo, reason_of
 from frontend.names import counted, readable, shell_name
 from frontend.programs import COUNTS_LINE, REFUSED_LINE, Failed, Programs, end
-from frontend.refusals import in_words
+from frontend.refusals import converting_in_words, in_words
 
 
 def read_input(name):
@@ -71,9 +71,9 @@ def verdict_of(options, data):
     raise CannotDo("no verdict: the output of racelist is not whole")
 
 
-def told(refusal, data):
+def told(refusal, data, words=in_words):
     number, place = refusal
-    wrong, advice = in_words(number, place, len(data))
+    wrong, advice = words(number, place, len(data))
     return f"refused {number} at {place}: {wrong} {advice}"
 
 
@@ -159,24 +159,36 @@ def plain_dump(data, place):
     return f"{place:6}  {data[place : place + 16].hex(' ')}{more}"
 
 
-# ---------------------------------------------------------------------- canon
+# ------------------------------------------------------------- canon, convert
 
 
 def canon_file(options):
-    """Writes the bundle with its chunks in the fixed order: to standard output, or whole and last to a file."""
+    """Writes the bundle with its chunks in the fixed order."""
+    return rewrite_file(options, ["canon"], len, in_words)
+
+
+def convert_file(options):
+    """Writes the bundle with its accesses in one group."""
+    return rewrite_file(options, ["convert", options.to], lambda data: bundles.converted_length(data, options.to), converting_in_words)
+
+
+def rewrite_file(options, command, length_of, words):
+    """Writes what a program and its arguments make of a bundle: to standard output, or whole and last to a file. An output is whole
+    if it has the length that such a bundle gives."""
     from frontend.outputs import demand_writable, write_all
 
     if options.out:
         demand_writable([options.out])
     elif sys.stdout.isatty():
         raise CannotDo("a bundle is no text for a terminal: give --out, or send the output to a file")
-    programs = programs_of(options, "canon")
+    name, *arguments = command
+    programs = programs_of(options, name)
     data = read_input(options.file)
     try:
-        written, said = programs.rewrite(data)
+        written, said = programs.rewrite(name, data, *arguments)
     except Failed as failure:
         raise CannotDo(f"nothing was written: {failure}") from failure
-    if written and len(written) == len(data) and not said:
+    if written and len(written) == length_of(data) and not said:
         if options.out:
             write_all([(options.out, written)])
         else:
@@ -185,8 +197,8 @@ def canon_file(options):
         return 0
     found = REFUSED_LINE.fullmatch(said.rstrip(b"\n"))
     if written or not found:
-        raise CannotDo("nothing was written: the output of canon is not whole")
-    sys.stderr.write(told(tuple(map(int, found.groups())), data) + "\n")
+        raise CannotDo(f"nothing was written: the output of {name} is not whole")
+    sys.stderr.write(told(tuple(map(int, found.groups())), data, words) + "\n")
     return 1
 
 

@@ -24,7 +24,7 @@
 extern "C" {
 #endif
 
-#define DEZHAKOM_VERSION "0.3.0"
+#define DEZHAKOM_VERSION "0.4.0"
 
 /* The bytes of the commands. */
 #define DEZHAKOM_MEMBER 0x01       /* team, member: opens a chunk, the whole log of one member of a team */
@@ -34,10 +34,14 @@ extern "C" {
 #define DEZHAKOM_BARRIER 0x11      /* a barrier of the member's own team */
 #define DEZHAKOM_ACQUIRE 0x20      /* lock */
 #define DEZHAKOM_RELEASE 0x21      /* lock */
-#define DEZHAKOM_READ 0x30         /* site, base, stride, count, size: an access, as the three below */
+#define DEZHAKOM_READ 0x30         /* site, base, stride, count, size: an access, as the three below; the site has 2 bytes */
 #define DEZHAKOM_WRITE 0x31
 #define DEZHAKOM_ATOMIC_READ 0x32
 #define DEZHAKOM_ATOMIC_WRITE 0x33
+#define DEZHAKOM_WIDE_READ 0x38    /* the same with a site of 4 bytes; all accesses of a bundle are narrow, or all are wide */
+#define DEZHAKOM_WIDE_WRITE 0x39
+#define DEZHAKOM_WIDE_ATOMIC_READ 0x3a
+#define DEZHAKOM_WIDE_ATOMIC_WRITE 0x3b
 
 /* Limits. What passes one of them is refused with the number beside it. */
 #define DEZHAKOM_MOST_BYTES 65536    /* of a bundle: 1 */
@@ -48,9 +52,10 @@ extern "C" {
 #define DEZHAKOM_MOST_MEMBERS 64     /* of a team; members are numbered from 0: 5 */
 #define DEZHAKOM_MOST_DEPTH 4        /* of nested teams, below the root: 11 */
 #define DEZHAKOM_MOST_LOCKS 64       /* locks are numbered from 0: 5 */
-#define DEZHAKOM_MOST_SITE 65535     /* the highest site: 5 */
+#define DEZHAKOM_MOST_SITE 65535     /* the highest site of a narrow access: 5 */
+#define DEZHAKOM_MOST_WIDE_SITE 4294967295 /* the highest site of a wide one: every number of 32 bits is a site */
 #define DEZHAKOM_MOST_TRIPLES 5      /* of a label: 15 */
-#define DEZHAKOM_COMMAND_BYTES 12    /* the length of the longest command */
+#define DEZHAKOM_COMMAND_BYTES 14    /* the length of the longest command */
 #define DEZHAKOM_WORK_WORDS 16384    /* the least length of a work area, in words of 32 bits: 13 */
 #define DEZHAKOM_NAME_WORDS 2        /* the words of 64 bits in a listing's names, for each access */
 
@@ -75,7 +80,9 @@ typedef enum dezhakom_refusal {
     DEZHAKOM_UNEQUAL_SPANS = 16,       /* the first triples that differ have unequal spans; the triple, from 0 */
     DEZHAKOM_DOES_NOT_FIT = 17,        /* a command does not fit into the buffer; the position */
     DEZHAKOM_PAST_END = 18,            /* the position is at or past the end; the position */
-    DEZHAKOM_CUT_AHEAD = 19            /* a cut chunk has more barriers than a complete member of its team; its offset */
+    DEZHAKOM_CUT_AHEAD = 19,           /* a cut chunk has more barriers than a complete member of its team; its offset */
+    DEZHAKOM_OTHER_GROUP = 20,         /* an access is wide and the bundle's first narrow, or the other way round; its offset */
+    DEZHAKOM_SITE_TOO_LARGE = 21       /* a site over 65,535 where narrow ones are wanted; the access's offset; by no function here */
 } dezhakom_refusal;
 
 /* What comparing two labels answers: the first segment against the second. */
@@ -89,11 +96,11 @@ typedef enum dezhakom_order {
 /* A command. What a command does not have is 0 when it is read, and is not looked at when it is put.
  * An access touches the bytes base + k * stride + j, with k below count and j below size. */
 typedef struct dezhakom_command {
-    uint32_t byte; /* DEZHAKOM_MEMBER .. DEZHAKOM_ATOMIC_WRITE */
+    uint32_t byte; /* DEZHAKOM_MEMBER .. DEZHAKOM_WIDE_ATOMIC_WRITE */
     uint32_t team; /* of a MEMBER, or that a REGION forks */
     uint32_t member;
     uint32_t lock;
-    uint32_t site; /* a number for the source line */
+    uint32_t site; /* a number for the source line; of a narrow access at most DEZHAKOM_MOST_SITE */
     uint32_t base;
     uint32_t stride; /* 0 exactly where the count is 1 */
     uint32_t count;
@@ -162,7 +169,7 @@ uint32_t dezhakom_put_command(const dezhakom_command *command, uint8_t *buffer, 
                               size_t *place);
 
 /* Whether the bytes are a bundle: 0 where they are.
- * Refused with 1, then with 2 to 7 at the first command that fails, then with the lowest of 8 to 12 and 19. */
+ * Refused with 1, then with 2, 3, 4, 20, 5, 6 or 7 at the first command that fails, then with the lowest of 8 to 12 and 19. */
 uint32_t dezhakom_check(const uint8_t *bytes, size_t length, size_t *place);
 
 /* Where the chunk of a member stands in a bundle: from start, its MEMBER, up to end, behind its END or CUT.

@@ -4,7 +4,8 @@ and pairs of ranges aimed at the elements that cover their lowest shared byte.
 Each case is a title, the refusal's number (None if accepted) and the bundle
 as text, with * at the place of the refusal; one that is accepted has its
 chunks, segments and accesses. All these numbers are taken from document 01
-by hand, and those of cut chunks and of elements from document 02.
+by hand, and those of cut chunks, of wide sites and of elements from
+document 02.
 """
 
 from collections import namedtuple
@@ -96,6 +97,7 @@ UNKNOWN = [
     Case("inside a chunk", 2, "member 0 0; barrier; *raw 05; end"),
     Case("behind a good bundle", 2, "member 0 0; end; *raw ff"),
     Case("2 before 3: nothing follows", 2, "member 0 0; *raw 34"),
+    Case("behind the narrow accesses", 2, "member 0 0; read 1 0 0 1 1; *raw 37; end"),
     Case("2 before 4: outside a chunk", 2, "*raw 12; end"),
     Case("2 at a lower offset than 3", 2, "member 0 0; *raw 22; torn 1 acquire 1"),
     Case("2 at a lower offset than 4", 2, "member 0 0; *raw 2f"),
@@ -471,6 +473,124 @@ CUT_TOO_MANY = [
     Case("ending before 19", 4, "member 1 1; barrier; cut; member 0 0; region 1 2; end; member 1 0; *"),
 ]
 
+# -------------------------------------------------------------- wide sites
+
+# E with 4-byte sites, one of them above 65,535.
+E_WIDE = """
+member 0 0; region 1 2; end
+member 1 0; wide-write 70000 4096 8 2 4; barrier; end
+member 1 1; wide-read 20 4106 0 1 4; barrier; end
+"""
+
+E_WIDE_BYTES = bytes.fromhex(
+    "01 00 00 00 10 01 00 02 02"
+    "01 01 00 00 39 70 11 01 00 00 10 00 00 08 00 02 00 04 11 02"
+    "01 01 00 01 38 14 00 00 00 0a 10 00 00 00 00 01 00 04 11 02"
+)
+
+KINDS = ("read", "write", "atomic-read", "atomic-write")
+WIDE_ACCESS = "wide-read 1 0 0 1 1"
+WIDE_FULL_BYTES = "member 0 0; times 1024 wide-write 4294967295 0 0 1 1; times 3 barrier; times 12798 acquire 1, release 1"  # 65,535
+
+WIDE_ACCEPTED = [
+    Case("E with wide sites", None, E_WIDE, (3, 6, 2)),
+    *[Case(f"wide {kind}, site {site}", None, f"member 0 0; wide-{kind} {site} 0 0 1 1; end", (1, 1, 1))
+      for kind, site in zip(KINDS, (0, 65535, 65536, 4294967295))],
+    Case("narrow, site 65,535", None, "member 0 0; atomic-write 65535 0 0 1 1; end", (1, 1, 1)),
+    Case("all kinds of wide accesses", None, "member 0 0; " + "; ".join(f"wide-{kind} 9 0 0 1 1" for kind in KINDS) + "; end", (1, 1, 4)),
+    Case("wide accesses in several chunks, the root last", None,
+         "member 1 1; wide-read 65536 0 0 1 1; cut; member 1 0; wide-write 0 0 0 1 1; end; member 0 0; region 1 2; "
+         "wide-read 4294967295 0 0 1 1; end", (3, 4, 3)),
+    Case("wide, last byte 4,294,967,295", None, "member 0 0; wide-write 65536 4294967288 0 1 8; end", (1, 1, 1)),
+    Case("exactly 65,536 bytes, wide", None, WIDE_FULL_BYTES + "; end", (1, 4, 1024)),
+    Case("exactly 1,024 wide accesses", None, f"member 0 0; times 1024 {WIDE_ACCESS}; barrier; end", (1, 2, 1024)),
+]
+
+WIDE_TORN = [
+    *[Case(f"wide access torn after {length}", 3, f"member 0 0; *torn {length} wide-{kind} 1 0 0 1 1")
+      for length, kind in ((1, "read"), (2, "write"), (4, "atomic-read"), (12, "atomic-write"), (13, "read"))],
+    *[Case(f"the unknown byte {byte:#x} behind a wide access", 2, f"member 0 0; {WIDE_ACCESS}; *raw {byte:x}; end") for byte in (0x34, 0x37, 0x3C)],
+    Case("3 before 4: wide access outside a chunk", 3, "*torn 13 wide-write 1 0 0 1 1"),
+    Case("3 before 20: narrow access torn", 3, f"member 0 0; {WIDE_ACCESS}; *torn 11 {ACCESS}"),
+    Case("3 before 20: wide access torn", 3, f"member 0 0; {ACCESS}; *torn 13 {WIDE_ACCESS}"),
+    Case("3 before 20 and 5: wide access torn, count 0", 3, f"member 0 0; {ACCESS}; *torn 13 wide-read 1 0 0 0 1"),
+    Case("3 before 7: the 1,025th wide access cut off", 3, f"member 0 0; times 1024 {WIDE_ACCESS}; *torn 13 {WIDE_ACCESS}"),
+]
+
+WIDE_MISPLACED = [
+    *[Case(f"wide {kind} outside", 4, f"*wide-{kind} 1 0 0 1 1; member 0 0; end") for kind in KINDS],
+    Case("4 before 20: wide behind a narrow chunk", 4, f"member 0 0; {ACCESS}; end; *{WIDE_ACCESS}"),
+    Case("4 before 20: narrow behind a wide chunk", 4, f"member 0 0; {WIDE_ACCESS}; cut; *{ACCESS}"),
+    Case("4 before 20 and 5: wide with size 3 behind a narrow chunk", 4, f"member 0 0; {ACCESS}; end; *wide-write 1 0 0 1 3"),
+    Case("4 before 20: MEMBER inside, behind a wide access", 4, f"member 0 0; {WIDE_ACCESS}; *member 0 0; {ACCESS}; end"),
+    Case("4 at a lower offset than 20", 4, f"*{ACCESS}; member 0 0; {WIDE_ACCESS}; end"),
+    Case("20 at a lower offset than 4 outside a chunk", 20, f"member 0 0; {ACCESS}; *{WIDE_ACCESS}; end; end"),
+]
+
+WIDE_OUT_OF_RANGE = [
+    Case("wide, count 0", 5, "member 0 0; *wide-read 1 0 0 0 1; end"),
+    Case("wide, stride 0 with count 2", 5, "member 0 0; *wide-write 1 0 0 2 1; end"),
+    Case("wide, stride 1 with count 1", 5, "member 0 0; *wide-atomic-read 65536 0 1 1 1; end"),
+    Case("wide, size 3", 5, "member 0 0; *wide-atomic-write 4294967295 0 0 1 3; end"),
+    Case("wide, last byte 4,294,967,296", 5, "member 0 0; *wide-write 1 4294967295 0 1 2; end"),
+    Case("5 by the first access, then the other group", 5, f"member 0 0; *wide-read 1 0 0 1 3; {ACCESS}; end"),
+    Case("5 at a lower offset than 20", 5, f"member 0 0; {WIDE_ACCESS}; *acquire 64; {ACCESS}; end"),
+    Case("5 by an access of the right group, then 20", 5, f"member 0 0; {WIDE_ACCESS}; *wide-write 1 0 0 1 3; {ACCESS}; end"),
+    Case("5 before 7: the 1,025th wide access with size 3", 5, f"member 0 0; times 1024 {WIDE_ACCESS}; *wide-read 1 0 0 1 3; end"),
+]
+
+OTHER_GROUP = [
+    *[Case(f"wide {kind} behind narrow {other}", 20, f"member 0 0; {other} 1 0 0 1 1; *wide-{kind} 1 0 0 1 1; end")
+      for kind, other in zip(KINDS, reversed(KINDS))],
+    *[Case(f"narrow {kind} behind wide {other}", 20, f"member 0 0; wide-{other} 1 0 0 1 1; *{kind} 1 0 0 1 1; end")
+      for kind, other in zip(KINDS, KINDS)],
+    Case("one wide among narrow ones", 20, f"member 0 0; {ACCESS}; {ACCESS}; *{WIDE_ACCESS}; {ACCESS}; end"),
+    Case("one narrow among wide ones", 20, f"member 0 0; {WIDE_ACCESS}; {WIDE_ACCESS}; *{ACCESS}; {WIDE_ACCESS}; end"),
+    Case("the first one alone is wide", 20, f"member 0 0; {WIDE_ACCESS}; *{ACCESS}; {ACCESS}; end"),
+    Case("two of the other group, the lower offset", 20, f"member 0 0; {ACCESS}; *{WIDE_ACCESS}; {WIDE_ACCESS}; end"),
+    Case("in another chunk, narrow first", 20,
+         f"member 0 0; region 1 1; {ACCESS}; end; member 1 0; *{WIDE_ACCESS}; end"),
+    Case("in another chunk, the root last", 20,
+         f"member 1 0; {WIDE_ACCESS}; end; member 0 0; region 1 1; *{ACCESS}; end"),
+    Case("in another chunk, wide first", 20,
+         f"member 0 0; region 1 1; {WIDE_ACCESS}; end; member 1 0; *{ACCESS}; end"),
+    Case("the first access stands in the second chunk", 20,
+         f"member 0 0; region 1 2; end; member 1 1; {WIDE_ACCESS}; end; member 1 0; *{ACCESS}; {ACCESS}; end"),
+    Case("each chunk has one group", 20,
+         f"member 0 0; region 1 2; end; member 1 0; {ACCESS}; {ACCESS}; end; member 1 1; *{WIDE_ACCESS}; {WIDE_ACCESS}; end"),
+    Case("a cut chunk between", 20,
+         f"member 0 0; region 1 2; {ACCESS}; cut; member 1 0; cut; member 1 1; *{WIDE_ACCESS}; cut"),
+    Case("behind a barrier, a region and locks", 20,
+         f"member 0 0; acquire 1; {WIDE_ACCESS}; barrier; region 1 1; release 1; *{ACCESS}; end; member 1 0; end"),
+    Case("site 0 too", 20, f"member 0 0; {ACCESS}; *wide-read 0 0 0 1 1; end"),
+    Case("20 before 5: wide, count 0", 20, f"member 0 0; {ACCESS}; *wide-read 1 0 0 0 1; end"),
+    Case("20 before 5: wide, size 3", 20, f"member 0 0; {ACCESS}; *wide-atomic-write 65536 0 0 1 3; end"),
+    Case("20 before 5: narrow, stride 0 with count 2", 20, f"member 0 0; {WIDE_ACCESS}; *write 1 0 0 2 1; end"),
+    Case("20 before 5: narrow, last byte 4,294,967,296", 20, f"member 0 0; {WIDE_ACCESS}; *read 1 4294967295 0 1 2; end"),
+    Case("20 before 7: the 1,025th access is wide", 20, f"member 0 0; times 1024 {ACCESS}; *{WIDE_ACCESS}; end"),
+    Case("20 before 7: the 1,025th access is narrow", 20, f"member 0 0; times 1024 {WIDE_ACCESS}; *{ACCESS}; end"),
+    Case("20 before 5 and 7", 20, f"member 0 0; times 1024 {WIDE_ACCESS}; *read 1 0 0 1 3; end"),
+    Case("20 at a lower offset than 2", 20, f"member 0 0; {ACCESS}; *{WIDE_ACCESS}; raw 34"),
+    Case("20 at a lower offset than 3", 20, f"member 0 0; {ACCESS}; *{WIDE_ACCESS}; torn 1 acquire 1"),
+    Case("20 at a lower offset than 4", 20, f"member 0 0; {ACCESS}; *{WIDE_ACCESS}"),
+    Case("20 at a lower offset than 5", 20, f"member 0 0; {WIDE_ACCESS}; *{ACCESS}; acquire 64; end"),
+    Case("20 at a lower offset than 6", 20, f"member 0 0; {WIDE_ACCESS}; *{ACCESS}; release 3; end"),
+    Case("20 at a lower offset than 7", 20, f"member 0 0; {WIDE_ACCESS}; *{ACCESS}; times 512 barrier; end"),
+    Case("6 at a lower offset than 20", 6, f"member 0 0; {WIDE_ACCESS}; *release 3; {ACCESS}; end"),
+    Case("7 at a lower offset than 20", 7, f"member 0 0; {WIDE_ACCESS}; times 511 barrier; *barrier; {ACCESS}; end"),
+    Case("20 before 8 to 12 and 19 at lower offsets", 20,
+         f"member 0 1; region 1 2; region 1 2; {ACCESS}; end; member 1 0; barrier; cut; member 1 1; *{WIDE_ACCESS}; end"),
+    Case("20 and no root chunk", 20, f"member 3 0; {WIDE_ACCESS}; *{ACCESS}; end"),
+]
+
+WIDE_TOO_MANY = [
+    *[Case(f"1,025th access by wide {kind}", 7, f"member 0 0; times 1024 {WIDE_ACCESS}; *wide-{kind} 1 0 0 1 1; end") for kind in KINDS],
+    Case("65,537 good bytes, wide", 1, "*" + WIDE_FULL_BYTES + "; barrier; end"),
+    Case("1 before 20", 1, "*" + WIDE_FULL_BYTES.replace("0 0; ", f"0 0; {ACCESS}; ", 1) + "; end"),
+]
+
+WIDE_REFUSED = WIDE_TORN + WIDE_MISPLACED + WIDE_OUT_OF_RANGE + OTHER_GROUP + WIDE_TOO_MANY
+
 REFUSED = (
     TOO_LONG + UNKNOWN + TORN + MISPLACED + OUT_OF_RANGE + LOCKS
     + TOO_MANY + FORKED_BEFORE + STRAY + LACKING + TOO_DEEP + BARRIERS
@@ -540,8 +660,11 @@ LONG_RANGES = [
 OVERLAPS = SHORT_RANGES + LONG_RANGES
 
 
-def check_cases():
-    """All cases as (title, number, place, bytes)."""
-    for case in ACCEPTED + CUT_ACCEPTED + REFUSED:
+NARROW_CASES, WIDE_CASES = ACCEPTED + CUT_ACCEPTED + REFUSED, WIDE_ACCEPTED + WIDE_REFUSED
+
+
+def check_cases(cases=NARROW_CASES + WIDE_CASES):
+    """The cases as (title, number, place, bytes)."""
+    for case in cases:
         data, place = assemble(case.text)
         yield case.title, case.number, place, data

@@ -203,7 +203,7 @@ def told_by_races(datas):
 
 @lru_cache(maxsize=2)
 def scanned(data):
-    """The refusal with 1 to 7, or the chunks."""
+    """The refusal with 1 to 7 or 20, or the chunks."""
     if len(data) > sr.MOST_BYTES:
         return (1, 0), None
     try:
@@ -343,7 +343,7 @@ def held_refused(data):
     right = refusal_by(data)
     number, place = right or (0, 0)
     position, held = 0, set()
-    while position < (place if 1 <= number <= 7 else len(data)):  # up to there it is good
+    while position < (place if 1 <= number <= 7 or number == 20 else len(data)):  # up to there it is good
         command, after = sr.take_command(data, position)
         if command.code == sr.CUT and held:
             return 6, position

@@ -17,10 +17,11 @@ from second_reader import Command
 # far: whether some ranges are long or at the end of memory; dense: whether
 # ranges have many elements, most of which overlap each other; around:
 # whether locks are acquired just before a REGION and released behind it;
-# cuts: one bundle in so many has cut chunks, 0 standing for none.
+# cuts: one bundle in so many has cut chunks, 0 standing for none; wides:
+# one bundle in so many has wide accesses, 0 standing for none.
 Style = namedtuple(
-    "Style", "depth sizes regions barriers actions locks addresses far segments accesses dense around cuts",
-    defaults=[False, False, 5])
+    "Style", "depth sizes regions barriers actions locks addresses far segments accesses dense around cuts wides",
+    defaults=[False, False, 5, 4])
 
 SMALL = Style(2, (1, 2, 2), 1, 1, 2, 2, 6, False, 14, 8)
 MIDDLE = Style(4, (1, 2, 2, 3), 2, 2, 3, 3, 12, False, 60, 80)
@@ -164,6 +165,8 @@ def far_range(rng):
 
 def random_chunks(rng, style):
     chunks = Maker(rng, style).make()
+    if style.wides and rng.randrange(style.wides) == 0:
+        chunks = widened(rng, chunks)
     return with_cuts(rng, chunks) if style.cuts and rng.randrange(style.cuts) == 0 else chunks
 
 
@@ -193,6 +196,40 @@ def all_orders(chunks):
 def random_bundle(rng, style):
     """A good bundle in a random order of its chunks."""
     return bundle_bytes(shuffled(rng, random_chunks(rng, style)))
+
+
+# -------------------------------------------------------------- wide sites
+
+EDGES_OF_SITES = (0, 65535, 65536, 4294967295)
+
+
+def wide_site(rng):
+    return rng.choice((*EDGES_OF_SITES, rng.randrange(2**32), rng.randrange(2**32), rng.randrange(2**17), rng.randrange(2**16)))
+
+
+def in_group(group, command):
+    """The access of the same kind in a group; other commands stay as they are."""
+    return Command(sr.code_in(group, command.code), command.operands)
+
+
+def widened(rng, chunks, site=wide_site):
+    """With wide accesses; about half of them have another site."""
+    def wide(command):
+        if command.code not in sr.ACCESSES:
+            return command
+        kept, *touched = command.operands
+        return in_group(sr.WIDE, Command(command.code, (site(rng) if rng.randrange(2) else kept, *touched)))
+    return [[wide(command) for command in chunk] for chunk in chunks]
+
+
+def some_widened(rng, chunks):
+    """One bundle in four with wide accesses."""
+    return widened(rng, chunks) if rng.randrange(4) == 0 else chunks
+
+
+def group_in(chunks):
+    """The group of the first access; without one, that of narrow accesses."""
+    return next((sr.group_of(c.code) for chunk in chunks for c in chunk if c.code in sr.ACCESSES), sr.NARROW)
 
 
 # -------------------------------------------------------------- cut chunks
@@ -289,7 +326,7 @@ class StoppedRun:
 
 
 def stopped_run(rng):
-    return StoppedRun(rng).make()
+    return some_widened(rng, StoppedRun(rng).make())
 
 
 def stopped_run_bundle(rng):
@@ -394,7 +431,7 @@ class LockedNest:
 
 
 def locked_nest(rng):
-    return LockedNest(rng).make()
+    return some_widened(rng, LockedNest(rng).make())
 
 
 def locked_nest_bundle(rng):
@@ -443,10 +480,12 @@ def fill_bytes(chunks, missing):
 def full_bundle(rng, style=LARGE, segments=512, accesses=1024, length=65536):
     """A bundle with exactly so many segments, accesses and bytes. A length
     of None leaves it as it comes."""
-    chunks = random_chunks(rng, style)
+    chunks = random_chunks(rng, style._replace(wides=0))
     fill_accesses(rng, chunks, accesses, style)
+    if style.wides and rng.randrange(style.wides) == 0:
+        chunks = widened(rng, chunks)
     if length is not None:
-        # All but END and BARRIER come to multiples of 4 bytes.
+        # An empty team leaves one byte more of 4.
         while (length - len(bundle_bytes(chunks)) - segments_missing(chunks, segments)) % 4:
             add_empty_team(chunks)
         fill_bytes(chunks, length - len(bundle_bytes(chunks)) - segments_missing(chunks, segments))
@@ -494,7 +533,7 @@ def damage_chunks(rng, chunks):
     chunks = [list(c) for c in shuffled(rng, chunks)]
     chunk = rng.choice(chunks)
     at = rng.randrange(len(chunk))
-    turn = rng.randrange(8)
+    turn = rng.randrange(9)
     if turn == 0:
         del chunk[at]
     elif turn == 1:
@@ -509,15 +548,32 @@ def damage_chunks(rng, chunks):
         chunks.insert(rng.randint(0, len(chunks)), chunk)
     elif turn == 6:
         chunk[-1] = Command(sr.END if chunk[-1] == CUT else sr.CUT, ())
+    elif turn == 7:
+        change_group(rng, chunks)
     else:
         other = rng.randrange(len(chunk))
         chunk[at], chunk[other] = chunk[other], chunk[at]
     return bundle_bytes(chunks)
 
 
+def change_group(rng, chunks):
+    """Of one access, where there is one; its site is kept as far as it has room."""
+    places = [(chunk, at) for chunk in chunks for at, c in enumerate(chunk) if c.code in sr.ACCESSES]
+    if places:
+        chunk, at = rng.choice(places)
+        chunk[at] = in_other_group(chunk[at])
+
+
+def in_other_group(command):
+    site, *touched = command.operands
+    group = sr.NARROW if command.code in sr.WIDE else sr.WIDE
+    return in_group(group, Command(command.code, (min(site, sr.LAST_NARROW_SITE), *touched)))
+
+
 def random_extra(rng):
     """A command that is often wrong where it is put."""
     return rng.choice((
+        Command(rng.choice(sr.ACCESSES), (rng.choice((0, 65535)), BASE, 0, rng.choice((1, 1, 2)), 1)),
         Command(sr.BARRIER, ()),
         Command(sr.END, ()),
         CUT,
@@ -561,9 +617,44 @@ def unlike_members(rng):
     return shuffled(rng, [root + [Command(sr.END, ())], *chunks])
 
 
+def mixed_groups(rng):
+    """A root and two members, in any order, with accesses of one group but for one or two, which may have bad operands and may stand
+    outside of a chunk or be torn: 20, or 2 to 5 where that is told before it. Answers bytes."""
+    group = rng.choice((sr.NARROW, sr.WIDE))
+    chunks = [[Command(sr.MEMBER, (0, 0)), Command(sr.REGION, (1, 2)), Command(sr.END, ())]]
+    chunks += [[Command(sr.MEMBER, (1, member)), Command(sr.END, ())] for member in range(2)]
+    for _ in range(rng.randint(1, 4)):
+        put_anywhere(rng, chunks, Command(rng.choice(group), (rng.choice((0, 65535)), BASE, 0, 1, 1)))
+    for _ in range(rng.randint(1, 2)):
+        code = rng.choice(sr.NARROW if group == sr.WIDE else sr.WIDE)
+        put_anywhere(rng, chunks, Command(code, (7, BASE, 0, rng.choice((1, 1, 2)), 1)))
+    chunks = shuffled(rng, chunks)
+    if rng.randrange(6) == 0:
+        chunks.insert(rng.randint(0, 3), [Command(rng.choice(sr.ACCESSES), (7, BASE, 0, rng.choice((1, 2)), 1))])
+    data = bundle_bytes(chunks)
+    return data[: rng.randrange(len(data))] if rng.randrange(6) == 0 else data
+
+
+def put_anywhere(rng, chunks, command):
+    """Inside one of the chunks."""
+    chunk = rng.choice(chunks)
+    chunk.insert(rng.randint(1, len(chunk) - 1), command)
+
+
+def mostly_full(rng, kinds=sr.ACCESSES):
+    """1,023 to 1,025 accesses of one group and one of either, good or bad: accepted, 20, 5 or 7. Answers bytes."""
+    group = rng.choice((sr.NARROW, sr.WIDE))
+    accesses = [Command(group[0], (7, BASE, 0, 1, 1))] * rng.randint(1022, 1024)
+    last = Command(rng.choice(kinds), (7, BASE, 0, rng.choice((1, 1, 2)), 1))
+    return bundle_bytes([[Command(sr.MEMBER, (0, 0)), *accesses, last, Command(sr.END, ())]])
+
+
 def damaged_bundle(rng, style):
-    if rng.randrange(8) == 0:
+    turn = rng.randrange(16)
+    if turn < 2:
         return bundle_bytes(unlike_members(rng))
+    if turn == 2:
+        return mixed_groups(rng)
     chunks = random_chunks(rng, style)
     if rng.randrange(2):
         return damage_chunks(rng, chunks)

@@ -9,6 +9,7 @@ import second_reader as sr
 from second_reader import Command
 
 LENGTHS = {0x01: 4, 0x02: 1, 0x03: 1, 0x10: 4, 0x11: 1, 0x20: 2, 0x21: 2, 0x30: 12, 0x31: 12, 0x32: 12, 0x33: 12}
+LENGTHS |= dict.fromkeys((0x38, 0x39, 0x3A, 0x3B), 14)
 END, CUT, BARRIER = Command(sr.END, ()), Command(sr.CUT, ()), Command(sr.BARRIER, ())
 FREE_LOCK = 62
 FREE_TEAM = 65000
@@ -57,14 +58,24 @@ def locks_held(chunk, at):
     return held
 
 
-# ------------------------------------------------------------------ 2 to 6
+def accesses_of(chunks):
+    """(chunk index, place in it) of each access, in the order of the bytes."""
+    return [(index, at) for index, chunk in enumerate(chunks) for at, c in enumerate(chunk) if 0x30 <= c.code <= 0x3B]
+
+
+def is_wide(chunks):
+    """Whether the accesses are wide; None where there are none."""
+    return next((chunks[index][at].code >= 0x38 for index, at in accesses_of(chunks)), None)
+
+
+# ------------------------------------------------------------ 2 to 6, and 20
 
 
 def unknown_byte(rng, chunks):
     index, at = any_place(rng, chunks)
     place = offset(chunks, index, at)
     data = written(chunks)
-    return data[:place] + bytes([rng.choice((0x00, 0x05, 0x0F, 0x12, 0x22, 0x2F, 0x34, 0xFF))]) + data[place:], 2, place
+    return data[:place] + bytes([rng.choice((0x00, 0x05, 0x0F, 0x12, 0x22, 0x2F, 0x34, 0x37, 0x3C, 0xFF))]) + data[place:], 2, place
 
 
 def torn_in_command(rng, chunks):
@@ -88,21 +99,49 @@ def member_inside(rng, chunks):
 
 def between_chunks(rng, chunks):
     index = rng.randrange(len(chunks) + 1)
-    command = rng.choice((END, CUT, BARRIER, Command(sr.REGION, (0, 0)), Command(sr.RELEASE, (64,)), Command(sr.READ, (0, 0, 0, 0, 3))))
+    access = Command(rng.choice(sr.ACCESSES), (0, 0, 0, 0, 3))  # of either group: 4 is told before 20
+    command = rng.choice((END, CUT, BARRIER, Command(sr.REGION, (0, 0)), Command(sr.RELEASE, (64,)), access))
     return written([*chunks[:index], [command], *chunks[index:]]), 4, sum(length(chunk) for chunk in chunks[:index])
 
 
 def out_of_range(rng, chunks):
     index, at = any_place(rng, chunks)
     own = chunks[index][0].operands[0]
+    wide = 8 if is_wide(chunks) else 0
     command = rng.choice((
         Command(sr.REGION, (0, 1)), Command(sr.REGION, (own, 1)), Command(sr.REGION, (FREE_TEAM, 0)),
         Command(sr.REGION, (FREE_TEAM, 65)), Command(sr.ACQUIRE, (64,)), Command(sr.RELEASE, (255,)),
-        Command(sr.READ, (1, 0, 0, 0, 1)), Command(sr.WRITE, (1, 0, 0, 2, 1)), Command(sr.ATOMIC_READ, (1, 0, 1, 1, 1)),
-        Command(sr.ATOMIC_WRITE, (1, 0, 0, 1, 3)), Command(sr.WRITE, (1, 4294967295, 0, 1, 2)),
+        Command(0x30 + wide, (1, 0, 0, 0, 1)), Command(0x31 + wide, (1, 0, 0, 2, 1)), Command(0x32 + wide, (1, 0, 1, 1, 1)),
+        Command(0x33 + wide, (1, 0, 0, 1, 3)), Command(0x31 + wide, (1, 4294967295, 0, 1, 2)),
     ))
     result, place = with_command(chunks, index, at, command)
     return written(result), 5, place
+
+
+def other_group(rng, chunks):
+    """An access of the other group, good or not: told at itself, or where it stands first and is good, at the next access."""
+    if is_wide(chunks) is None:
+        return None
+    index, at = any_place(rng, chunks)
+    good = rng.randrange(2)
+    code = rng.randrange(4) + (0x30 if is_wide(chunks) else 0x38)
+    result, place = with_command(chunks, index, at, Command(code, (65535, 0, 0, 1, 1) if good else (1, 0, 0, 1, 3)))
+    (first, second), *_ = zip(accesses_of(result), accesses_of(result)[1:])
+    if first != (index, at):
+        return written(result), 20, place
+    return written(result), 20 if good else 5, offset(result, *second) if good else place
+
+
+def group_changed(rng, chunks):
+    """An access of several is of the other group: told at itself, or where it is the first, at the next one."""
+    places = accesses_of(chunks)
+    if len(places) < 2:
+        return None
+    index, at = rng.choice(places)
+    code, (site, *touched) = chunks[index][at]
+    command = Command(code - 8 if code >= 0x38 else code + 8, (site % 65536, *touched))
+    result = changed(chunks, index, [*chunks[index][:at], command, *chunks[index][at + 1 :]])
+    return written(result), 20, offset(result, *(places[1] if (index, at) == places[0] else (index, at)))
 
 
 def member_too_high(rng, chunks):
@@ -306,7 +345,8 @@ def unlike_and_too_many(rng, chunks):
 
 
 MAKERS = (
-    unknown_byte, torn_in_command, torn_between_commands, member_inside, between_chunks, out_of_range, member_too_high,
+    unknown_byte, torn_in_command, torn_between_commands, member_inside, between_chunks, out_of_range, other_group, group_changed,
+    member_too_high,
     acquired_twice, released_unheld, held_at_end, forked_twice, never_forked, beyond_size, second_chunk, lacking_chunk,
     unforked_by_lacking_chunk, too_deep, unlike_barriers, unlike_beside_cut, too_many_barriers, too_many_in_two,
     unlike_and_too_many,

@@ -204,11 +204,16 @@ static const char *command_name(uint32_t byte) {
     case DEZHAKOM_WRITE: return "write";
     case DEZHAKOM_ATOMIC_READ: return "atomic-read";
     case DEZHAKOM_ATOMIC_WRITE: return "atomic-write";
+    case DEZHAKOM_WIDE_READ: return "wide-read";
+    case DEZHAKOM_WIDE_WRITE: return "wide-write";
+    case DEZHAKOM_WIDE_ATOMIC_READ: return "wide-atomic-read";
+    case DEZHAKOM_WIDE_ATOMIC_WRITE: return "wide-atomic-write";
     default: return NULL;
     }
 }
 
-/* The fields that a command has, in the order of its operands; answers how many. */
+/* The fields that a command has, in the order of its operands, with their widths in a frame's record, where every site has 4 bytes;
+ * answers how many. */
 static size_t fields_of(dezhakom_command *c, uint32_t **fields, size_t *widths) {
     size_t n = 0;
 #define HAS(field, width) (fields[n] = &c->field, widths[n++] = (width))
@@ -220,7 +225,7 @@ static size_t fields_of(dezhakom_command *c, uint32_t **fields, size_t *widths) 
     case DEZHAKOM_END:
     case DEZHAKOM_CUT:
     case DEZHAKOM_BARRIER: break;
-    default: HAS(site, 2), HAS(base, 4), HAS(stride, 2), HAS(count, 2), HAS(size, 1);
+    default: HAS(site, 4), HAS(base, 4), HAS(stride, 2), HAS(count, 2), HAS(size, 1);
     }
 #undef HAS
     return n;
@@ -272,14 +277,14 @@ static void put(const dezhakom_command *command, body b, size_t position) {
     free(buffer);
 }
 
-/* The record of a frame is a command's bytes. What the command has not is filled with something. */
+/* The record of a frame is a command's byte and operands. What the command has not is filled with something. */
 static void answer_put(body b) {
     dezhakom_command command;
     uint32_t *fields[5];
     size_t widths[5], n, i, position = (size_t)number(&b, 8);
     body record;
-    record.at = take(&b, 12);
-    record.left = 12;
+    record.at = take(&b, 14);
+    record.left = 14;
     memset(&command, UNSET, sizeof command);
     command.byte = number8(&record);
     n = fields_of(&command, fields, widths);

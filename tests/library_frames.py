@@ -11,7 +11,7 @@ import second_reader as sr
 import verdict_cases
 from bundle_cases import listed_bundles, locked_nests, short_aimed_bundles, small_damaged, small_good, stopped_runs
 from bundle_text import bundle
-from command_cases import limit_commands, random_command
+from command_cases import limit_commands, random_command, sites_too_large
 from second_reader import Command
 from vector_frames import (
     ANSWERS, Body, OPERATION_NEXT, answer_all, area_bytes, area_text, frame, number, race_line, refusal_text, split_frames,
@@ -74,12 +74,12 @@ def record_of(command, others):
 def put_record_frames(seed):
     rng = random.Random(seed)
     others = lambda: rng.choice((0, 1, 2**32 - 1))
-    commands = list(limit_commands())
+    commands = [*limit_commands(), *sites_too_large()]
     for byte in [*range(257), 0x101, 0x131, 2**16 + 1, 2**31, 2**32 - 1, 2**32 - 0x31]:
-        yield put_record_frame(1, record_of(Command(sr.END, ()), 1) | {"byte": byte}, bytes(14))
+        yield put_record_frame(1, record_of(Command(sr.END, ()), 1) | {"byte": byte}, bytes(16))
         yield put_record_frame(3, dict.fromkeys(RECORD, 8) | {"byte": byte}, b"\x77" * rng.choice((0, 3, 4, 20)))
     for command in commands:
-        yield put_record_frame(0, record_of(command, others()), bytes(12))
+        yield put_record_frame(0, record_of(command, others()), bytes(14))
     for _ in range(3000):
         record = record_of(rng.choice((rng.choice(commands), random_command(rng))), others())
         if rng.randrange(2):

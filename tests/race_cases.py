@@ -2,7 +2,7 @@
 
 from collections import namedtuple
 
-from aimed_cases import E, E_LATE_READ, E_STOPPED
+from aimed_cases import E, E_LATE_READ, E_STOPPED, E_WIDE
 
 # elements has two numbers for each race; where it is not given, all are 0
 Listing = namedtuple("Listing", "title text lines elements", defaults=[None])
@@ -539,4 +539,40 @@ HELD_AT_CUT = [
 
 STOPPED = MISSING + CUT_REGIONS + HELD_AT_CUT
 
-ALL = LISTINGS + LONG + LOCKED_AROUND + STOPPED
+# The same pairs of kinds as above, with wide sites.
+WIDE_KINDS = [
+    Listing("wide: " + case.title,
+            pair(*(f"wide-{kind} {site} 64 0 1 4" for kind, site in zip(case.title.split(" and "), (65536, 4294967295)))),
+            NO_RACE if case.lines == NO_RACE else listing("3 4 2", "00000040 1.0.0 65536 1.1.0 4294967295"))
+    for case in KINDS
+]
+
+WIDE = WIDE_KINDS + [
+    Listing("E with wide sites", E_WIDE, listing("3 6 2", "0000100a 1.0.0 70000 1.1.0 20"), [(1, 0)]),
+    Listing("wide, all sites small", E_WIDE.replace("70000", "10"), listing("3 6 2", "0000100a 1.0.0 10 1.1.0 20"), [(1, 0)]),
+    Listing("narrow, site 65,535", pair("write 65535 64 0 1 4", "write 0 64 0 1 4"),
+            listing("3 4 2", "00000040 1.0.0 65535 1.1.0 0")),
+    Listing("wide, sites 65,535 and 65,536", pair("wide-write 65536 64 0 1 4", "wide-read 65535 64 0 1 4"),
+            listing("3 4 2", "00000040 1.0.0 65536 1.1.0 65535")),
+    Listing("wide, low halves alike", pair("wide-write 7 64 0 1 4", "wide-write 65543 64 0 1 4"),
+            listing("3 4 2", "00000040 1.0.0 7 1.1.0 65543")),
+    Listing("wide, high halves alike", pair("wide-write 305397761 64 0 1 4", "wide-write 305397762 64 0 1 4"),
+            listing("3 4 2", "00000040 1.0.0 305397761 1.1.0 305397762")),
+    Listing("wide, one site twice", pair("wide-write 131072 64 0 1 4", "wide-write 131072 64 0 1 4"),
+            listing("3 4 2", "00000040 1.0.0 131072 1.1.0 131072")),
+    Listing("wide, under a lock", pair("acquire 3; wide-write 65536 64 0 1 4; release 3", "acquire 3; wide-write 0 64 0 1 4; release 3"),
+            NO_RACE),
+    Listing("wide, cut", "member 1 1; wide-read 65536 64 0 1 4; cut; member 1 0; wide-write 4294967295 64 0 1 4; cut; "
+            "member 0 0; region 1 2; cut", listing("3 4 2", "00000040 1.0.0 4294967295 1.1.0 65536")),
+    Listing("wide, several races, sites not in the order of names", pair(
+        "wide-write 4294967295 64 0 1 1; wide-write 0 64 0 1 1", "wide-write 65536 60 4 2 1; wide-read 65535 60 0 1 1"),
+            listing("3 4 4", "00000040 1.0.0 4294967295 1.1.0 65536", "00000040 1.0.1 0 1.1.0 65536"), [(0, 1), (0, 1)]),
+    Listing("wide, the inner team under the member's lock", """
+        member 0 0; region 1 2; end
+        member 1 0; acquire 3; region 2 1; release 3; end; member 1 1; acquire 3; wide-write 70001 64 0 1 1; release 3;
+        wide-write 70002 64 0 1 1; end
+        member 2 0; wide-write 70003 64 0 1 1; end""",
+            listing("4 6 3", "00000040 1.1.1 70002 2.0.0 70003")),
+]
+
+ALL = LISTINGS + LONG + LOCKED_AROUND + STOPPED + WIDE

@@ -11,7 +11,9 @@ from second_reader import ACQUIRE, BARRIER, REGION, RELEASE
 # leads on to it, and the access's own chunk at the access
 Access = namedtuple("Access", "name site writes atomic touched held label")
 
-READ, WRITE, ATOMIC_READ, ATOMIC_WRITE = 0x30, 0x31, 0x32, 0x33
+# Of each access, whether it writes and whether it is atomic.
+KINDS = {0x30: (False, False), 0x31: (True, False), 0x32: (False, True), 0x33: (True, True)}
+KINDS |= {code + 8: kind for code, kind in KINDS.items()}  # with a wide site
 
 
 def races(chunks):
@@ -70,10 +72,9 @@ def all_accesses(chunks):
                 locks |= {operands[0]}
             elif code == RELEASE:
                 locks -= {operands[0]}
-            elif code in (READ, WRITE, ATOMIC_READ, ATOMIC_WRITE):
+            elif code in KINDS:
                 site, *touched = operands
-                kind = code in (WRITE, ATOMIC_WRITE), code in (ATOMIC_READ, ATOMIC_WRITE)
-                found.append(Access((team, member, number), site, *kind, elements_by_byte(*touched), held, label))
+                found.append(Access((team, member, number), site, *KINDS[code], elements_by_byte(*touched), held, label))
                 number += 1
     return found
 

@@ -3,15 +3,15 @@
 from collections import Counter, namedtuple
 
 from reader_commands import (
-    ACCESSES, ACQUIRE, BARRIER, CLOSES_CHUNK, END, MEMBER, OPENS_SEGMENT, REGION, RELEASE,
-    Range, Refused, take_command, operands_are_good,
+    ACCESSES, ACQUIRE, BARRIER, CLOSES_CHUNK, END, MEMBER, NARROW, OPENS_SEGMENT, REGION, RELEASE,
+    Range, Refused, code_in, group_of, operands_are_good, take_command,
 )
 
 MOST_BYTES, MOST_SEGMENTS, MOST_ACCESSES, MOST_DEPTH = 65536, 512, 1024, 4
 
 Segment = namedtuple("Segment", "regions barriers")  # joined and passed before it
 Fork = namedtuple("Fork", "offset team size chunk segment locks")  # a REGION; segment is the one it ends, locks are those held at it
-Access = namedtuple("Access", "name kind site range locks chunk segment")
+Access = namedtuple("Access", "name kind site range locks chunk segment")  # kind is the code of the narrow command
 
 
 class Chunk:
@@ -55,7 +55,7 @@ class Bundle:
 
 
 def check(data):
-    """Answers the Bundle, or refuses with 1 to 12 or 19."""
+    """Answers the Bundle, or refuses with 1 to 12, 19 or 20."""
     if len(data) > MOST_BYTES:
         raise Refused(1, 0)
     chunks = scan(data)
@@ -67,14 +67,15 @@ def check(data):
 
 
 def scan(data):
-    """Front to back: the chunks, or the first command with 2 to 7."""
+    """Front to back: the chunks, or the first command with 2 to 7 or 20."""
     chunks = []
     chunk = None  # the open one
+    group = None  # that of the first access
     opened = Counter()
     position = 0
     while position < len(data):
         command, after = take_command(data, position)  # 2, 3
-        number = why_not_here(command, chunk, opened)
+        number = why_not_here(command, chunk, group, opened)
         if number:
             raise Refused(number, position)
         if command.code == MEMBER:
@@ -84,6 +85,7 @@ def scan(data):
             apply_command(chunk, command, position)
         opened["segments"] += command.code in OPENS_SEGMENT
         opened["accesses"] += command.code in ACCESSES
+        group = group or group_of(command.code)
         if command.code in CLOSES_CHUNK:
             chunk.end, chunk.complete = after, command.code == END
             chunk = None
@@ -93,10 +95,12 @@ def scan(data):
     return chunks
 
 
-def why_not_here(command, chunk, opened):
-    """4, 5, 6 or 7 for a command before it is applied, or None."""
+def why_not_here(command, chunk, group, opened):
+    """4, 20, 5, 6 or 7 for a command before it is applied, or None."""
     if (command.code == MEMBER) != (chunk is None):
         return 4
+    if group and group_of(command.code) not in (None, group):
+        return 20
     if not operands_are_good(command):
         return 5
     if command.code == REGION and command.operands[0] <= chunk.team:
@@ -131,7 +135,7 @@ def apply_command(chunk, command, offset):
         chunk.accesses.append(
             Access(
                 name=(chunk.team, chunk.member, len(chunk.accesses)),
-                kind=code,
+                kind=code_in(NARROW, code),
                 site=operands[0],
                 range=Range(*operands[1:]),
                 locks=frozenset(chunk.locks),

@@ -4,12 +4,18 @@ from collections import namedtuple
 
 MEMBER, END, CUT, REGION, BARRIER, ACQUIRE, RELEASE = 0x01, 0x02, 0x03, 0x10, 0x11, 0x20, 0x21
 READ, WRITE, ATOMIC_READ, ATOMIC_WRITE = 0x30, 0x31, 0x32, 0x33
-ACCESSES = (READ, WRITE, ATOMIC_READ, ATOMIC_WRITE)
+WIDE_READ, WIDE_WRITE, WIDE_ATOMIC_READ, WIDE_ATOMIC_WRITE = 0x38, 0x39, 0x3A, 0x3B
+
+# The two groups of accesses, the same kinds in the same order.
+NARROW = (READ, WRITE, ATOMIC_READ, ATOMIC_WRITE)
+WIDE = (WIDE_READ, WIDE_WRITE, WIDE_ATOMIC_READ, WIDE_ATOMIC_WRITE)
+ACCESSES = NARROW + WIDE
 OPENS_SEGMENT = (MEMBER, REGION, BARRIER)
 CLOSES_CHUNK = (END, CUT)
 
 # The width in bytes of each operand, in order.
-ACCESS_WIDTHS = (2, 4, 2, 2, 1)  # site, base, stride, count, size
+NARROW_WIDTHS = (2, 4, 2, 2, 1)  # site, base, stride, count, size
+WIDE_WIDTHS = (4, 4, 2, 2, 1)
 WIDTHS = {
     MEMBER: (2, 1),  # team, member
     END: (),
@@ -18,13 +24,12 @@ WIDTHS = {
     BARRIER: (),
     ACQUIRE: (1,),  # lock
     RELEASE: (1,),  # lock
-    READ: ACCESS_WIDTHS,
-    WRITE: ACCESS_WIDTHS,
-    ATOMIC_READ: ACCESS_WIDTHS,
-    ATOMIC_WRITE: ACCESS_WIDTHS,
+    **dict.fromkeys(NARROW, NARROW_WIDTHS),
+    **dict.fromkeys(WIDE, WIDE_WIDTHS),
 }
 
 LAST_ADDRESS = 4294967295
+LAST_NARROW_SITE = 65535
 
 Command = namedtuple("Command", "code operands")
 Range = namedtuple("Range", "base stride count size")
@@ -41,6 +46,16 @@ class Refused(Exception):
 
 def command_length(code):
     return 1 + sum(WIDTHS[code])
+
+
+def group_of(code):
+    """The group of an access, None for other commands."""
+    return NARROW if code in NARROW else WIDE if code in WIDE else None
+
+
+def code_in(group, code):
+    """The access of the same kind in a group; other commands stay as they are."""
+    return group[group_of(code).index(code)] if code in ACCESSES else code
 
 
 def range_is_good(r):
@@ -63,6 +78,8 @@ def operands_are_good(command):
         return operands[0] != 0 and 1 <= operands[1] <= 64
     if code in (ACQUIRE, RELEASE):
         return operands[0] <= 63
+    if code in NARROW and operands[0] > LAST_NARROW_SITE:
+        return False
     if code in ACCESSES:
         return range_is_good(Range(*operands[1:]))
     return True
@@ -79,7 +96,7 @@ def split_operands(code, data):
 
 
 def command_bytes(command):
-    """The bytes of a command, good or not."""
+    """The bytes of a command, good or not; each operand must have its width."""
     out = bytes([command.code])
     for width, value in zip(WIDTHS[command.code], command.operands):
         out += value.to_bytes(width, "little")

@@ -4,8 +4,9 @@ import random
 from collections import namedtuple
 
 import generators
-from aimed_cases import E_BYTES
+from aimed_cases import E_BYTES, E_WIDE_BYTES
 from bundle_text import bundle
+from convert_cases import E_SMALL_SITES
 from vector_frames import rewrite_frame
 
 Case = namedtuple("Case", "title data result")
@@ -52,6 +53,9 @@ OTHERS = [
         ("cut chunks and complete ones",
          "member 1 1; acquire 3; cut; member 1 2; barrier; end; member 1 0; barrier; cut; member 0 0; region 1 3; cut",
          "member 0 0; region 1 3; cut; member 1 0; barrier; cut; member 1 1; acquire 3; cut; member 1 2; barrier; end"),
+        ("wide accesses",
+         "member 1 1; wide-write 65536 0 0 1 1; end; member 1 0; wide-read 0 0 0 1 1; end; member 0 0; region 1 2; wide-read 4294967295 0 0 1 1; end",
+         "member 0 0; region 1 2; wide-read 4294967295 0 0 1 1; end; member 1 0; wide-read 0 0 0 1 1; end; member 1 1; wide-write 65536 0 0 1 1; end"),
         ("commands within a chunk stay as they are",
          "member 1 0; write 9 8 0 1 1; acquire 3; read 2 4 0 1 1; release 3; end; member 0 0; barrier; region 1 1; acquire 1; release 1; end",
          "member 0 0; barrier; region 1 1; acquire 1; release 1; end; member 1 0; write 9 8 0 1 1; acquire 3; read 2 4 0 1 1; release 3; end"),
@@ -64,6 +68,8 @@ CASES = ORDERS_OF_E + OTHERS
 PAIRS = [
     ("the same in two orders", ROOT + FIRST + SECOND, SECOND + FIRST + ROOT, True),
     ("one site differs", E_BYTES, E_BYTES[:14] + b"\x0b" + E_BYTES[15:], False),
+    ("the same with wide sites", E_BYTES, E_SMALL_SITES, False),
+    ("the high half of one site differs", E_WIDE_BYTES, E_WIDE_BYTES[:16] + b"\x02" + E_WIDE_BYTES[17:], False),
     ("two accesses swapped within a chunk",
      bundle("member 0 0; read 1 0 0 1 1; read 2 0 0 1 1; end"), bundle("member 0 0; read 2 0 0 1 1; read 1 0 0 1 1; end"), False),
     ("the members' logs exchanged",
@@ -85,6 +91,6 @@ def rewrite_frames(seed, count=150):
     for data in given:
         if len(data) > 4000:
             continue
-        for length in {0, max(len(data) - 1, 0), len(data), len(data) + 1, rng.randrange(4097), min(len(data) + 40, 4096)}:
+        for length in sorted({0, max(len(data) - 1, 0), len(data), len(data) + 1, rng.randrange(4097), len(data) + 40}):
             yield rewrite_frame(length, rng.randrange(256), data)
 

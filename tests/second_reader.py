@@ -6,8 +6,9 @@ The parts stand in reader_commands, reader_bundles, reader_order,
 reader_verdicts and reader_builds; this module gives all of their names.
 Of document 02's requests, rewriting (A.1) stands in reader_rewriting,
 elements (A.2) in reader_order, carried by the races of reader_verdicts,
-the locks held around a region (A.3) in reader_verdicts, and cut chunks (A.4)
-in reader_commands, reader_bundles and, their edges, in reader_verdicts.
+the locks held around a region (A.3) in reader_verdicts, cut chunks (A.4)
+in reader_commands, reader_bundles and, their edges, in reader_verdicts, and
+wide sites (A.6) in reader_commands, reader_bundles and reader_converting.
 """
 
 from reader_commands import *
@@ -16,3 +17,4 @@ from reader_order import *
 from reader_verdicts import *
 from reader_builds import *
 from reader_rewriting import *
+from reader_converting import *

@@ -13,14 +13,19 @@ OPERATION_CHECK, OPERATION_FIND, OPERATION_LABEL = 3, 4, 5
 OPERATION_COMPARE, OPERATION_SHARED = 6, 7
 OPERATION_JUDGE, OPERATION_NEXT = 8, 9
 OPERATION_REWRITE = 12  # 10 and 11 are tests/library_frames.py's
+OPERATION_TO_WIDE, OPERATION_TO_NARROW = 13, 14
 
-RECORD_LENGTH = 12
+RECORD_LENGTH = 14
 
 ACCESS_NAMES = {
     sr.READ: "read",
     sr.WRITE: "write",
     sr.ATOMIC_READ: "atomic-read",
     sr.ATOMIC_WRITE: "atomic-write",
+    sr.WIDE_READ: "wide-read",
+    sr.WIDE_WRITE: "wide-write",
+    sr.WIDE_ATOMIC_READ: "wide-atomic-read",
+    sr.WIDE_ATOMIC_WRITE: "wide-atomic-write",
 }
 COMMAND_NAMES = {
     sr.MEMBER: "member",
@@ -77,14 +82,20 @@ def split_frames(data):
     return frames
 
 
+def record_widths(code):
+    """The widths of the operands in a record: a site has 4 bytes in either group, so that it may be too large for its command."""
+    return sr.WIDE_WIDTHS if code in sr.ACCESSES else sr.WIDTHS[code]
+
+
 def command_record(command):
-    data = sr.command_bytes(command)
+    data = bytes([command.code]) + b"".join(map(number, command.operands, record_widths(command.code)))
     return data + bytes(RECORD_LENGTH - len(data))
 
 
 def split_record(record):
-    code = record[0]
-    return Command(code, sr.split_operands(code, record[1 : sr.command_length(code)]))
+    body = Body(record)
+    code = body.number(1)
+    return Command(code, tuple(body.number(width) for width in record_widths(code)))
 
 
 def read_frame(position, data):
@@ -271,15 +282,28 @@ def next_race_over(words, body):
     return race_line(race) if race else "none"
 
 
-def rewrite_frame(length, filler, bundle):
-    return frame(OPERATION_REWRITE, number(length, 2) + number(filler, 1) + bundle)
+def rewrite_frame(length, filler, bundle, operation=OPERATION_REWRITE):
+    """The length of the buffer, and what each of its bytes is. Conversions have the same form."""
+    return frame(operation, number(length, 4) + number(filler, 1) + bundle)
 
 
 def answer_rewrite(body):
-    length, filler = body.number(2), body.number(1)
+    return answer_rewriting(sr.rewrite, body)
+
+
+def answer_to_wide(body):
+    return answer_rewriting(sr.to_wide, body)
+
+
+def answer_to_narrow(body):
+    return answer_rewriting(sr.to_narrow, body)
+
+
+def answer_rewriting(rewrite, body):
+    length, filler = body.number(4), body.number(1)
     buffer = bytearray([filler]) * length
     try:
-        size = sr.rewrite(body.rest(), buffer)
+        size = rewrite(body.rest(), buffer)
         return f"rewritten {size} {buffer.hex()}"
     except Refused as refusal:
         return f"{refusal_text(refusal)} {buffer.hex()}"
@@ -296,15 +320,20 @@ ANSWERS = {
     OPERATION_JUDGE: answer_judge,
     OPERATION_NEXT: answer_next,
     OPERATION_REWRITE: answer_rewrite,
+    OPERATION_TO_WIDE: answer_to_wide,
+    OPERATION_TO_NARROW: answer_to_narrow,
 }
 
 
+REWRITINGS = (OPERATION_REWRITE, OPERATION_TO_WIDE, OPERATION_TO_NARROW)
+
+
 def without_rewriting(frames, lines):
-    """A file of frames and its answers without those of REWRITE, which is not in the library."""
+    """A file of frames and its answers without those that rewrite a bundle, which are not in the library."""
     kept = [
         (frame(operation, body), line)
         for (operation, body), line in zip(split_frames(frames), lines.splitlines(keepends=True), strict=True)
-        if operation != OPERATION_REWRITE
+        if operation not in REWRITINGS
     ]
     return b"".join(made for made, _ in kept), b"".join(line for _, line in kept)
 

@@ -3,8 +3,9 @@
 use crate::generate::Random;
 
 const CUT: u8 = 0x03;
-/// Cutting has numbers of its own.
+/// Cutting has numbers of its own, and so have the changes to bundles with wide sites.
 pub const CUT_SEED: u64 = 4;
+pub const WIDE_SEED: u64 = 6;
 
 pub struct Case {
     pub name: &'static str,
@@ -56,6 +57,22 @@ pub fn cases(random: &mut Random) -> Vec<Case> {
     add("last cut chunk ahead", chunks.concat());
     add("1,024 accesses, a third cut", third_cut(accesses, &mut Random::new(CUT_SEED)).concat());
     cases
+}
+
+/// A bundle of these cases with wide sites, and the same with one narrow access more than there may be, in the last chunk.
+pub fn wide_cases(cases: &[Case]) -> [Case; 2] {
+    let wide = with_wide_sites(bytes_of(cases, "1,024 accesses, 504 chunks"));
+    let mut mixed = wide.clone();
+    before_end(&mut mixed, &access(&mut Random::new(WIDE_SEED)));
+    [
+        Case { name: "1,024 accesses, wide sites", bytes: wide },
+        Case { name: "last access of the other group", bytes: mixed },
+    ]
+}
+
+/// The bytes of the case of this name.
+pub fn bytes_of<'a>(cases: &'a [Case], name: &str) -> &'a [u8] {
+    &cases.iter().find(|case| case.name == name).expect("a case of this name").bytes
 }
 
 pub fn member(team: u16, member: u8) -> Chunk {
@@ -186,13 +203,32 @@ fn command_ends(chunk: &[u8]) -> Vec<u64> {
     ends
 }
 
-pub fn command_length(code: u8) -> usize {
+fn command_length(code: u8) -> usize {
     match code {
         0x01 | 0x10 => 4,
         0x20 | 0x21 => 2,
         0x30..=0x33 => 12,
+        0x38..=0x3b => 14,
         _ => 1,
     }
+}
+
+/// The bytes of each command of a good bundle.
+pub fn commands(mut bytes: &[u8]) -> impl Iterator<Item = &[u8]> {
+    std::iter::from_fn(move || {
+        let (command, rest) = bytes.split_at(command_length(*bytes.first()?));
+        bytes = rest;
+        Some(command)
+    })
+}
+
+/// A bundle of narrow accesses with wide ones in their place, the sites as high as they get.
+pub fn with_wide_sites(bytes: &[u8]) -> Vec<u8> {
+    let wide = |command: &[u8]| match *command {
+        [code @ 0x30..=0x33, low, high, ref range @ ..] => [&[code + 8, low, high, 0xff, 0xff], range].concat(),
+        _ => command.to_vec(),
+    };
+    commands(bytes).flat_map(wide).collect()
 }
 
 /// The chunks in a random order.
@@ -207,9 +243,9 @@ pub fn shuffled(mut chunks: Vec<Chunk>, random: &mut Random) -> Vec<u8> {
 pub fn damaged(bytes: &[u8], random: &mut Random) -> Vec<u8> {
     let mut bytes = bytes.to_vec();
     let at = random.from(0, bytes.len() as u64 - 1) as usize;
-    let end = bytes.len().min(at + random.one_of(&[1, 2, 4, 12]) as usize);
+    let end = bytes.len().min(at + random.one_of(&[1, 2, 4, 12, 14]) as usize);
     match random.from(0, 3) {
-        0 => bytes[at] = random.one_of(&[0x01, 0x02, 0x03, 0x10, 0x11, 0x20, 0x21, 0x30, 0x40, 0x00]) as u8,
+        0 => bytes[at] = random.one_of(&[0x01, 0x02, 0x03, 0x10, 0x11, 0x20, 0x21, 0x30, 0x38, 0x40, 0x00]) as u8,
         1 => drop(bytes.drain(at..end)),
         2 => bytes = [&bytes[..end], &bytes[at..]].concat(),
         _ => bytes.truncate(at),

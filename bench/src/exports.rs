@@ -32,10 +32,10 @@ fn race_of(race: dezhakom::Race) -> Race {
     Race {
         witness: race.witness,
         first: name_of(race.first),
-        first_site: race.first_site as u16,
+        first_site: race.first_site,
         first_element: race.first_element,
         second: name_of(race.second),
-        second_site: race.second_site as u16,
+        second_site: race.second_site,
         second_element: race.second_element,
     }
 }

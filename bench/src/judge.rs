@@ -22,10 +22,10 @@ pub struct Name {
 pub struct Race {
     pub witness: u32,
     pub first: Name,
-    pub first_site: u16,
+    pub first_site: u32,
     pub first_element: u16,
     pub second: Name,
-    pub second_site: u16,
+    pub second_site: u32,
     pub second_element: u16,
 }
 
@@ -335,8 +335,8 @@ impl Bundle {
 
 // The table: the accesses in the order of their names.
 
-/// Base, last byte, two words of locks; then segment (16 bits), kind (2), size (from bit 24); stride and count; site
-/// and number; member and team.
+/// Base, last byte, two words of locks; then segment (16 bits), kind (2), size (from bit 24); stride and count; site;
+/// number (10 bits), member (6) and team.
 type TableRow = [u32; 8];
 
 const WRITES: u32 = 1 << 16;
@@ -352,7 +352,7 @@ fn row_of(access: Access, locks: u64, segment: usize) -> TableRow {
         (locks >> 32) as u32,
         segment as u32 | kind << 16 | (range.size as u32) << 24,
         range.stride as u32 | (range.count as u32) << 16,
-        access.site as u32,
+        access.site,
         0,
     ]
 }
@@ -362,8 +362,7 @@ fn fill_table(chunks: &[Chunk], accesses: &[TableRow], table: &mut [TableRow]) {
     for chunk in chunks {
         for (number, row) in accesses[range_of(chunk.accesses)].iter().enumerate() {
             table[next] = *row;
-            table[next][6] |= (number as u32) << 16;
-            table[next][7] = chunk.member as u32 | (chunk.team as u32) << 16;
+            table[next][7] = number as u32 | (chunk.member as u32) << 10 | (chunk.team as u32) << 16;
             next += 1;
         }
     }
@@ -373,9 +372,9 @@ fn range_in(row: &TableRow) -> Range {
     Range { base: row[0], stride: row[5] as u16, count: (row[5] >> 16) as u16, size: (row[4] >> 24) as u8 }
 }
 
-fn name_of(row: &TableRow) -> (Name, u16) {
-    let name = Name { team: (row[7] >> 16) as u16, member: row[7] as u8, number: (row[6] >> 16) as u16 };
-    (name, row[6] as u16)
+fn name_of(row: &TableRow) -> (Name, u32) {
+    let name = Name { team: (row[7] >> 16) as u16, member: (row[7] >> 10) as u8 % 64, number: row[7] as u16 % 1024 };
+    (name, row[6])
 }
 
 // Races. A race's key is its witness and the ranks of its accesses by name: keys are ordered as races are.

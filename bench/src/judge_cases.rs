@@ -47,6 +47,9 @@ pub fn cases(random: &mut Random) -> Vec<Case> {
     let bytes = without_locks(&cases[cases.len() - 1].bytes);
     cases.push(Case { name: "the same without locks", bytes });
     cases.extend(cut_cases());
+    let wide = [("all clash", "all clash, wide sites"), ("10 accesses", "10 accesses, wide sites")]
+        .map(|(narrow, name)| Case { name, bytes: bundles::with_wide_sites(bundles::bytes_of(&cases, narrow)) });
+    cases.extend(wide);
     cases
 }
 
@@ -220,15 +223,7 @@ fn around_regions(random: &mut Random) -> Vec<Chunk> {
 
 /// A bundle without its ACQUIREs and RELEASEs.
 fn without_locks(bytes: &[u8]) -> Vec<u8> {
-    let (mut kept, mut at) = (Vec::new(), 0);
-    while at < bytes.len() {
-        let length = bundles::command_length(bytes[at]);
-        if !matches!(bytes[at], ACQUIRE | RELEASE) {
-            kept.extend(&bytes[at..at + length]);
-        }
-        at += length;
-    }
-    kept
+    bundles::commands(bytes).filter(|command| !matches!(command[0], ACQUIRE | RELEASE)).flatten().copied().collect()
 }
 
 /// A team of 3 with a barrier: 3 accesses in each member, and one in the root.

@@ -62,7 +62,8 @@ pub fn compare(random: &mut Random) -> bool {
     println!("listing, milliseconds for all races of a bundle");
     println!("{:<24}{:>10}{:>10}{:>10}{:>9}", "bundle", "races", "proved", "rust", "ratio");
     let listed = ["all clash", "coprime strides", "8 members, 62 barriers", "10 accesses", "E", "24 members, a third cut"];
-    for case in named(&cases, &listed) {
+    let wide = ["all clash, wide sites", "10 accesses, wide sites"];
+    for case in named(&cases, &[&listed[..], &wide].concat()) {
         all_equal &= time_listing(case);
     }
     all_equal

@@ -26,6 +26,7 @@ const BLOCK: usize = 5_000;
 const ROUNDS: usize = 5;
 const CHECK_ROUNDS: usize = 200;
 const DAMAGED: usize = 3_000;
+const WIDE_DAMAGED: usize = 500;
 
 fn main() {
     let mut random = Random::new(SEED);
@@ -44,10 +45,12 @@ fn main() {
     println!("check, microseconds for a bundle");
     println!("{:<32}{:>7}{:>12}{:>9}{:>9}{:>8}", "bundle", "bytes", "answer", "proved", "rust", "ratio");
     let cases = bundles::cases(&mut random);
-    for case in &cases {
+    let wide = bundles::wide_cases(&cases);
+    for case in cases.iter().chain(&wide) {
         all_equal &= time_check(case);
     }
-    all_equal &= check_damaged(&cases, &mut random);
+    all_equal &= check_damaged(&cases, DAMAGED, &mut random);
+    all_equal &= check_damaged(&wide, WIDE_DAMAGED, &mut Random::new(bundles::WIDE_SEED));
     println!();
     all_equal &= labels::compare(&cases, &mut Random::new(SEED));
     println!();
@@ -155,9 +158,9 @@ fn time_check(case: &Case) -> bool {
     true
 }
 
-/// Compares the answers to bundles with a random change.
-fn check_damaged(cases: &[Case], random: &mut Random) -> bool {
-    (0..DAMAGED).all(|turn| {
+/// Compares the answers to so many bundles with a random change.
+fn check_damaged(cases: &[Case], count: usize, random: &mut Random) -> bool {
+    (0..count).all(|turn| {
         let case = &cases[turn % cases.len()];
         equal_checks(case.name, &bundles::damaged(&case.bytes, random))
     })

@@ -62,7 +62,7 @@ fn cases() -> Vec<Case> {
     let limits = bundles::cases(&mut random);
     let judged = judge_cases::cases(&mut random);
     let typical = Case { name: "100 accesses", bytes: typical(&mut random) };
-    let mut cases = named(judged, &["E", "all clash", "coprime strides", "8 members, 62 barriers"]);
+    let mut cases = named(judged, &["E", "all clash", "coprime strides", "8 members, 62 barriers", "all clash, wide sites"]);
     cases.sort_by_key(|case| case.name != "E");
     cases.splice(1..1, std::iter::once(typical).chain(named(limits, &["all limits reached"])));
     cases

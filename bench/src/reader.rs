@@ -1,4 +1,4 @@
-//! A plain reader of bundles, written from the scope paper: check, with refusals 1 to 12 and 19.
+//! A plain reader of bundles, written from the scope paper: check, with refusals 1 to 12, 19 and 20.
 
 use crate::ranges::Range;
 
@@ -49,11 +49,12 @@ pub fn read(bytes: &[u8], log: &mut impl Log) -> Result<(Vec<Chunk>, Vec<Fork>),
     Ok((chunks, forks))
 }
 
-/// The code is the command byte, 0x30 to 0x33.
+/// The code is the byte of the narrow command, 0x30 to 0x33. A wide site has 4 bytes, a narrow one 2.
 #[derive(Clone, Copy)]
 pub struct Access {
     pub code: u8,
-    pub site: u16,
+    pub wide: bool,
+    pub site: u32,
     pub range: Range,
 }
 
@@ -79,15 +80,23 @@ fn decode(bytes: &[u8], at: usize) -> Result<(Command, usize), Refusal> {
         [0x20, lock, ..] => (Command::Acquire(lock), at + 2),
         [0x21, lock, ..] => (Command::Release(lock), at + 2),
         [code @ 0x30..=0x33, low, high, b0, b1, b2, b3, s0, s1, c0, c1, size, ..] => {
-            let base = u32::from_le_bytes([b0, b1, b2, b3]);
-            let stride = u16::from_le_bytes([s0, s1]);
-            let count = u16::from_le_bytes([c0, c1]);
-            let range = Range { base, stride, count, size };
-            (Command::Access(Access { code, site: u16::from_le_bytes([low, high]), range }), at + 12)
+            let site = u16::from_le_bytes([low, high]) as u32;
+            let range = range_of([b0, b1, b2, b3], [s0, s1], [c0, c1], size);
+            (Command::Access(Access { code, wide: false, site, range }), at + 12)
         }
-        [0x01 | 0x10 | 0x20 | 0x21 | 0x30..=0x33, ..] => return refuse(3, at),
+        [code @ 0x38..=0x3b, t0, t1, t2, t3, b0, b1, b2, b3, s0, s1, c0, c1, size, ..] => {
+            let site = u32::from_le_bytes([t0, t1, t2, t3]);
+            let range = range_of([b0, b1, b2, b3], [s0, s1], [c0, c1], size);
+            (Command::Access(Access { code: code - 8, wide: true, site, range }), at + 14)
+        }
+        [0x01 | 0x10 | 0x20 | 0x21 | 0x30..=0x33 | 0x38..=0x3b, ..] => return refuse(3, at),
         _ => return refuse(2, at),
     })
+}
+
+fn range_of(base: [u8; 4], stride: [u8; 2], count: [u8; 2], size: u8) -> Range {
+    let (stride, count) = (u16::from_le_bytes(stride), u16::from_le_bytes(count));
+    Range { base: u32::from_le_bytes(base), stride, count, size }
 }
 
 /// A chunk: the offset of its MEMBER, its name, whether it is closed by CUT, the barriers that it passes, and its segments
@@ -114,7 +123,7 @@ pub struct Fork {
     pub segment: u16,
 }
 
-/// The chunks and REGIONs in the order of the bytes, or the first command that is refused, with 2 to 7.
+/// The chunks and REGIONs in the order of the bytes, or the first command that is refused, with 2 to 7 or 20.
 fn scan(bytes: &[u8], log: &mut impl Log) -> Result<(Vec<Chunk>, Vec<Fork>), Refusal> {
     let mut chunks = Vec::new();
     let mut forks = Vec::new();
@@ -123,6 +132,7 @@ fn scan(bytes: &[u8], log: &mut impl Log) -> Result<(Vec<Chunk>, Vec<Fork>), Ref
     let mut locks = 0u64;
     let mut segments = 0;
     let mut accesses = 0;
+    let mut wide = false; // as the first access is
     let mut at = 0;
     while at < bytes.len() {
         let (command, next) = decode(bytes, at)?;
@@ -208,6 +218,11 @@ fn scan(bytes: &[u8], log: &mut impl Log) -> Result<(Vec<Chunk>, Vec<Fork>), Ref
             Command::Access(access) => {
                 if !open {
                     return refuse(4, at);
+                }
+                if accesses == 0 {
+                    wide = access.wide;
+                } else if access.wide != wide {
+                    return refuse(20, at);
                 }
                 if !access.range.is_good() {
                     return refuse(5, at);

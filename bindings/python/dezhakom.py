@@ -14,8 +14,10 @@ from collections import namedtuple
 from ctypes import POINTER, Structure, byref, c_char_p, c_size_t, c_uint8, c_uint16, c_uint32, c_uint64
 
 MEMBER, END, CUT, REGION, BARRIER, ACQUIRE, RELEASE = 0x01, 0x02, 0x03, 0x10, 0x11, 0x20, 0x21
-READ, WRITE, ATOMIC_READ, ATOMIC_WRITE = 0x30, 0x31, 0x32, 0x33
-WORK_WORDS, MOST_ACCESSES, COMMAND_BYTES, MOST_TRIPLES, NAME_WORDS = 16384, 1024, 12, 5, 2
+READ, WRITE, ATOMIC_READ, ATOMIC_WRITE = 0x30, 0x31, 0x32, 0x33  # sites to 65,535
+WIDE_READ, WIDE_WRITE, WIDE_ATOMIC_READ, WIDE_ATOMIC_WRITE = 0x38, 0x39, 0x3A, 0x3B  # sites to 4,294,967,295
+WORK_WORDS, MOST_ACCESSES, COMMAND_BYTES, MOST_TRIPLES, NAME_WORDS = 16384, 1024, 14, 5, 2
+ACCESS_BYTES = 12  # of the shortest access
 ORDERS = ("same", "before", "after", "concurrent")
 
 Command = namedtuple("Command", "byte team member lock site base stride count size", defaults=(0,) * 8)
@@ -213,7 +215,7 @@ def next_race(data, witness, first, second, work=None):
 def list_races(data, work=None):
     """The counts of a bundle, and all of its races in order."""
     data, work = bytes(data), _area(work)[0]
-    accesses = min(MOST_ACCESSES, len(data) // COMMAND_BYTES)
+    accesses = min(MOST_ACCESSES, len(data) // ACCESS_BYTES)
     room = min(4096, accesses * (accesses - 1) // 2)
     totals = _Totals()
     while not totals.whole:  # a second time where the first attempt had not enough room

@@ -21,7 +21,11 @@ pub const MOST_BYTES: usize = 65_536;
 pub const MOST_SEGMENTS: usize = 512;
 pub const MOST_ACCESSES: usize = 1_024;
 /// The length of the longest command.
-pub const COMMAND_BYTES: usize = 12;
+pub const COMMAND_BYTES: usize = 14;
+/// The length of the shortest access.
+const ACCESS_BYTES: usize = 12;
+/// The highest site of a narrow access; a wide one takes any `u32`.
+pub const MOST_SITE: u32 = 65_535;
 /// The least length of a work area.
 pub const WORK_WORDS: usize = 16_384;
 /// The words of a listing's names, for each access.
@@ -52,10 +56,13 @@ pub enum Cause {
     DoesNotFit,
     PastEnd,
     CutAhead,
+    OtherGroup,
+    /// Where a bundle is converted to narrow accesses; no function of this crate does so.
+    SiteTooLarge,
 }
 
 impl Cause {
-    const ALL: [Cause; 19] = [
+    const ALL: [Cause; 21] = [
         Cause::BundleTooLong,
         Cause::UnknownCommand,
         Cause::OperandsCutOff,
@@ -75,15 +82,17 @@ impl Cause {
         Cause::DoesNotFit,
         Cause::PastEnd,
         Cause::CutAhead,
+        Cause::OtherGroup,
+        Cause::SiteTooLarge,
     ];
 
-    /// 1 to 19.
+    /// 1 to 21.
     pub fn number(self) -> u32 {
         self as u32
     }
 
     fn of(number: u32) -> Cause {
-        *Self::ALL.get((number as usize).wrapping_sub(1)).expect("a refusal from 1 to 19")
+        *Self::ALL.get((number as usize).wrapping_sub(1)).expect("a refusal from 1 to 21")
     }
 
     fn text(self) -> &'static str {
@@ -107,6 +116,8 @@ impl Cause {
             Cause::DoesNotFit => "the command does not fit into the buffer",
             Cause::PastEnd => "the position is at or past the end",
             Cause::CutAhead => "a cut chunk has more barriers than a complete member of its team",
+            Cause::OtherGroup => "an access is wide and the bundle's first narrow, or the other way round",
+            Cause::SiteTooLarge => "a site over 65,535, which no narrow access has",
         }
     }
 }
@@ -181,9 +192,13 @@ pub enum Command {
     Barrier,
     Acquire { lock: u8 },
     Release { lock: u8 },
-    /// The site is a number for the source line, at most 65,535.
-    Access { kind: AccessKind, site: u32, range: Range },
+    /// The site is a number for the source line: at most [`MOST_SITE`], which takes 2 bytes, or, where the access is wide, any in 4
+    /// bytes. All accesses of a bundle are narrow, or all are wide.
+    Access { kind: AccessKind, wide: bool, site: u32, range: Range },
 }
+
+/// From the byte of a narrow access to that of the wide one.
+const TO_WIDE: u32 = 8;
 
 impl Command {
     fn record(&self) -> ffi::Command {
@@ -198,8 +213,8 @@ impl Command {
             Command::Barrier => ffi::Command { byte: 0x11, ..none },
             Command::Acquire { lock } => ffi::Command { byte: 0x20, lock: lock.into(), ..none },
             Command::Release { lock } => ffi::Command { byte: 0x21, lock: lock.into(), ..none },
-            Command::Access { kind, site, range } => ffi::Command {
-                byte: kind as u32,
+            Command::Access { kind, wide, site, range } => ffi::Command {
+                byte: kind as u32 + if wide { TO_WIDE } else { 0 },
                 site,
                 base: range.base,
                 stride: range.stride.into(),
@@ -213,8 +228,9 @@ impl Command {
     /// The command of a record that was read: its fields have their operands' widths.
     fn of(record: &ffi::Command) -> Command {
         let (team, size, lock) = (record.team as u16, record.size as u8, record.lock as u8);
-        let access = |kind| Command::Access {
+        let access = |kind, wide| Command::Access {
             kind,
+            wide,
             site: record.site,
             range: Range { base: record.base, stride: record.stride as u16, count: record.count as u16, size },
         };
@@ -226,10 +242,14 @@ impl Command {
             0x11 => Command::Barrier,
             0x20 => Command::Acquire { lock },
             0x21 => Command::Release { lock },
-            0x30 => access(AccessKind::Read),
-            0x31 => access(AccessKind::Write),
-            0x32 => access(AccessKind::AtomicRead),
-            0x33 => access(AccessKind::AtomicWrite),
+            0x30 => access(AccessKind::Read, false),
+            0x31 => access(AccessKind::Write, false),
+            0x32 => access(AccessKind::AtomicRead, false),
+            0x33 => access(AccessKind::AtomicWrite, false),
+            0x38 => access(AccessKind::Read, true),
+            0x39 => access(AccessKind::Write, true),
+            0x3a => access(AccessKind::AtomicRead, true),
+            0x3b => access(AccessKind::AtomicWrite, true),
             byte => unreachable!("command byte {byte:#x}"),
         }
     }
@@ -303,7 +323,7 @@ impl Iterator for Commands<'_> {
 
 // ------------------------------------------------------------------ bundles
 
-/// Whether the bytes are a bundle. Refused with 1 to 12, or with 19.
+/// Whether the bytes are a bundle. Refused with 1 to 12, with 19 or with 20.
 #[inline]
 pub fn check(bytes: &[u8]) -> Result<(), Refusal> {
     let mut place = 0;
@@ -565,8 +585,8 @@ pub struct Listing {
 impl Listing {
     /// Lists the races of a bundle. Refused as [`judge`], with the same work area.
     pub fn of(bytes: &[u8], work: &mut [u32]) -> Result<Listing, Refusal> {
-        // Room for all that a bundle of this length can have: an access has 12 bytes. What is not used is not touched, but for the spare memory.
-        let accesses = MOST_ACCESSES.min(bytes.len() / COMMAND_BYTES);
+        // Room for all that a bundle of this length can have: an access has 12 bytes or 14. What is not used is not touched, but for the spare memory.
+        let accesses = MOST_ACCESSES.min(bytes.len() / ACCESS_BYTES);
         let races = accesses * accesses.saturating_sub(1) / 2;
         let (mut names, mut numbers, mut spare) = (vec![0; NAME_WORDS * accesses], vec![0; races], vec![0; races / 2]);
         let (mut totals, mut place) = (ffi::Totals::default(), 0);

@@ -3,7 +3,7 @@
 use dezhakom::*;
 
 fn word(kind: AccessKind, site: u32, base: u32, stride: u16, count: u16) -> Command {
-    Command::Access { kind, site, range: Range { base, stride, count, size: 4 } }
+    Command::Access { kind, wide: false, site, range: Range { base, stride, count, size: 4 } }
 }
 
 const E: &str = "010000001001000202\
@@ -97,6 +97,37 @@ fn a_stopped_run() {
     assert_eq!((ahead.cause, ahead.cause.number(), ahead.place), (Cause::CutAhead, 19, 39));
 }
 
+/// The command with a wide site, if it is an access.
+fn widened(command: Command) -> Command {
+    match command {
+        Command::Access { kind, site, range, .. } => Command::Access { kind, wide: true, site: site + 70_000, range },
+        other => other,
+    }
+}
+
+#[test]
+fn wide_sites() {
+    let mut commands: Vec<Command> = e_commands().into_iter().map(widened).collect();
+    let bytes = written(&commands);
+    // MEMBER, then 0x39 with the site 70,010 in 4 bytes.
+    assert_eq!(bytes[13..18], [0x39, 0x7a, 0x11, 0x01, 0x00]);
+    assert_eq!(bytes.len(), e_bytes().len() + 2 * 2);
+    let read: Result<Vec<_>, _> = dezhakom::commands(&bytes).map(|item| item.map(|(_, command)| command)).collect();
+    assert_eq!(read, Ok(commands.clone()));
+    let judgement = judge(&bytes, &mut vec![0; WORK_WORDS]).unwrap();
+    assert_eq!(judgement.least.unwrap().to_string(), "race 0000100a 1.0.0 70010 1.1.0 70020");
+    let listing = Listing::of(&bytes, &mut vec![0; WORK_WORDS]).unwrap();
+    assert_eq!(listing.races().next(), judgement.least);
+    for site in [0, MOST_SITE, u32::MAX] {
+        let access = Command::Access { kind: AccessKind::AtomicWrite, wide: true, site, range: Range::one(0, 1) };
+        assert_eq!(read_command(&written(&[access]), 0), Ok((access, 14)));
+    }
+    // The read is narrow, and the write before it wide.
+    commands[8] = e_commands()[8];
+    let other = check(&written(&commands)).unwrap_err();
+    assert_eq!((other.cause, other.cause.number(), other.place), (Cause::OtherGroup, 20, 33));
+}
+
 #[test]
 fn refusals() {
     let refused = |cause, place| Err(Refusal { cause, place });
@@ -106,8 +137,8 @@ fn refusals() {
     assert_eq!(find_chunk(&e_bytes(), 2, 0), Err(Refusal { cause: Cause::NoneSuch, place: 0 }));
     assert_eq!(judge(&e_bytes(), &mut [0; 16]).map(|_| ()), refused(Cause::WorkAreaTooSmall, 0));
     assert_eq!(Listing::of(&[], &mut vec![0; WORK_WORDS]).map(|_| ()), refused(Cause::MissingChunk, 0));
-    let site = word(AccessKind::Read, 65_536, 0, 0, 1);
-    assert_eq!(put_command(&site, &mut [0; 12], 0), Err(Refusal { cause: Cause::OutOfRange, place: 0 }));
+    let site = word(AccessKind::Read, MOST_SITE + 1, 0, 0, 1);
+    assert_eq!(put_command(&site, &mut [0; COMMAND_BYTES], 0), Err(Refusal { cause: Cause::OutOfRange, place: 0 }));
     assert_eq!(push_command(&mut e_bytes(), &site), refused(Cause::OutOfRange, 45));
     let text = check(&[]).unwrap_err().to_string();
     assert_eq!(text, "refused 10 at 0: a member's chunk is missing");

@@ -8,8 +8,8 @@ fn stored(name: &str) -> Vec<u8> {
     std::fs::read(&path).unwrap_or_else(|error| panic!("{}: {error}", path.display()))
 }
 
-/// The operation of frames that are not for the library.
-const REWRITE: u64 = 12;
+/// The operations of frames that are not for the library: REWRITE, TO_WIDE, TO_NARROW.
+const REWRITING: std::ops::RangeInclusive<u64> = 12..=14;
 
 /// Takes fields off the front of a frame's body.
 struct Body<'a>(&'a [u8]);
@@ -47,9 +47,9 @@ impl<'a> Body<'a> {
         Name { team: self.number(2) as u16, member: self.number(1) as u8, number: self.number(2) as u16 }
     }
 
-    /// The command of a record, which may be out of range.
+    /// The command of a record, which may be out of range. A site has 4 bytes in either group.
     fn command(&mut self) -> Command {
-        let mut record = Body(self.take(12));
+        let mut record = Body(self.take(14));
         match record.number(1) {
             0x01 => Command::Member { team: record.number(2) as u16, member: record.number(1) as u8 },
             0x02 => Command::End,
@@ -60,8 +60,8 @@ impl<'a> Body<'a> {
             0x21 => Command::Release { lock: record.number(1) as u8 },
             byte => {
                 use AccessKind::*;
-                let kind = [Read, Write, AtomicRead, AtomicWrite][byte as usize - 0x30];
-                Command::Access { kind, site: record.number(2) as u32, range: record.range() }
+                let (kind, wide) = ([Read, Write, AtomicRead, AtomicWrite][byte as usize % 8], byte >= 0x38);
+                Command::Access { kind, wide, site: record.number(4) as u32, range: record.range() }
             }
         }
     }
@@ -84,14 +84,14 @@ fn command_text(command: Command) -> String {
         Command::Barrier => "barrier".to_string(),
         Command::Acquire { lock } => format!("acquire {lock}"),
         Command::Release { lock } => format!("release {lock}"),
-        Command::Access { kind, site, range: Range { base, stride, count, size } } => {
+        Command::Access { kind, wide, site, range: Range { base, stride, count, size } } => {
             let kind = match kind {
                 AccessKind::Read => "read",
                 AccessKind::Write => "write",
                 AccessKind::AtomicRead => "atomic-read",
                 AccessKind::AtomicWrite => "atomic-write",
             };
-            format!("{kind} {site} {base} {stride} {count} {size}")
+            format!("{}{kind} {site} {base} {stride} {count} {size}", if wide { "wide-" } else { "" })
         }
     }
 }
@@ -196,7 +196,7 @@ fn stored_frames() {
     for wanted in wanted.lines() {
         let (operation, length) = (frames.number(1), frames.number(4) as usize);
         let body = frames.take(length);
-        if operation == REWRITE {
+        if REWRITING.contains(&operation) {
             continue;
         }
         let given = answer(operation, Body(body)).unwrap_or_else(refusal_text);

@@ -183,6 +183,12 @@ pub code-made :
     ≡ record { byte = b; operands = operandsFrom s at 1 (k .form .widths) }
 code-made {b} k = made-code b .made (k .form) (k .is) .code
 
+-- a byte that is not among others
+pub not-between : (b low high : ℕ) → (low ≤ b → b < high → ⊥) → leb low b && ltb b high ≡ false
+not-between b low high n =
+    is-false (leb low b && ltb b high)
+    (λ e. n (leb-true low b (and-left (leb low b) (ltb b high) e)) (ltb-true b high (and-right (leb low b) (ltb b high) e)))
+
 -- no other byte begins a command
 pub no-form :
     {b : ℕ}
@@ -206,14 +212,9 @@ no-form {b} n₁ n₂ n₃ n₄ n₅ n₆ n₇ narrow wide =
       ne-eqb b 0x11 n₅,
       ne-eqb b 0x20 n₆,
       ne-eqb b 0x21 n₇,
-      outside 0x30 0x34 narrow,
-      outside 0x38 0x3c wide,
+      not-between b 0x30 0x34 narrow,
+      not-between b 0x38 0x3c wide,
     )
-  where
-    outside : (low high : ℕ) → (low ≤ b → b < high → ⊥) → leb low b && ltb b high ≡ false
-    outside low high n =
-        is-false (leb low b && ltb b high)
-        (λ e. n (leb-true low b (and-left (leb low b) (ltb b high) e)) (ltb-true b high (and-right (leb low b) (ltb b high) e)))
 
 -- lists with equal heads and equal rests
 pub same-cons : {a b : ℕ} {s t : List ℕ} → a ≡ b → s ≡ t → a ∷ s ≡ b ∷ t

@@ -1,6 +1,6 @@
 -- An operand over its width is outside its range, and put refuses it so; and the command that words stand for, by their first word.
 -- Assumes nothing.
-use Prim.Native.Nat.{ℕ, _^_, _≤_, _<_}
+use Prim.Native.Nat.{ℕ, _-_, _^_, _≤_, _<_}
 use mathlib.Core.Path.{_≡_, sym, _∙_}
 use mathlib.Core.Bool.{Bool, true, false, cond, _&&_}
 use mathlib.Core.List.{List, _∷_}
@@ -8,16 +8,16 @@ use mathlib.Core.Option.{Option, none, some}
 use lib.ListN.{getD}
 use lib.Dec.{ltb, leb}
 use native.Mathlib.Omega.{arith}
-use borrow.Author.Tests.{leb-true, ltb-true, le-leb, lt-ltb, ne-eqb}
+use borrow.Author.Tests.{ltb-true, le-leb, lt-ltb, ne-eqb}
 use Rattle.bundle.specs.Answer.{refuses}
 use Rattle.bundle.specs.Lists.{fromOption}
-use Rattle.bundle.specs.Commands.{fitWidths, formOf, codeOf, widthsOf, inRange, accessWidths}
+use Rattle.bundle.specs.Commands.{kindOf, fitWidths, formOf, codeOf, widthsOf, inRange, accessWidths}
 use Rattle.bundle.specs.declared.command.Access.{Access}
 use Rattle.bundle.specs.declared.command.Command.{Command}
 use Rattle.bundle.specs.declared.command.Command.the-variants as Com
 use Rattle.bundle.proofs.Tests.{false-is-true, is-false, and-left, and-right}
 use Rattle.bundle.proofs.Operands.{Fits}
-use Rattle.bundle.proofs.Forms.{access-widths}
+use Rattle.bundle.proofs.Forms.{access-widths, not-between}
 use Rattle.bundle.proofs.Ranges.{in-range-fits}
 use Rattle.bundle.proofs.Copying.{put-out-of-range}
 use Rattle.exports.specs.CommandWords.{commandBy, accessFrom, putFrom}
@@ -53,15 +53,15 @@ release-wide lock h = too-wide (Com.Release lock) (λ f. h (first-fits f))
 
 pub access-wide :
     (a : Access)
-    → (a .site < 65536 → a .range .stride < 65536 → a .range .count < 65536 → a .range .size < 256 → ⊥)
+    → (a .range .stride < 65536 → a .range .count < 65536 → a .range .size < 256 → ⊥)
     → inRange (Com.Access a) ≡ false
 unfolding codeOf
 access-wide a h =
     too-wide (Com.Access a)
     (λ f.
-    let g : Fits accessWidths (codeOf (Com.Access a) .operands) = rw (access-widths a) at f in
+    let g : Fits (accessWidths (a .wide)) (codeOf (Com.Access a) .operands) = rw (access-widths a) at f in
     let from-stride = rest-fits (rest-fits g) in
-    h (first-fits g) (first-fits from-stride) (first-fits (rest-fits from-stride)) (first-fits (rest-fits (rest-fits from-stride))))
+    h (first-fits from-stride) (first-fits (rest-fits from-stride)) (first-fits (rest-fits (rest-fits from-stride))))
 
 -- a command with an operand over its width is refused as any that is out of range
 pub put-wide :
@@ -103,22 +103,33 @@ module _ (words : List ℕ) (byte : ℕ) where
 
   by-other :
       (byte ≡ 0x01 → ⊥) → (byte ≡ 0x02 → ⊥) → (byte ≡ 0x03 → ⊥) → (byte ≡ 0x10 → ⊥) → (byte ≡ 0x11 → ⊥) → (byte ≡ 0x20 → ⊥) → (byte ≡ 0x21 → ⊥)
-      → commandBy byte words ≡ cond (leb 0x30 byte && ltb byte 0x34) (some (accessFrom words)) none
+      → commandBy byte words
+      ≡ cond (leb 0x30 byte && ltb byte 0x34) (some (accessFrom false (kindOf byte) words))
+      (cond (leb 0x38 byte && ltb byte 0x3c) (some (accessFrom true (kindOf (byte - 8)) words)) none)
   unfolding commandBy
   by-other n₁ n₂ n₃ n₄ n₅ n₆ n₇ =
       rw (ne-eqb byte 0x01 n₁, ne-eqb byte 0x02 n₂, ne-eqb byte 0x03 n₃, ne-eqb byte 0x10 n₄, ne-eqb byte 0x11 n₅, ne-eqb byte 0x20 n₆, ne-eqb byte 0x21 n₇)
 
-  pub by-access : 0x30 ≤ byte → byte < 0x34 → commandBy byte words ≡ some (accessFrom words)
-  by-access low high =
+  by-group :
+      0x30 ≤ byte
+      → commandBy byte words
+      ≡ cond (leb 0x30 byte && ltb byte 0x34) (some (accessFrom false (kindOf byte) words))
+      (cond (leb 0x38 byte && ltb byte 0x3c) (some (accessFrom true (kindOf (byte - 8)) words)) none)
+  by-group low =
       by-other (λ e. omega arith) (λ e. omega arith) (λ e. omega arith) (λ e. omega arith) (λ e. omega arith) (λ e. omega arith) (λ e. omega arith)
-      ∙ rw (le-leb 0x30 byte low, lt-ltb byte 0x34 high)
+
+  pub by-access : 0x30 ≤ byte → byte < 0x34 → commandBy byte words ≡ some (accessFrom false (kindOf byte) words)
+  by-access low high = by-group low ∙ rw (le-leb 0x30 byte low, lt-ltb byte 0x34 high)
+
+  pub by-wide-access : 0x38 ≤ byte → byte < 0x3c → commandBy byte words ≡ some (accessFrom true (kindOf (byte - 8)) words)
+  by-wide-access low high =
+      by-group (omega arith)
+      ∙ rw (not-between byte 0x30 0x34 (λ l h. omega arith), le-leb 0x38 byte low, lt-ltb byte 0x3c high)
 
   pub by-none :
       (byte ≡ 0x01 → ⊥) → (byte ≡ 0x02 → ⊥) → (byte ≡ 0x03 → ⊥) → (byte ≡ 0x10 → ⊥) → (byte ≡ 0x11 → ⊥) → (byte ≡ 0x20 → ⊥) → (byte ≡ 0x21 → ⊥)
       → (0x30 ≤ byte → byte < 0x34 → ⊥)
+      → (0x38 ≤ byte → byte < 0x3c → ⊥)
       → commandBy byte words ≡ none
-  by-none n₁ n₂ n₃ n₄ n₅ n₆ n₇ n =
-      let a : Bool = leb 0x30 byte in
-      let l : Bool = ltb byte 0x34 in
-      let other : a && l ≡ false = is-false (a && l) (λ e. n (leb-true 0x30 byte (and-left a l e)) (ltb-true byte 0x34 (and-right a l e))) in
-      by-other n₁ n₂ n₃ n₄ n₅ n₆ n₇ ∙ rw other
+  by-none n₁ n₂ n₃ n₄ n₅ n₆ n₇ narrow wide =
+      by-other n₁ n₂ n₃ n₄ n₅ n₆ n₇ ∙ rw (not-between byte 0x30 0x34 narrow, not-between byte 0x38 0x3c wide)

@@ -3,19 +3,19 @@
 -- Assumes nothing.
 use Prim.Native.Nat.{ℕ, _≤_}
 use mathlib.Core.Path.{_≡_, refl, ap, _∙_}
-use mathlib.Core.Bool.{true}
+use mathlib.Core.Bool.{Bool, true, false}
 use mathlib.Core.List.{List, [], _∷_}
 use mathlib.Core.Option.{some}
 use lib.ListN.{length}
 use native.Mathlib.Omega.{arith}
 use Rattle.bundle.specs.Answer.{gives}
-use Rattle.bundle.specs.Commands.{Bytes, Taken, kindByte, inRange, readAt}
+use Rattle.bundle.specs.Commands.{Bytes, Taken, kindByte, accessByte, inRange, readAt}
 use Rattle.bundle.specs.declared.command.AccessKind.{AccessKind}
 use Rattle.bundle.specs.declared.command.AccessKind.the-variants as Kind
 use Rattle.bundle.specs.declared.command.Access.{Access}
 use Rattle.bundle.specs.declared.command.Command.{Command}
 use Rattle.bundle.specs.declared.command.Command.the-variants as Com
-use Rattle.bundle.proofs.Forms.{kind-byte}
+use Rattle.bundle.proofs.Forms.{kindIn, kind-in}
 use Rattle.bundle.proofs.RoundTrip.{read-puts-back, put-reads-back}
 use Rattle.order.specs.Labels.{blank, holding}
 use Rattle.order.specs.declared.label.Triple.{Triple}
@@ -23,12 +23,16 @@ use Rattle.exports.specs.CommandWords.{commandWords, commandBy, commandF
 use Rattle.exports.specs.LabelWords.{labelWords, labelFrom}
 use Rattle.exports.specs.Told.{readTold}
 
-access-by : (k : AccessKind) (words : List ℕ) → commandBy (kindByte k) words ≡ some (accessFrom words)
-unfolding commandBy kindByte
-access-by Kind.Read words = refl
-access-by Kind.Write words = refl
-access-by Kind.AtomicRead words = refl
-access-by Kind.AtomicWrite words = refl
+access-by : (wide : Bool) (k : AccessKind) (words : List ℕ) → commandBy (accessByte wide k) words ≡ some (accessFrom wide (kindIn wide (accessByte wide k)) words)
+unfolding commandBy accessByte kindByte
+access-by false Kind.Read words = refl
+access-by false Kind.Write words = refl
+access-by false Kind.AtomicRead words = refl
+access-by false Kind.AtomicWrite words = refl
+access-by true Kind.Read words = refl
+access-by true Kind.Write words = refl
+access-by true Kind.AtomicRead words = refl
+access-by true Kind.AtomicWrite words = refl
 
 -- the words of a command stand for it
 pub command-back : (c : Command) → commandFrom (commandWords c) ≡ some c
@@ -41,8 +45,9 @@ command-back Com.Barrier = refl
 command-back (Com.Acquire lock) = refl
 command-back (Com.Release lock) = refl
 command-back (Com.Access a) =
-    access-by (a .kind) (commandWords (Com.Access a))
-    ∙ ap (λ (k : AccessKind). some (Com.Access (record { kind = k; site = a .site; range = a .range }))) (kind-byte (a .kind))
+    access-by (a .wide) (a .kind) (commandWords (Com.Access a))
+    ∙ ap (λ (k : AccessKind). some (Com.Access (record { kind = k; wide = a .wide; site = a .site; range = a .range })))
+    (kind-in (a .wide) (a .kind))
 
 -- what is read as words, put takes as words: it writes the same bytes and answers the same position
 pub words-put-back :

@@ -1,11 +1,12 @@
 // Read and put a command. A command is nine words: its byte, team, member, lock, site, base, stride, count and size; what a command does not have
 // is 0 when it is read, and is not looked at when it is put.
 use bundle::command::Access;
+use bundle::command::AccessKind;
 use bundle::command::Command;
 use bundle::command::Putting;
 use bundle::command::Range;
 use bundle::command::Reading;
-use bundle::command::kind_byte;
+use bundle::command::access_byte;
 use bundle::command::kind_of;
 use bundle::command::put_command;
 use bundle::command::read_command;
@@ -13,8 +14,6 @@ use bundle::refusal::Cause;
 use bundle::refusal::number;
 ghost use mathlib.Core.Path.{_≡_};
 ghost use mathlib.Core.Option.{some};
-ghost use Prim.Native.Nat.{_<_};
-ghost use lib.ListN.{getD};
 ghost use Rattle.bundle.specs.Commands.{readAt, puttingOf};
 ghost use Rattle.exports.specs.CommandWords.{commandWords, commandFrom, accessFrom, putFrom};
 ghost use Rattle.exports.specs.Inner.{Makes};
@@ -35,11 +34,11 @@ fn access_words(access: Access) -> [u32; 9]
     let kind = access.kind;
     let range = access.range;
     [
-        kind_byte(kind) as u32,
+        access_byte(access.wide, kind) as u32,
         0,
         0,
         0,
-        access.site as u32,
+        access.site,
         range.base,
         range.stride as u32,
         range.count as u32,
@@ -140,19 +139,14 @@ fn release_from(lock: u32) -> Made
     Made::Command(Command::Release(lock as u8))
 }
 
-fn access_from(words: &[u32; 9]) -> Made
-    requires { ⌜ getD (now words) 0 0 < 256 ⌝ }
-    ensures { λ r. ⌜ Makes (some (accessFrom (now (words .entry)))) r ⌝ }
+fn access_from(words: &[u32; 9], wide: bool, kind: AccessKind) -> Made
+    ensures { λ r. ⌜ Makes (some (accessFrom wide kind (now (words .entry)))) r ⌝ }
 {
-    let byte = words[0];
     let site = words[4];
     let base = words[5];
     let stride = words[6];
     let count = words[7];
     let size = words[8];
-    if 65535 < site {
-        return Made::TooWide;
-    }
     if 65535 < stride {
         return Made::TooWide;
     }
@@ -162,7 +156,6 @@ fn access_from(words: &[u32; 9]) -> Made
     if 255 < size {
         return Made::TooWide;
     }
-    let kind = kind_of(byte as u8);
     let range = Range {
         base,
         stride: stride as u16,
@@ -171,7 +164,8 @@ fn access_from(words: &[u32; 9]) -> Made
     };
     Made::Command(Command::Access(Access {
         kind,
-        site: site as u16,
+        wide,
+        site,
         range,
     }))
 }
@@ -188,7 +182,8 @@ fn command_from(words: &[u32; 9]) -> Made
         0x11 => Made::Command(Command::Barrier),
         0x20 => acquire_from(words[3]),
         0x21 => release_from(words[3]),
-        0x30..=0x33 => access_from(words),
+        0x30..=0x33 => access_from(words, false, kind_of(words[0] as u8)),
+        0x38..=0x3b => access_from(words, true, kind_of((words[0] - 8) as u8)),
         _ => Made::NoCommand,
     }
 }

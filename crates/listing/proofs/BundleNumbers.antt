@@ -18,28 +18,27 @@ use Rattle.bundle.proofs.Keys.{perm-distinct}
 use Rattle.bundle.proofs.Places.{memberKey}
 use Rattle.bundle.proofs.Tables.{table-length}
 use Rattle.order.specs.Ranges.{sharedByte}
-use Rattle.order.specs.Pairs.{elementFrom}
 use Rattle.order.proofs.SharedByte.{shared-some}
 use Rattle.order.proofs.PairBytes.{touch-fits}
 use Rattle.verdict.specs.Graph.{segmentsOf, closureOf}
 use Rattle.verdict.specs.Races.{accessesOf, racesAmong, racesOf}
 use Rattle.verdict.specs.Matrix.{PathBits}
 use Rattle.verdict.specs.Working.{accessRowAt, AccessTable}
-use Rattle.verdict.specs.Tallying.{rowName, rowRange, rowsMeet, rowsClash, rowElement, raceFrom, RowFits, SideOf}
+use Rattle.verdict.specs.Tallying.{packed, NameFits, nameIn, rowName, rowRange, rowsMeet, rowsClash, rowElement, raceFrom, RowFits}
 use Rattle.verdict.specs.declared.rows.AccessRow.{AccessRow}
 use Rattle.verdict.specs.declared.race.Race.{Race}
 use Rattle.verdict.proofs.Sorting.{order-intro, order-elim, ascending-unique}
 use Rattle.verdict.proofs.AccessNames.{accesses-distinct}
 use Rattle.verdict.proofs.RaceList.{races-ascending}
 use Rattle.verdict.proofs.PackedNames.{side-packed}
-use Rattle.listing.specs.Listing.{doubleWords, namesOf, rankIn, numbersOf, numberFor, raceNumber, elementIn, raceIn}
-use Rattle.listing.specs.Ranking.{orderOf, Copied, sideOfRow, doubleAt, wordOf}
+use Rattle.listing.specs.Listing.{doubleWords, namesOf, rankIn, numbersOf, numberFor, raceNumber, nameOf, siteOf, elementIn, raceIn}
+use Rattle.listing.specs.Ranking.{orderOf, Copied, sideOfRow, spotOfRow, doubleAt, wordOf}
 use Rattle.listing.specs.Pushing.{raceByte, allNumbers}
 use Rattle.listing.proofs.RankLaws.{getD-left}
 use Rattle.listing.proofs.OrderLaws.{table-at}
 use Rattle.listing.proofs.NumberLists.{Numbers, ranksOf, number-witness, number-first, number-second, numbers-elim, numbers-intro, numbers-distinct}
 use Rattle.listing.proofs.RaceNumbers.{raceOfNumber, race-of-parts, number-race, race-number, numbers-ascend}
-use Rattle.listing.proofs.NameTables.{even-word, odd-word, site-small, stride-small, row-fits, doubles-table, words-table, rank-found}
+use Rattle.listing.proofs.NameTables.{even-word, odd-word, site-small, size-small, stride-small, row-fits, doubles-table, words-table, rank-found}
 
 -- a map that changes no element
 map-kept : {A : Type 0} (f : ℕ → A) (g : A → ℕ) (ks : List ℕ) → ((k : ℕ) → List·Memᴰ k ks → g (f k) ≡ k) → map g (map f ks) ≡ ks
@@ -60,12 +59,39 @@ byte-small m fs one other {w} ok e = go (rowsMeet one other && rowsClash m fs on
     go true q = touch-fits (rowRange one) w ok (shared-some (rowRange one) (rowRange other) w q .one)
     go false q = absurd (let z : _≡_ {A = ℕ} 0 1 = cc in omega arith)
 
--- the parts of an access's second word
-element-parts : (end stride byte : ℕ) → stride < 65536 → elementIn (end * 65536 + stride) byte ≡ elementFrom end stride byte
-element-parts end stride byte h =
-    let high : (end * 65536 + stride) / 65536 ≡ end = omega arith in
-    let low : (end * 65536 + stride) % 65536 ≡ stride = omega arith in
-    rw (high, low)
+-- what stands in two words of 64 bits
+side-parts : (p z t : ℕ) → z < 256 → t < 65536 → (p * 16777216 + z * 65536 + t) / 256 ≡ p * 65536 + (z * 256 + t / 256)
+side-parts p z t hz ht = omega arith
+
+side-size : (p z t : ℕ) → z < 256 → t < 65536 → (p * 16777216 + z * 65536 + t) / 65536 % 256 ≡ z
+side-size p z t hz ht = omega arith
+
+side-stride : (p z t : ℕ) → t < 65536 → (p * 16777216 + z * 65536 + t) % 65536 ≡ t
+side-stride p z t ht = omega arith
+
+spot-base : (b s : ℕ) → s < 4294967296 → (b * 4294967296 + s) / 4294967296 ≡ b
+spot-base b s h = omega arith
+
+spot-site : (b s : ℕ) → s < 4294967296 → (b * 4294967296 + s) % 4294967296 ≡ s
+spot-site b s h = omega arith
+
+-- and in those of a row
+module _ (r : AccessRow) (fits : NameFits (rowName r)) (z : r .size < 256) (t : r .stride < 65536) (s : r .site < 4294967296) where
+  name-held : nameOf (sideOfRow r) ≡ rowName r
+  name-held =
+      ap nameIn (side-parts (packed (rowName r)) (r .size) (r .stride) z t)
+      ∙ side-packed (record { is = refl; fits = fits }) (omega arith) .name-in
+
+  site-held : siteOf (spotOfRow r) ≡ r .site
+  site-held = spot-site (r .base) (r .site) s
+
+  element-held : (w : ℕ) → elementIn (sideOfRow r) (spotOfRow r) w ≡ rowElement r w
+  element-held w =
+      rw (
+        spot-base (r .base) (r .site) s,
+        side-size (packed (rowName r)) (r .size) (r .stride) z t,
+        side-stride (packed (rowName r)) (r .size) (r .stride) t,
+      )
 
 module _
     (cs : List Chunk) (members : Distinct (map memberKey cs))
@@ -156,18 +182,27 @@ module _
         getD-left (table (wordOf ordered) (2 * n)) rest i (omega (arith, table-length (wordOf ordered) (2 * n)))
         ∙ table-at (wordOf ordered) (2 * n) i h
 
-    side-read : (i : ℕ) → i < n → SideOf (rowName (accessRowAt ordered i)) (accessRowAt ordered i .site) (getD held (2 * i) 0)
-    side-read i h =
-        let at : getD held (2 * i) 0 ≡ sideOfRow (accessRowAt ordered i) = word-read (2 * i) (omega arith) ∙ even-word ordered i in
-        rw at
-        (side-packed (record { is = refl; fits = row-fits tab (accesses-distinct cs members) small n all copied i h })
-        (site-small tab (accesses-distinct cs members) small n all copied ordered i))
+    -- the two words at a rank read as the row
+    record Read (row : AccessRow) (side spot : ℕ) : Type 0 where
+      pub name : nameOf side ≡ rowName row
+      pub site : siteOf spot ≡ row .site
+      pub element : (w : ℕ) → elementIn side spot w ≡ rowElement row w
 
-    reach-read : (i w : ℕ) → i < n → elementIn (getD held (2 * i + 1) 0) w ≡ rowElement (accessRowAt ordered i) w
-    reach-read i w h =
+    row-read : (i : ℕ) → i < n → Read (accessRowAt ordered i) (getD held (2 * i) 0) (getD held (2 * i + 1) 0)
+    row-read i h =
         let row = accessRowAt ordered i in
-        ap (λ (x : ℕ). elementIn x w) (word-read (2 * i + 1) (omega arith) ∙ odd-word ordered i)
-        ∙ element-parts (row .base + row .size) (row .stride) w (stride-small tab (accesses-distinct cs members) small n all copied ordered i)
+        let side : getD held (2 * i) 0 ≡ sideOfRow row = word-read (2 * i) (omega arith) ∙ even-word ordered i in
+        let spot : getD held (2 * i + 1) 0 ≡ spotOfRow row = word-read (2 * i + 1) (omega arith) ∙ odd-word ordered i in
+        let fits = row-fits tab (accesses-distinct cs members) small n all copied i h in
+        let size = size-small tab (accesses-distinct cs members) small n all copied ordered i in
+        let stride = stride-small tab (accesses-distinct cs members) small n all copied ordered i in
+        let site = site-small tab (accesses-distinct cs members) small n all copied i h in
+        rw (side, spot)
+        (record {
+          name = name-held row fits size stride site;
+          site = site-held row fits size stride site;
+          element = element-held row fits size stride site;
+        })
 
     number-read : (k : ℕ) → List·Memᴰ k numbers → raceIn held k ≡ race k
     unfolding raceIn
@@ -184,23 +219,17 @@ module _
         let top : k / 1048576 ≡ w = ap (λ (x : ℕ). x / 1048576) (r .is) ∙ number-witness w i j (omega (arith, few)) (omega (arith, few)) in
         let low : w < 4294967296 = byte-small m (forksOf cs) (accessRowAt ordered i) (accessRowAt ordered j) (fits i c .range) (r .byte) in
         let witness : k / 1048576 % 4294967296 ≡ w = ap (λ (x : ℕ). x % 4294967296) top ∙ small-rest w low in
-        let first : SideOf (rowName (accessRowAt ordered i)) (accessRowAt ordered i .site) (getD held (2 * (k / 1024 % 1024)) 0) = rw one (side-read i c) in
-        let second : SideOf (rowName (accessRowAt ordered j)) (accessRowAt ordered j .site) (getD held (2 * (k % 1024)) 0) = rw other (side-read j b) in
-        let element : elementIn (getD held (2 * (k / 1024 % 1024) + 1) 0) (k / 1048576 % 4294967296) ≡ rowElement (accessRowAt ordered i) w =
-        rw (one, witness) (reach-read i w c)
-        in
-        let other-element : elementIn (getD held (2 * (k % 1024) + 1) 0) (k / 1048576 % 4294967296) ≡ rowElement (accessRowAt ordered j) w =
-        rw (other, witness) (reach-read j w b)
-        in
+        let first : Read (accessRowAt ordered i) (getD held (2 * (k / 1024 % 1024)) 0) (getD held (2 * (k / 1024 % 1024) + 1) 0) = rw one (row-read i c) in
+        let second : Read (accessRowAt ordered j) (getD held (2 * (k % 1024)) 0) (getD held (2 * (k % 1024) + 1) 0) = rw other (row-read j b) in
         (λ q.
         record {
           witness = witness q;
-          first = first .name-in q;
-          «first_site» = first .rest-in q;
-          «first_element» = element q;
-          second = second .name-in q;
-          «second_site» = second .rest-in q;
-          «second_element» = other-element q;
+          first = first .name q;
+          «first_site» = first .site q;
+          «first_element» = (ap (elementIn _ _) witness ∙ first .element w) q;
+          second = second .name q;
+          «second_site» = second .site q;
+          «second_element» = (ap (elementIn _ _) witness ∙ second .element w) q;
         })
         ∙ sym (ap race (r .is) ∙ race-of-parts paths (forksOf cs) tab (accesses-distinct cs members) small n all copied w i j (omega (arith, few)) (omega (arith, few)))
       where

@@ -26,7 +26,7 @@ use Rattle.verdict.proofs.AccessNames.{accessKey}
 use Rattle.verdict.proofs.ListPlaces.{below-at}
 use Rattle.verdict.proofs.RowRaces.{row-range}
 use Rattle.listing.specs.Listing.{doubleWord, rankIn}
-use Rattle.listing.specs.Ranking.{nameWord, orderOf, Copied, sideOfRow, reachOfRow, doubleOfRow, doubleAt, wordOf}
+use Rattle.listing.specs.Ranking.{nameWord, orderOf, Copied, sideOfRow, spotOfRow, doubleOfRow, doubleAt, wordOf}
 use Rattle.listing.proofs.RankLaws.{order-length}
 use Rattle.listing.proofs.OrderLaws.{sorted-same, table-at}
 use Rattle.listing.proofs.RankedAccesses.{ranked, name-of, names-ascend}
@@ -56,13 +56,13 @@ pub even-word : (rows : List ℕ) (i : ℕ) → wordOf rows (2 * i) ≡ sideOfRo
 even-word rows i =
     let rest : 2 * i % 2 ≡ 0 = omega arith in
     let half : 2 * i / 2 ≡ i = omega arith in
-    ap₂ (λ (a b : ℕ). cond (eqb a 0) (sideOfRow (accessRowAt rows b)) (reachOfRow (accessRowAt rows b))) rest half
+    ap₂ (λ (a b : ℕ). cond (eqb a 0) (sideOfRow (accessRowAt rows b)) (spotOfRow (accessRowAt rows b))) rest half
 
-pub odd-word : (rows : List ℕ) (i : ℕ) → wordOf rows (2 * i + 1) ≡ reachOfRow (accessRowAt rows i)
+pub odd-word : (rows : List ℕ) (i : ℕ) → wordOf rows (2 * i + 1) ≡ spotOfRow (accessRowAt rows i)
 odd-word rows i =
     let rest : (2 * i + 1) % 2 ≡ 1 = omega arith in
     let half : (2 * i + 1) / 2 ≡ i = omega arith in
-    ap₂ (λ (a b : ℕ). cond (eqb a 0) (sideOfRow (accessRowAt rows b)) (reachOfRow (accessRowAt rows b))) rest half
+    ap₂ (λ (a b : ℕ). cond (eqb a 0) (sideOfRow (accessRowAt rows b)) (spotOfRow (accessRowAt rows b))) rest half
 
 -- two words for each element of a table
 two-each :
@@ -100,30 +100,30 @@ module _
   abbrev byName : List ℕ
   byName = table (doubleAt ordered) n
 
-  pub site-small : (words : List ℕ) (r : ℕ) → accessRowAt words r .site < 65536
-  unfolding accessRowAt
-  site-small words r = omega arith
-
   pub row-fits : (i : ℕ) → i < n → NameFits (rowName (accessRowAt ordered i))
   row-fits i h =
       let a = ranked tab distinct small n all copied i h in
       subst NameFits (sym (name-of tab distinct small n all copied (a .row))) (a .fits)
 
-  -- the parts of a row's second word fit their widths, and so does the word
+  -- the parts of a row's words fit their widths, and so does the second word
   base-small : (i : ℕ) → i < n → accessRowAt ordered i .base < 4294967296
   unfolding accessRowAt
   base-small i h = omega (arith, ap (λ (r : AccessRow). r .base) (copied .each i h), small (getD (orderOf rows n) i 0 % 1024))
+
+  pub site-small : (i : ℕ) → i < n → accessRowAt ordered i .site < 4294967296
+  unfolding accessRowAt
+  site-small i h = omega (arith, ap (λ (r : AccessRow). r .site) (copied .each i h), small (getD (orderOf rows n) i 0 % 1024 + 7168))
 
   pub stride-small : (words : List ℕ) (r : ℕ) → accessRowAt words r .stride < 65536
   unfolding accessRowAt
   stride-small words r = omega arith
 
-  size-small : (words : List ℕ) (r : ℕ) → accessRowAt words r .size < 256
+  pub size-small : (words : List ℕ) (r : ℕ) → accessRowAt words r .size < 256
   unfolding accessRowAt
   size-small words r = omega arith
 
-  reach-small : (i : ℕ) → i < n → reachOfRow (accessRowAt ordered i) < 18446744073709551616
-  reach-small i h = omega (arith, base-small i h, stride-small ordered i, size-small ordered i)
+  spot-small : (i : ℕ) → i < n → spotOfRow (accessRowAt ordered i) < 18446744073709551616
+  spot-small i h = omega (arith, base-small i h, site-small i h)
 
   names-up : (i j : ℕ) → i < j → j < n → packed (rowName (accessRowAt ordered i)) < packed (rowName (accessRowAt ordered j))
   names-up i j h l =
@@ -140,14 +140,14 @@ module _
       let k : j < n = omega (arith, table-length (doubleAt ordered) n) in
       let p = table-at (doubleAt ordered) n i (omega arith) in
       let q = table-at (doubleAt ordered) n j k in
-      omega (arith, names-up i j h k, site-small ordered i, reach-small i (omega arith)))
+      omega (arith, names-up i j h k, size-small ordered i, stride-small ordered i, spot-small i (omega arith)))
 
   -- the double word of a row is that of its access
   double-of : {x : NamedAccess} {r : AccessRow} → RowOf ss x r → doubleOfRow r ≡ doubleWord x
   double-of of =
       ap₂ (λ (a b : ℕ). a * 18446744073709551616 + b)
-      (ap₂ (λ (a : Name) (s : ℕ). packed a * 65536 + s) (name-of tab distinct small n all copied of) (of .site))
-      (ap (λ (a : Range). (a .base + a .size) * 65536 + a .stride) (row-range of))
+      (ap₂ (λ (a : Name) (r : Range). packed a * 16777216 + r .size * 65536 + r .stride) (name-of tab distinct small n all copied of) (row-range of))
+      (ap₂ (λ (r : Range) (s : ℕ). r .base * 4294967296 + s) (row-range of) (of .site))
 
   -- the double words of the accesses as they stand in the bundle
   doubles-listed : map doubleWord xs ≡ table (doubleAt rows) n
@@ -201,7 +201,7 @@ module _
       (λ k l e. omega (arith, names-up k i l h, at k (omega arith))))
     where
       front : ℕ → ℕ
-      front double = double / 18446744073709551616 / 65536
+      front double = double / 18446744073709551616 / 16777216
 
       key : ℕ
       key = packed (rowName (accessRowAt ordered i))
@@ -216,10 +216,10 @@ module _
       at k l =
           map-getD front byName k (omega (arith, table-length (doubleAt ordered) n))
           ∙ ap front (table-at (doubleAt ordered) n k l)
-          ∙ front-is (packed (rowName (accessRowAt ordered k))) (accessRowAt ordered k .site) (reachOfRow (accessRowAt ordered k)) (site-small ordered k) (reach-small k l)
+          ∙ front-is (packed (rowName (accessRowAt ordered k))) (accessRowAt ordered k .size) (accessRowAt ordered k .stride) (spotOfRow (accessRowAt ordered k)) (size-small ordered k) (stride-small ordered k) (spot-small k l)
         where
-          front-is : (p s r : ℕ) → s < 65536 → r < 18446744073709551616 → front ((p * 65536 + s) * 18446744073709551616 + r) ≡ p
-          front-is p s r b d = omega arith
+          front-is : (p z t r : ℕ) → z < 256 → t < 65536 → r < 18446744073709551616 → front ((p * 16777216 + z * 65536 + t) * 18446744073709551616 + r) ≡ p
+          front-is p z t r b c d = omega arith
 
   -- the two words of each
   abbrev pub split : ℕ → List ℕ
@@ -228,11 +228,11 @@ module _
   split-row : (i : ℕ) → i < n → split (doubleAt ordered i) ≡ wordOf ordered (2 * i) ∷ wordOf ordered (2 * i + 1) ∷ []
   split-row i h =
       let side : ℕ = sideOfRow (accessRowAt ordered i) in
-      let reach : ℕ = reachOfRow (accessRowAt ordered i) in
-      let b = reach-small i h in
+      let spot : ℕ = spotOfRow (accessRowAt ordered i) in
+      let b = spot-small i h in
       ap₂ (λ (a c : ℕ). a ∷ c ∷ [])
-      (high side reach b ∙ sym (even-word ordered i))
-      (low side reach b ∙ sym (odd-word ordered i))
+      (high side spot b ∙ sym (even-word ordered i))
+      (low side spot b ∙ sym (odd-word ordered i))
     where
       high : (s r : ℕ) → r < 18446744073709551616 → (s * 18446744073709551616 + r) / 18446744073709551616 ≡ s
       high s r b = omega arith

@@ -21,16 +21,16 @@ use Rattle.listing.specs.declared.list.Totals.{Totals}
 use Rattle.listing.specs.declared.list.Listed.{Listed}
 use Rattle.listing.specs.declared.list.Listed.the-variants as Lis
 
--- an access in two words of 64 bits: its name and site; and of its range the end of element 0 and the stride
+-- an access in two words of 64 bits: its name with the size and the stride of its range; the range's base with its site
 abbrev pub sideOf : NamedAccess → ℕ
-sideOf x = packed (x .name) * 65536 + x .access .site
+sideOf x = packed (x .name) * 16777216 + x .access .range .size * 65536 + x .access .range .stride
 
-abbrev pub reachOf : NamedAccess → ℕ
-reachOf x = (x .access .range .base + x .access .range .size) * 65536 + x .access .range .stride
+abbrev pub spotOf : NamedAccess → ℕ
+spotOf x = x .access .range .base * 4294967296 + x .access .site
 
 -- both as one number of 128 bits; the order of these numbers is that of the names
 abbrev pub doubleWord : NamedAccess → ℕ
-doubleWord x = sideOf x * 18446744073709551616 + reachOf x
+doubleWord x = sideOf x * 18446744073709551616 + spotOf x
 
 -- all accesses, in the order of their names
 unfoldable pub doubleWords : List Chunk → List ℕ
@@ -42,7 +42,7 @@ namesOf cs = concatMap (λ double. double / 18446744073709551616 ∷ double % 18
 
 -- the rank of a name: its place among them
 unfoldable pub rankIn : List ℕ → Name → ℕ
-rankIn doubles n = indexOf (eqb (packed n)) (map (λ double. double / 18446744073709551616 / 65536) doubles)
+rankIn doubles n = indexOf (eqb (packed n)) (map (λ double. double / 18446744073709551616 / 16777216) doubles)
 
 -- a race as one number: its witness, and the ranks of its names
 abbrev pub numberFor : ℕ → ℕ → ℕ → ℕ
@@ -51,9 +51,15 @@ numberFor witness first second = witness * 1048576 + first * 1024 + second
 unfoldable pub raceNumber : List ℕ → Race → ℕ
 raceNumber doubles r = numberFor (r .witness) (rankIn doubles (r .first)) (rankIn doubles (r .second))
 
--- the lowest element that covers a byte, by the second word of an access
-abbrev pub elementIn : ℕ → ℕ → ℕ
-elementIn reach byte = elementFrom (reach / 65536) (reach % 65536) byte
+-- what stands in the two words of an access: its name, its site, and the lowest element that covers a byte
+abbrev pub nameOf : ℕ → Name
+nameOf side = nameIn (side / 256)
+
+abbrev pub siteOf : ℕ → ℕ
+siteOf spot = spot % 4294967296
+
+abbrev pub elementIn : ℕ → ℕ → ℕ → ℕ
+elementIn side spot byte = elementFrom (spot / 4294967296 + side / 65536 % 256) (side % 65536) byte
 
 -- the race that a number stands for
 unfoldable pub raceIn : List ℕ → ℕ → Race
@@ -63,12 +69,12 @@ raceIn names number =
     let witness = number / 1048576 % 4294967296 in
     record {
       witness = witness;
-      first = nameIn (getD names (2 * one) 0);
-      «first_site» = getD names (2 * one) 0 % 65536;
-      «first_element» = elementIn (getD names (2 * one + 1) 0) witness;
-      second = nameIn (getD names (2 * other) 0);
-      «second_site» = getD names (2 * other) 0 % 65536;
-      «second_element» = elementIn (getD names (2 * other + 1) 0) witness;
+      first = nameOf (getD names (2 * one) 0);
+      «first_site» = siteOf (getD names (2 * one + 1) 0);
+      «first_element» = elementIn (getD names (2 * one) 0) (getD names (2 * one + 1) 0) witness;
+      second = nameOf (getD names (2 * other) 0);
+      «second_site» = siteOf (getD names (2 * other + 1) 0);
+      «second_element» = elementIn (getD names (2 * other) 0) (getD names (2 * other + 1) 0) witness;
     }
 
 -- the numbers of all races, in the order of the races

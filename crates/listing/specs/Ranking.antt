@@ -29,20 +29,20 @@ pub record Copied (rows words : List ℕ) (n : ℕ) (before after : List ℕ) : 
   pub long : length after ≡ length before
   pub each : (i : ℕ) → i < n → accessRowAt after i ≡ accessRowAt rows (getD words i 0 % 1024)
 
--- the two words of a row: name and site; the end of element 0 and the stride
+-- the two words of a row: name, size and stride; base and site
 abbrev pub sideOfRow : AccessRow → ℕ
-sideOfRow r = packed (rowName r) * 65536 + r .site
+sideOfRow r = packed (rowName r) * 16777216 + r .size * 65536 + r .stride
 
-abbrev pub reachOfRow : AccessRow → ℕ
-reachOfRow r = (r .base + r .size) * 65536 + r .stride
+abbrev pub spotOfRow : AccessRow → ℕ
+spotOfRow r = r .base * 4294967296 + r .site
 
 -- both as one number
 abbrev pub doubleOfRow : AccessRow → ℕ
-doubleOfRow r = sideOfRow r * 18446744073709551616 + reachOfRow r
+doubleOfRow r = sideOfRow r * 18446744073709551616 + spotOfRow r
 
 abbrev pub doubleAt : List ℕ → ℕ → ℕ
 doubleAt rows i = doubleOfRow (accessRowAt rows i)
 
 -- the words of the rows one after another
 abbrev pub wordOf : List ℕ → ℕ → ℕ
-wordOf rows i = cond (eqb (i % 2) 0) (sideOfRow (accessRowAt rows (i / 2))) (reachOfRow (accessRowAt rows (i / 2)))
+wordOf rows i = cond (eqb (i % 2) 0) (sideOfRow (accessRowAt rows (i / 2))) (spotOfRow (accessRowAt rows (i / 2)))

@@ -9,7 +9,7 @@ ghost use Prim.Native.Nat.{_+_, _*_, _≤_, _<_};
 ghost use lib.ListN.{length, drop, set};
 ghost use Rattle.bundle.specs.Index.{table};
 ghost use Rattle.verdict.specs.Tallying.{packed, rowName};
-ghost use Rattle.listing.specs.Ranking.{RowsIn, nameWord, orderOf, Copied, sideOfRow, reachOfRow, wordOf};
+ghost use Rattle.listing.specs.Ranking.{RowsIn, nameWord, orderOf, Copied, sideOfRow, spotOfRow, wordOf};
 
 // An access's name and its place in the table as one number: in the order of these numbers the names are in order.
 fn name_word(row: AccessRow, place: u32) -> u64
@@ -68,31 +68,32 @@ pub fn by_name(rows: &[u32], n: u32, ordered: &mut [u32])
     copy_rows(rows, &words, n, ordered);
 }
 
-// An access's name and site as one number.
+// An access's name with the size and the stride of its range as one number.
 fn side_of(row: AccessRow) -> u64
     ensures { λ r. ⌜ r ≡ sideOfRow row ⌝ }
 {
     let team = row.team as u64;
     let member = row.member as u64;
     let number = row.number as u64;
-    (team * 16777216 + member * 65536 + number) * 65536 + row.site as u64
+    let size = row.size as u64;
+    (team * 16777216 + member * 65536 + number) * 16777216 + size * 65536 + row.stride as u64
 }
 
-// The end of an access's element 0 and its stride as one number.
-fn reach_of(row: AccessRow) -> u64
-    ensures { λ r. ⌜ r ≡ reachOfRow row ⌝ }
+// The base of its range and its site as one number.
+fn spot_of(row: AccessRow) -> u64
+    ensures { λ r. ⌜ r ≡ spotOfRow row ⌝ }
 {
-    (row.base as u64 + row.size as u64) * 65536 + row.stride as u64
+    row.base as u64 * 4294967296 + row.site as u64
 }
 
 // Writes the two words of the i-th access.
 fn put_access(names: &mut [u64], i: u32, row: AccessRow)
     requires { ⌜ 2 * i + 1 < length (now names) ⌝ }
-    ensures { λ _. ⌜ now (names .exit) ≡ set (set (now (names .entry)) (2 * i) (sideOfRow row)) (2 * i + 1) (reachOfRow row) ⌝ }
+    ensures { λ _. ⌜ now (names .exit) ≡ set (set (now (names .entry)) (2 * i) (sideOfRow row)) (2 * i + 1) (spotOfRow row) ⌝ }
 {
     let at = 2 * i as usize;
     names[at] = side_of(row);
-    names[at + 1] = reach_of(row);
+    names[at + 1] = spot_of(row);
 }
 
 // Writes the words of the first n accesses over the front of `names`.

@@ -23,11 +23,15 @@ fn word_at(names: &[u64], place: usize) -> u64
     0
 }
 
-// The lowest element of an access that covers a byte, by the word of its range.
-fn element_in(reach: u64, byte: u32) -> u32
-    ensures { λ r. ⌜ r ≡ elementIn reach byte ⌝ }
+// The lowest element of an access that covers a byte, by its two words.
+fn element_in(side: u64, spot: u64, byte: u32) -> u32
+    ensures { λ r. ⌜ r ≡ elementIn side spot byte ⌝ }
 {
-    element_from(reach / 65536, (reach % 65536) as u16, byte)
+    element_from(
+        spot / 4294967296 + side / 65536 % 256,
+        (side % 65536) as u16,
+        byte,
+    )
 }
 
 // The race that a number stands for.
@@ -38,14 +42,16 @@ pub fn race_in(names: &[u64], number: u64) -> Race
     let other = (number % 1024) as usize;
     let witness = (number / 1048576 % 4294967296) as u32;
     let first = word_at(names, 2 * one);
+    let first_spot = word_at(names, 2 * one + 1);
     let second = word_at(names, 2 * other);
+    let second_spot = word_at(names, 2 * other + 1);
     Race {
         witness,
-        first: name_in(first),
-        first_site: (first % 65536) as u16,
-        first_element: element_in(word_at(names, 2 * one + 1), witness),
-        second: name_in(second),
-        second_site: (second % 65536) as u16,
-        second_element: element_in(word_at(names, 2 * other + 1), witness),
+        first: name_in(first / 256),
+        first_site: (first_spot % 4294967296) as u32,
+        first_element: element_in(first, first_spot, witness),
+        second: name_in(second / 256),
+        second_site: (second_spot % 4294967296) as u32,
+        second_element: element_in(second, second_spot, witness),
     }
 }

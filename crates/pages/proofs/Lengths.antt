@@ -1,30 +1,30 @@
 -- How long the lines are: 96 bytes at most. Assumes nothing.
 use mathlib.Core.Path.{_≡_, refl}
 use mathlib.Core.List.{List, []}
-use Prim.Native.Nat.{ℕ, _-_, _*_, _/_, _%_, _≤_, _<_}
+use Prim.Native.Nat.{ℕ, _+_, _-_, _*_, _/_, _%_, _≤_, _<_}
 use native.Mathlib.Decide.{ℕ-discrete, decLe}
 use native.Mathlib.Nat.{mod-lt}
 use native.Mathlib.Omega.{arith}
 use lib.Dec.{eqb}
 use lib.ListN.{length, getD, take, length-take}
 use Rattle.bundle.proofs.Tests.{cond-elim}
-use Rattle.verdict.specs.Tallying.{nameIn}
 use Rattle.text.specs.Lines.{raceLine, pairsLine, raceFreeLine}
 use Rattle.text.proofs.LineLengths.{Within, _then_, within, word, end, Named, access-length, race-length, counts-length, pairs-length}
-use Rattle.listing.specs.Listing.{raceIn}
+use Rattle.listing.specs.Listing.{nameOf, siteOf, raceIn}
 use Rattle.listing.specs.declared.list.Totals.{Totals}
 use Rattle.pages.specs.Listings.{lastLine, linesIn}
 use Rattle.pages.specs.Inner.{textOf}
 use Rattle.pages.proofs.Indexing.{lines-count, line-first, line-race, line-last}
 
-named : (side : ℕ) → Named (nameIn side)
+named : (side : ℕ) → Named (nameOf side)
 named side = record { team = mod-lt _ (omega arith); member = mod-lt _ (omega arith); number = mod-lt _ (omega arith) }
 
 -- the text of an access
-pub text-within : (side : ℕ) → Within 24 (textOf side)
-text-within side = access-length (nameIn side) (side % 65536) (named side) (mod-lt _ (omega arith))
+pub text-within : (names : List ℕ) (i : ℕ) → Within 29 (textOf names i)
+text-within names i =
+    access-length (nameOf (getD names (2 * i) 0)) (siteOf (getD names (2 * i + 1) 0)) (named (getD names (2 * i) 0)) (mod-lt _ (omega arith))
 
-race : (names : List ℕ) (number : ℕ) → Within 62 (raceLine (raceIn names number))
+race : (names : List ℕ) (number : ℕ) → Within 72 (raceLine (raceIn names number))
 unfolding raceIn
 race names number =
     race-length (raceIn names number) (named (getD names (2 * (number / 1024 % 1024)) 0)) (mod-lt _ (omega arith))

@@ -25,31 +25,31 @@ pub sides-none : (names s : List ℕ) → length s ≡ 32768 → Sides names 0 s
 sides-none names s e = record { long = e; texts = λ i h. absurd (omega arith) }
 
 -- the second access of the race whose number is a rank
-second-text : (names : List ℕ) (rank : ℕ) → rank < 1024 → accessText (raceIn names rank .second) (raceIn names rank .«second_site») ≡ textOf (getD names (2 * rank) 0)
+second-text : (names : List ℕ) (rank : ℕ) → rank < 1024 → accessText (raceIn names rank .second) (raceIn names rank .«second_site») ≡ textOf names rank
 unfolding raceIn
-second-text names rank h = ap (λ (k : ℕ). textOf (getD names (2 * k) 0)) (mod-eq-of-lt h)
+second-text names rank h = ap (textOf names) (mod-eq-of-lt h)
 
-text-added : (names s : List ℕ) (rank : ℕ) → rank < 1024 → Sides names rank s → Sides names (rank + 1) (withSide s rank (textOf (getD names (2 * rank) 0)))
+text-added : (names s : List ℕ) (rank : ℕ) → rank < 1024 → Sides names rank s → Sides names (rank + 1) (withSide s rank (textOf names rank))
 text-added names s rank h p =
-    let text = textOf (getD names (2 * rank) 0) in
+    let text = textOf names rank in
     let room : rank * 32 + 32 ≤ length s = omega (arith, p .long) in
-    let short : length text ≤ 31 = omega (arith, text-within (getD names (2 * rank) 0) .most) in
+    let short : length text ≤ 31 = omega (arith, text-within names rank .most) in
     record {
       long = side-long s rank text room short ∙ p .long;
       texts = λ i l. go i l room short (decLt i rank);
     }
   where
-    go : (i : ℕ) → i < rank + 1 → rank * 32 + 32 ≤ length s → length (textOf (getD names (2 * rank) 0)) ≤ 31 → Dec (i < rank)
-        → sideText (withSide s rank (textOf (getD names (2 * rank) 0))) i ≡ textOf (getD names (2 * i) 0)
-    go i l room short (yes b) = side-kept s rank (textOf (getD names (2 * rank) 0)) room short i b ∙ p .texts i b
+    go : (i : ℕ) → i < rank + 1 → rank * 32 + 32 ≤ length s → length (textOf names rank) ≤ 31 → Dec (i < rank)
+        → sideText (withSide s rank (textOf names rank)) i ≡ textOf names i
+    go i l room short (yes b) = side-kept s rank (textOf names rank) room short i b ∙ p .texts i b
     go i l room short (no b) =
         let last : i ≡ rank = omega arith in
-        rw last (side-there s rank (textOf (getD names (2 * rank) 0)) room short)
+        rw last (side-there s rank (textOf names rank) room short)
 
 pub sides-more : (names s t : List ℕ) (rank : ℕ) (r : Race) → rank < 1024 → Sides names rank s → r ≡ raceIn names rank
     → t ≡ withSide s rank (accessText (r .second) (r .«second_site»)) → Sides names (rank + 1) t
 sides-more names s t rank r h p e q =
-    let same : t ≡ withSide s rank (textOf (getD names (2 * rank) 0)) =
+    let same : t ≡ withSide s rank (textOf names rank) =
     q ∙ ap (λ (x : Race). withSide s rank (accessText (x .second) (x .«second_site»))) e ∙ ap (withSide s rank) (second-text names rank h) in
     rw same (text-added names s rank h p)
 

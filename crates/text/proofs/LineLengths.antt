@@ -55,11 +55,11 @@ name n f =
     then short (n .number) (f .number)
 
 -- the text of an access
-pub access-length : (n : Name) (site : ℕ) → Named n → site < 65536 → Within 24 (accessText n site)
+pub access-length : (n : Name) (site : ℕ) → Named n → site < 4294967296 → Within 29 (accessText n site)
 unfolding accessText
-access-length n site f s = word " " 1 refl then name n f then word " " 1 refl then short site s
+access-length n site f s = word " " 1 refl then name n f then word " " 1 refl then long site s
 
-pub race-length : (r : Race) → Named (r .first) → r .«first_site» < 65536 → Named (r .second) → r .«second_site» < 65536 → Within 62 (raceLine r)
+pub race-length : (r : Race) → Named (r .first) → r .«first_site» < 4294967296 → Named (r .second) → r .«second_site» < 4294967296 → Within 72 (raceLine r)
 unfolding raceLine
 race-length r first first-site second second-site =
     word "race " 5 refl
@@ -67,11 +67,11 @@ race-length r first first-site second second-site =
     then word " " 1 refl
     then name (r .first) first
     then word " " 1 refl
-    then short (r .«first_site») first-site
+    then long (r .«first_site») first-site
     then word " " 1 refl
     then name (r .second) second
     then word " " 1 refl
-    then short (r .«second_site») second-site
+    then long (r .«second_site») second-site
     then end
 
 pub counts-length : (chunks segments accesses : ℕ) → chunks < 4294967296 → segments < 4294967296 → accesses < 4294967296 → Within 58 (countsLine chunks segments accesses)

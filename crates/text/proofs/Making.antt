@@ -27,6 +27,15 @@ extended-then {s} {at = at} {xs = xs} {ys = ys} p q =
 pub extended-as : {s t : List ℕ} {at n j : ℕ} {xs ys : List ℕ} (k : ℕ) → j ≤ k → xs ≡ ys → Extended s t at n j xs → Extended s t at n k ys
 extended-as {s} {at = at} k h e p = record { text = p .text ∙ ap (λ (l : List ℕ). take at s ++ l) e; long = omega arith; kept = p .kept }
 
+-- fewer bytes than their limit says
+pub extended-short : {s t : List ℕ} {at n j : ℕ} {xs : List ℕ} (k : ℕ) → at ≤ length s → n ≤ length t → length xs ≤ k → Extended s t at n j xs → Extended s t at n k xs
+extended-short {s} {t} {at} {n} {xs = xs} k h l e p =
+    record {
+      text = p .text;
+      long = omega (arith, length-take-le n t l, ap length (p .text), length-append (take at s) xs, length-take-le at s h);
+      kept = p .kept;
+    }
+
 -- one byte
 pub byte-more : (s : List ℕ) (at b : ℕ) → at < length s → Extended s (set s at b) at (at + 1) 1 (b ∷ [])
 byte-more s at b h = record { text = rw (add-one at) (take-suc-set s at b h); long = omega arith; kept = length-set s at b }

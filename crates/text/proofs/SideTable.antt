@@ -53,7 +53,7 @@ unfolding sideText
 side-added s b t at rank room more e =
     part-added s (drop (rank * 32) b) t at (getD b (rank * 32 + 31) 0 % 32) room (omega (arith, length-drop (rank * 32) b)) (mod-lt _ (omega arith)) e
 
-pub side-room : {line made : List ℕ} {size : ℕ} {text : List ℕ} (s : List ℕ) (rank : ℕ) → rank < 1024 → length s ≡ 32768 → Extended line made 0 size 24 text
+pub side-room : {line made : List ℕ} {size : ℕ} {text : List ℕ} (s : List ℕ) (rank : ℕ) → rank < 1024 → length s ≡ 32768 → Extended line made 0 size 29 text
     → rank * 32 + length (take size made) ≤ length s
 side-room {made = made} {size = size} s rank h e m = omega (arith, m .long, length-take size made)
 

@@ -60,7 +60,7 @@ pub fn put_counts(
 
 fn make_race(race: Race, line: &mut [u8; 96]) -> usize
     requires { ⌜ length (now line) ≡ 96 ⌝ }
-    ensures { λ r. ⌜ Extended (now (line .entry)) (now (line .exit)) 0 r 62 (raceLine race) ⌝ }
+    ensures { λ r. ⌜ Extended (now (line .entry)) (now (line .exit)) 0 r 72 (raceLine race) ⌝ }
 {
     let word_next = pieces::put_word(b"race ", line, 0);
     let witness_next = digits::put_hexadecimal(race.witness, line, word_next);

@@ -44,13 +44,24 @@ fn put_part(byte: u8, number: u16, line: &mut [u8; 96], at: usize) -> usize
     digits::put_short(number, line, at + 1)
 }
 
+// A site with a space before it. One of 16 bits is written as the numbers of a name are.
+fn put_site(site: u32, line: &mut [u8; 96], at: usize) -> usize
+    requires { ⌜ (at ≤ 75) × (length (now line) ≡ 96) ⌝ }
+    ensures { λ r. ⌜ Extended (now (line .entry)) (now (line .exit)) at r 11 (0x20 ∷ decimal site) ⌝ }
+{
+    if site < 65536 {
+        return put_part(b' ', site as u16, line, at);
+    }
+    put_count(b" ", site as u64, line, at)
+}
+
 // A name and a site, each with a space before it.
-pub fn put_access(name: Name, site: u16, line: &mut [u8; 96], at: usize) -> usize
-    requires { ⌜ (at ≤ 72) × (length (now line) ≡ 96) ⌝ }
-    ensures { λ r. ⌜ Extended (now (line .entry)) (now (line .exit)) at r 24 (accessText name site) ⌝ }
+pub fn put_access(name: Name, site: u32, line: &mut [u8; 96], at: usize) -> usize
+    requires { ⌜ (at ≤ 57) × (length (now line) ≡ 96) ⌝ }
+    ensures { λ r. ⌜ Extended (now (line .entry)) (now (line .exit)) at r 29 (accessText name site) ⌝ }
 {
     let team_next = put_part(b' ', name.team, line, at);
     let member_next = put_part(b'.', name.member as u16, line, team_next);
     let number_next = put_part(b'.', name.number, line, member_next);
-    put_part(b' ', site, line, number_next)
+    put_site(site, line, number_next)
 }

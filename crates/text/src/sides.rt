@@ -15,7 +15,7 @@ ghost use Rattle.text.specs.Inner.{Extended, accessText};
 ghost use Rattle.text.specs.Sides.{sideText, withSide, sidesLine};
 
 // Makes the text of an access in the table.
-pub fn put_side(name: Name, site: u16, sides: &mut [u8; 32768], rank: usize)
+pub fn put_side(name: Name, site: u32, sides: &mut [u8; 32768], rank: usize)
     requires { ⌜ (rank < 1024) × (length (now sides) ≡ 32768) ⌝ }
     ensures { λ _. ⌜ now (sides .exit) ≡ withSide (now (sides .entry)) rank (accessText name site) ⌝ }
 {

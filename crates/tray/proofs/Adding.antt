@@ -65,26 +65,26 @@ module _ {s t : List ℕ} {at n most : ℕ} {line : List ℕ} (made : Extended s
 
 -- the line of a judgement, by its pieces in the order in which the code puts them
 pub free-made : (j : Judgement) {s t u : List ℕ} {m n : ℕ} → Extended s t 0 m 10 (ascii "race-free ")
-    → Extended t u m n 58 (countsLine (j .chunks) (j .segments) (j .accesses)) → Extended s u 0 n 142 (verdictLine j Ver.RaceFree)
+    → Extended t u m n 58 (countsLine (j .chunks) (j .segments) (j .accesses)) → Extended s u 0 n 152 (verdictLine j Ver.RaceFree)
 unfolding verdictLine
-free-made j word counts = extended-as 142 (omega arith) refl (extended-then word counts)
+free-made j word counts = extended-as 152 (omega arith) refl (extended-then word counts)
 
 pub raced-made : (j : Judgement) (race : Race) {s t u v w : List ℕ} {k l m n : ℕ} → length s ≡ 256 → Extended s t 0 k 5 (ascii "race ")
-    → Extended t u k l 58 (countsLine (j .chunks) (j .segments) (j .accesses)) → Extended (set u (l - 1) 0x20) v l m 62 (raceLine race)
-    → Extended (set v (m - 1) 0x20) w m n 17 (pairsLine (j .races)) → Extended s w 0 n 142 (verdictLine j (Ver.Least race))
+    → Extended t u k l 58 (countsLine (j .chunks) (j .segments) (j .accesses)) → Extended (set u (l - 1) 0x20) v l m 72 (raceLine race)
+    → Extended (set v (m - 1) 0x20) w m n 17 (pairsLine (j .races)) → Extended s w 0 n 152 (verdictLine j (Ver.Least race))
 unfolding verdictLine
 raced-made j race {s} {t} {u} {v} {w} {k} {l} {m} {n} e word counts least pairs =
     let counts-room : k + 58 ≤ length t = omega (arith, word .long, word .kept) in
-    let least-room : l + 62 ≤ length (set u (l - 1) 0x20) = omega (arith, length-set u (l - 1) 0x20, counts .kept, counts .long, word .long, word .kept) in
+    let least-room : l + 72 ≤ length (set u (l - 1) 0x20) = omega (arith, length-set u (l - 1) 0x20, counts .kept, counts .long, word .long, word .kept) in
     let counts′ = spaced-more counts (counts-ends (j .chunks) (j .segments) (j .accesses)) counts-room in
     let least′ = spaced-more least (race-ends race) least-room in
-    extended-as 142 (omega arith) refl (extended-then (extended-then (extended-then word counts′) least′) pairs)
+    extended-as 152 (omega arith) refl (extended-then (extended-then (extended-then word counts′) least′) pairs)
 
-pub judged-as : (j : Judgement) {v x : Verdict} {s t : List ℕ} {n : ℕ} → v ≡ x → Extended s t 0 n 142 (verdictLine j x) → Extended s t 0 n 142 (verdictLine j v)
-judged-as j q made = extended-as 142 (omega arith) (ap (verdictLine j) (sym q)) made
+pub judged-as : (j : Judgement) {v x : Verdict} {s t : List ℕ} {n : ℕ} → v ≡ x → Extended s t 0 n 152 (verdictLine j x) → Extended s t 0 n 152 (verdictLine j v)
+judged-as j q made = extended-as 152 (omega arith) (ap (verdictLine j) (sym q)) made
 
 -- an array of 256 bytes in which a line was made
-module _ {s t : List ℕ} {n : ℕ} (j : Judgement) (v : Verdict) (made : Extended s t 0 n 142 (verdictLine j v)) where
+module _ {s t : List ℕ} {n : ℕ} (j : Judgement) (v : Verdict) (made : Extended s t 0 n 152 (verdictLine j v)) where
   pub judged-size : length s ≡ 256 → n ≡ length (take n t)
   judged-size e = sym (length-take-le n t (omega (arith, made .long, made .kept)))
 

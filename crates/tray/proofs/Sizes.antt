@@ -17,7 +17,7 @@ pub counts-size : (j : Judgement) (vs : List Val) → Is (row judgement-type) j 
 counts-size j vs owned =
     counts-length (j .chunks) (j .segments) (j .accesses) (owned .1 .1 .0 .1) (owned .1 .1 .1 .0 .1) (owned .1 .1 .1 .1 .0 .1) .most
 
-pub race-size : (r : Race) (vs : List Val) → Is (row race-type) r vs → length (raceLine r) ≤ 62
+pub race-size : (r : Race) (vs : List Val) → Is (row race-type) r vs → length (raceLine r) ≤ 72
 race-size r vs owned =
     let first = owned .1 .1 .1 .0 .1 .1 in
     let second = owned .1 .1 .1 .1 .1 .1 .0 .1 .1 in

@@ -54,8 +54,8 @@ fn add_counts(judgement: Judgement, line: &mut [u8; 256], at: usize) -> usize
 }
 
 fn add_race(race: Race, line: &mut [u8; 256], at: usize) -> usize
-    requires { ⌜ (at + 62 ≤ 256) × (length (now line) ≡ 256) ⌝ }
-    ensures { λ r. ⌜ Extended (now (line .entry)) (now (line .exit)) at r 62 (raceLine race) ⌝ }
+    requires { ⌜ (at + 72 ≤ 256) × (length (now line) ≡ 256) ⌝ }
+    ensures { λ r. ⌜ Extended (now (line .entry)) (now (line .exit)) at r 72 (raceLine race) ⌝ }
 {
     next_of(put_race(race, &mut line[..], at))
 }
@@ -69,7 +69,7 @@ fn add_pairs(pairs: u32, line: &mut [u8; 256], at: usize) -> usize
 
 fn make_race_free(judgement: Judgement, line: &mut [u8; 256]) -> usize
     requires { ⌜ length (now line) ≡ 256 ⌝ }
-    ensures { λ r. ⌜ Extended (now (line .entry)) (now (line .exit)) 0 r 142 (verdictLine judgement Ver.RaceFree) ⌝ }
+    ensures { λ r. ⌜ Extended (now (line .entry)) (now (line .exit)) 0 r 152 (verdictLine judgement Ver.RaceFree) ⌝ }
 {
     let next = add_word(b"race-free ", line, 0);
     add_counts(judgement, line, next)
@@ -77,7 +77,7 @@ fn make_race_free(judgement: Judgement, line: &mut [u8; 256]) -> usize
 
 fn make_raced(judgement: Judgement, race: Race, line: &mut [u8; 256]) -> usize
     requires { ⌜ length (now line) ≡ 256 ⌝ }
-    ensures { λ r. ⌜ Extended (now (line .entry)) (now (line .exit)) 0 r 142 (verdictLine judgement (Ver.Least race)) ⌝ }
+    ensures { λ r. ⌜ Extended (now (line .entry)) (now (line .exit)) 0 r 152 (verdictLine judgement (Ver.Least race)) ⌝ }
 {
     let word_next = add_word(b"race ", line, 0);
     let counts_next = add_counts(judgement, line, word_next);
@@ -89,7 +89,7 @@ fn make_raced(judgement: Judgement, race: Race, line: &mut [u8; 256]) -> usize
 
 fn make_judged(judgement: Judgement, line: &mut [u8; 256]) -> usize
     requires { ⌜ length (now line) ≡ 256 ⌝ }
-    ensures { λ r. ⌜ Extended (now (line .entry)) (now (line .exit)) 0 r 142 (verdictLine judgement (judgement .verdict)) ⌝ }
+    ensures { λ r. ⌜ Extended (now (line .entry)) (now (line .exit)) 0 r 152 (verdictLine judgement (judgement .verdict)) ⌝ }
 {
     let verdict = judgement.verdict;
     match verdict {

@@ -31,6 +31,9 @@ fn put_range(range: Range) {
 fn put_access(access: Access) {
     let kind = access.kind;
     let range = access.range;
+    if access.wide {
+        text::put_text(b"wide-");
+    }
     put_kind(kind);
     text::put_field(access.site as u64);
     put_range(range);
@@ -84,17 +87,25 @@ pub fn read(body: &[u8]) -> bool {
     true
 }
 
+// The byte of the narrow access of the same kind.
+fn narrow_byte(byte: u8) -> u8 {
+    if byte < 0x38 { byte } else { byte - 8 }
+}
+
+// A site has 4 bytes in either group.
 fn access_of(record: &[u8]) -> Access {
-    let kind = kind_of(byte_at(record, 0));
+    let byte = byte_at(record, 0);
+    let kind = kind_of(narrow_byte(byte));
     let range = Range {
-        base: four_bytes(record, 3),
-        stride: two_bytes(record, 7),
-        count: two_bytes(record, 9),
-        size: byte_at(record, 11),
+        base: four_bytes(record, 5),
+        stride: two_bytes(record, 9),
+        count: two_bytes(record, 11),
+        size: byte_at(record, 13),
     };
     Access {
         kind,
-        site: two_bytes(record, 1),
+        wide: 0x38 <= byte,
+        site: four_bytes(record, 1),
         range,
     }
 }
@@ -134,13 +145,13 @@ fn put_into(command: Command, buffer: &mut [u8], position: usize) {
     text::put_hex(buffer);
 }
 
-// PUT: position (8 bytes), a command record (12 bytes), then the buffer.
+// PUT: position (8 bytes), a command record (14 bytes), then the buffer.
 pub fn put(body: &mut [u8]) -> bool {
-    if body.len() < 20 {
+    if body.len() < 22 {
         return false;
     }
     let position = position_of(body);
-    let command = command_of(&body[8..20]);
-    put_into(command, &mut body[20..], position);
+    let command = command_of(&body[8..22]);
+    put_into(command, &mut body[22..], position);
     true
 }

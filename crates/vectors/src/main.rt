@@ -23,7 +23,7 @@ fn answer(operation: u8, body: &mut [u8]) -> bool {
         7 => orders::share(body),
         8 => judgements::judge(body),
         9 => judgements::next(body),
-        12 => rewriting::fill(body),
+        12..=14 => rewriting::fill(operation, body),
         _ => false,
     }
 }

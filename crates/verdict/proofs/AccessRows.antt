@@ -6,7 +6,7 @@ use native.Mathlib.Omega.{arith}
 use lib.ListN.{length, getD, set, length-set}
 use lib.Seq.{getD-set-same, getD-set-other}
 use Rattle.bundle.specs.Index.{Added}
-use Rattle.verdict.specs.Working.{accessRowAt, RowIn}
+use Rattle.verdict.specs.Working.{accessRowAt, RowIn, Slim}
 use Rattle.verdict.specs.declared.rows.AccessRow.{AccessRow}
 
 -- words stored in one column after another, at the same distance from the column's front
@@ -52,37 +52,44 @@ low a b n h e = omega arith
 high : (a b n : ℕ) → a < 65536 → n ≡ a + 65536 * b → n / 65536 ≡ b
 high a b n h e = omega arith
 
-size-of : (a b c : ℕ) → a < 256 → (a + 256 * (b + 256 * c)) % 256 ≡ a
-size-of a b c h = omega arith
+-- a kind and a size of four bits each and a member of eight, below a segment
+module _ (k z m s small n : ℕ) (hk : k < 16) (hz : z < 16) (hm : m < 256) (e : small ≡ k + 16 * z + 256 * m) (q : n ≡ small + 65536 * s) where
+  kind-of : n % 16 ≡ k
+  kind-of = omega arith
 
-member-of : (a b c : ℕ) → a < 256 → b < 256 → (a + 256 * (b + 256 * c)) / 256 % 256 ≡ b
-member-of a b c h l = omega arith
+  size-of : n / 16 % 16 ≡ z
+  size-of = omega arith
 
-kind-of : (a b c : ℕ) → a < 256 → b < 256 → c < 256 → (a + 256 * (b + 256 * c)) / 256 / 256 % 256 ≡ c
-kind-of a b c h l k = omega arith
+  member-of : n / 256 % 256 ≡ m
+  member-of = omega arith
+
+  segment-of : n / 65536 ≡ s
+  segment-of = omega arith
 
 whole : (n : ℕ) → n % 4294967296 + 4294967296 * (n / 4294967296) ≡ n
 whole n = omega arith
 
--- the numbers of a row fit its words
+-- a row that is read has a kind and a size of four bits
+pub row-slim : (words : List ℕ) (i : ℕ) → Slim (accessRowAt words i)
+unfolding accessRowAt
+row-slim words i = record { kind = omega arith; size = omega arith }
+
+-- the other numbers of a row fit its words
 pub record RowFits (r : AccessRow) : Type 0 where
   pub stride : r .stride < 65536
   pub team : r .team < 65536
-  pub site : r .site < 65536
-  pub size : r .size < 256
   pub member : r .member < 256
-  pub kind : r .kind < 256
 
-module _ (words : List ℕ) (i : ℕ) (row : AccessRow) (range name place : ℕ) where
+module _ (words : List ℕ) (i : ℕ) (row : AccessRow) (small place range name : ℕ) where
   abbrev behind : List ℕ
   behind =
       row .last
       ∷ (row .locks % 4294967296)
       ∷ (row .locks / 4294967296)
-      ∷ (row .size + 256 * (row .member + 256 * row .kind))
+      ∷ place
       ∷ range
       ∷ name
-      ∷ place
+      ∷ row .site
       ∷ []
 
   abbrev pub rowStored : List ℕ
@@ -114,13 +121,14 @@ module _ (words : List ℕ) (i : ℕ) (row : AccessRow) (range name place : ℕ)
   row-kept-first h j l = row-other j (λ m e. omega (arith, h .below))
 
   pub row-added :
-      RowIn words i
+      RowIn words i × Slim row
       → RowFits row
+      → small ≡ row .kind + 16 * row .size + 256 * row .member
+      → place ≡ small + 65536 * row .segment
       → range ≡ row .stride + 65536 * row .count
       → name ≡ row .team + 65536 * row .number
-      → place ≡ row .site + 65536 * row .segment
       → Added accessRowAt words rowStored i row
-  row-added h f r n p =
+  row-added (h, l) f s p r n =
       record {
         long = row-length;
         new =
@@ -138,11 +146,10 @@ module _ (words : List ℕ) (i : ℕ) (row : AccessRow) (range name place : ℕ)
               high (row .stride) (row .count) range (f .stride) r,
               low (row .team) (row .number) name (f .team) n,
               high (row .team) (row .number) name (f .team) n,
-              low (row .site) (row .segment) place (f .site) p,
-              high (row .site) (row .segment) place (f .site) p,
-              size-of (row .size) (row .member) (row .kind) (f .size),
-              member-of (row .size) (row .member) (row .kind) (f .size) (f .member),
-              kind-of (row .size) (row .member) (row .kind) (f .size) (f .member) (f .kind),
+              kind-of (row .kind) (row .size) (row .member) (row .segment) small place (l .kind) (l .size) (f .member) s p,
+              size-of (row .kind) (row .size) (row .member) (row .segment) small place (l .kind) (l .size) (f .member) s p,
+              member-of (row .kind) (row .size) (row .member) (row .segment) small place (l .kind) (l .size) (f .member) s p,
+              segment-of (row .kind) (row .size) (row .member) (row .segment) small place (l .kind) (l .size) (f .member) s p,
               whole (row .locks),
             ));
         before =

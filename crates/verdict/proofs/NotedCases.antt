@@ -17,12 +17,14 @@ use Rattle.bundle.specs.Index.{Added}
 use Rattle.bundle.specs.declared.chunk.ChunkState.{ChunkState}
 use Rattle.bundle.specs.declared.command.Access.{Access}
 use Rattle.bundle.specs.declared.command.Range.{Range}
+use Rattle.bundle.specs.declared.command.AccessKind.{AccessKind}
+use Rattle.bundle.specs.declared.command.AccessKind.the-variants as Kind
 use Rattle.bundle.specs.declared.command.Command.{Command}
 use Rattle.bundle.specs.declared.command.Command.the-variants as Com
 use Rattle.bundle.proofs.Ranges.{in-range-ok}
 use Rattle.bundle.proofs.Tests.{false-is-true}
 use Rattle.bundle.proofs.Ranges.{range-parts, size-within}
-use Rattle.verdict.specs.Working.{forkCode, barrierCode, joinCode, endCode, openCode, nodeCode, accessRowAt, RowIn}
+use Rattle.verdict.specs.Working.{forkCode, barrierCode, joinCode, endCode, openCode, nodeCode, kindCode, accessRowAt, RowIn, Slim}
 use Rattle.verdict.specs.Filling.{entered, left, advanced, cursorAfter, onCrossing, endsAfter, opensAfter, nodesAfter, rowHere, SegmentOpened, Countable, Notable, Noted}
 use Rattle.verdict.specs.declared.fill.Cursor.{Cursor}
 use Rattle.verdict.specs.declared.rows.AccessRow.{AccessRow}
@@ -83,6 +85,14 @@ no-access c n a e = go (sym n ∙ ap addsAccess e)
     go : _≡_ {A = ℕ} 0 (addsAccess (Com.Access a)) → ⊥
     go q = let z : _≡_ {A = ℕ} 0 1 = unfold addsAccess in q in omega arith
 
+-- a kind's number has four bits
+kind-below : (k : AccessKind) → kindCode k < 16
+unfolding kindCode
+kind-below Kind.Read = omega arith
+kind-below Kind.Write = omega arith
+kind-below Kind.AtomicRead = omega arith
+kind-below Kind.AtomicWrite = omega arith
+
 -- what the arms ask
 module _ {p : Cursor} {c : Command} {ends opens nodes rows : List ℕ} (n : Notable p c ends opens nodes rows) where
   pub member-room : {t m next : ℕ} {r : Cursor} → r ≡ entered p t m next → (r .segment < 512) × (length opens ≡ 512) × (length nodes ≡ 512)
@@ -120,8 +130,13 @@ module _ {p : Cursor} {c : Command} {ends opens nodes rows : List ℕ} (n : Nota
         unfold operandsOk in (in-range-ok (Com.Access a) (rw q at (n .in-range))),
       )
 
-  pub row-room : {a : Access} → c ≡ Com.Access a → RowIn rows (p .accesses)
-  row-room q = record { below = access-below q; whole = n .room .row-table }
+  pub row-room : {a : Access} {row : AccessRow} → c ≡ Com.Access a → row ≡ rowHere p a → RowIn rows (p .accesses) × Slim row
+  unfolding rowHere
+  row-room {a} q e =
+      let z = size-within (a .range .size) (range-parts (a .range) (access-room q .2) .sized) in (
+        record { below = access-below q; whole = n .room .row-table },
+        rw e (record { kind = kind-below (a .kind); size = omega arith }),
+      )
 
   pub access-counts : {a : Access} → c ≡ Com.Access a → Countable p 0 1
   access-counts q =

@@ -30,7 +30,7 @@ commandsIn ps = map (λ (q : Placed). q .command) ps
 
 -- the scan at the cursor, without its counts
 abbrev pub scanHere : Bool → Cursor → Scan
-scanHere inside p = record { inside = inside; team = p .team; state = p .state; segments = 0; accesses = 0 }
+scanHere inside p = record { inside = inside; team = p .team; state = p .state; segments = 0; accesses = 0; wide = false }
 
 -- the segments and accesses that the rest of the commands adds; inside a chunk the first segment is the open one
 abbrev pub segmentsToCome : Bool → Opening → Cursor → Gathered → List Segment

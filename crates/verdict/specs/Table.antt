@@ -1,5 +1,6 @@
 -- The settled cases P1 to P14 of the format (docs/FORMAT.md) as data, each with what is wanted. `proofs/Examples.antt` proves that the definitions agree.
 use Prim.Native.Nat.{ℕ}
+use mathlib.Core.Bool.{false}
 use mathlib.Core.List.{List, [], _∷_, _++_}
 use mathlib.Core.Option.{Option, none, some}
 use lib.ListN.{length, take, replicate}
@@ -86,7 +87,7 @@ lastRead size = 0x30 ∷ 0x00 ∷ 0x00 ∷ 0xff ∷ 0xff ∷ 0xff ∷ 0xff ∷ 0
 
 unfoldable pub lastTaken : Taken
 lastTaken =
-    record { command = Com.Access (record { kind = Kind.Read; site = 0; range = range 4294967295 0 1 1 }); next = 12 }
+    record { command = Com.Access (record { kind = Kind.Read; wide = false; site = 0; range = range 4294967295 0 1 1 }); next = 12 }
 
 pub record PaperExample : Type 0 where
   pub question : Question

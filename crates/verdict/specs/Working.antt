@@ -67,11 +67,11 @@ accessRowAt words i =
       count = getD words (i + 5120) 0 / 65536;
       team = getD words (i + 6144) 0 % 65536;
       number = getD words (i + 6144) 0 / 65536;
-      site = getD words (i + 7168) 0 % 65536;
-      segment = getD words (i + 7168) 0 / 65536;
-      size = getD words (i + 4096) 0 % 256;
+      site = getD words (i + 7168) 0;
+      segment = getD words (i + 4096) 0 / 65536;
+      size = getD words (i + 4096) 0 / 16 % 16;
       member = getD words (i + 4096) 0 / 256 % 256;
-      kind = getD words (i + 4096) 0 / 256 / 256 % 256;
+      kind = getD words (i + 4096) 0 % 16;
       locks = getD words (i + 2048) 0 + 4294967296 * getD words (i + 3072) 0;
       last = getD words (i + 1024) 0;
     }
@@ -80,6 +80,11 @@ accessRowAt words i =
 pub record RowIn (words : List ℕ) (i : ℕ) : Type 0 where
   pub below : i < 1024
   pub whole : 8192 ≤ length words
+
+-- a row whose kind and size have four bits
+pub record Slim (r : AccessRow) : Type 0 where
+  pub kind : r .kind < 16
+  pub size : r .size < 16
 
 -- a row is that of an access; its segment is the place of the access's segment in the list of all
 pub record RowOf (segments : List Segment) (x : NamedAccess) (r : AccessRow) : Type 0 where

@@ -12,10 +12,10 @@ pub struct Name {
 pub struct Race {
     pub witness: u32,
     pub first: Name,
-    pub first_site: u16,
+    pub first_site: u32,
     pub first_element: u32,
     pub second: Name,
-    pub second_site: u16,
+    pub second_site: u32,
     pub second_element: u32,
 }
 

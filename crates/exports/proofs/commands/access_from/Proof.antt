@@ -7,19 +7,13 @@ use Rattle.exports.proofs.commands.access_from.Statement.{statement}
 use Rattle.exports.proofs.commands.access_from.Tie as tie
 
 returns : tie.Need-returns
-returns c = let h = c .if1 .taken in access-wide _ (λ p q r s. omega arith)
+returns c = let h = c .if1 .taken in access-wide _ (λ p q r. omega arith)
 
 returns-2 : tie.Need-returns-2
-returns-2 c = let h = c .if2 .taken in access-wide _ (λ p q r s. omega arith)
+returns-2 c = let h = c .if2 .taken in access-wide _ (λ p q r. omega arith)
 
 returns-3 : tie.Need-returns-3
-returns-3 c = let h = c .if3 .taken in access-wide _ (λ p q r s. omega arith)
-
-returns-4 : tie.Need-returns-4
-returns-4 c = let h = c .if4 .taken in access-wide _ (λ p q r s. omega arith)
-
-returns-5 : tie.Need-returns-5
-returns-5 c = rw (c .kind-of .ensures) refl
+returns-3 c = let h = c .if3 .taken in access-wide _ (λ p q r. omega arith)
 
 pub access-from-spec : {M : Type 1} → statement M
 access-from-spec =
@@ -30,15 +24,10 @@ access-from-spec =
     (λ c. search needs)
     (λ c. search needs)
     (λ c. search needs)
-    (λ c. search needs)
     returns
     returns-2
     returns-3
-    returns-4
-    (λ c. search needs)
-    (λ c κs. search needs)
     (λ c. search needs)
     (λ c. search needs)
     (λ c. search needs)
-    (λ c. search needs)
-    returns-5)
+    (λ c. refl))

@@ -2,6 +2,7 @@
 use Prim.Native.Nat.{_≤_, _-_}
 use native.Mathlib.Omega.{arith}
 use Rattle.listing.specs.Ranking.{Copied}
+use Rattle.verdict.proofs.AccessRows.{row-slim}
 use Rattle.listing.proofs.RankLaws.{copied-none, copied-more, copied-all}
 use borrow.Author.Needs.{needs}
 use Rattle.listing.proofs.names.copy_rows.Statement.{statement}
@@ -25,8 +26,10 @@ access-at-requires c κs = record { below = omega arith; whole = c .before .befo
 add-access-requires : tie.Need-add-access-requires Inv-loop μ-loop
 add-access-requires c κs =
     let turn = c .before .before .before .before .loop in
-    let fits = c .before .before .before .before .before .before .before .before .pre .1 in
-    record { below = omega (arith, c .before .before .before .loop-test .taken, fits .few); whole = omega (arith, turn .inv .1 .long, fits .whole) }
+    let fits = c .before .before .before .before .before .before .before .before .pre .1 in (
+      record { below = omega (arith, c .before .before .before .loop-test .taken, fits .few); whole = omega (arith, turn .inv .1 .long, fits .whole) },
+      rw (c .access-at .ensures) (row-slim _ _),
+    )
 
 loop-again : tie.Need-loop-again Inv-loop μ-loop
 loop-again c = (

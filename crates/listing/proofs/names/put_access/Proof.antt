@@ -4,7 +4,7 @@ use Rattle.listing.proofs.names.put_access.Statement.{statement}
 use Rattle.listing.proofs.names.put_access.Tie as tie
 
 returns : tie.Need-returns
-returns c = rw (c .reach-of .ensures, c .before .side-of .ensures)
+returns c = rw (c .spot-of .ensures, c .before .side-of .ensures)
 
 pub put-access-spec : {M : Type 1} → statement M
 put-access-spec =

@@ -6,7 +6,7 @@ use native.Mathlib.Omega.{arith}
 use lib.ListN.{length, set, drop, length-set}
 use Rattle.bundle.specs.Index.{table}
 use Rattle.verdict.specs.declared.rows.AccessRow.{AccessRow}
-use Rattle.listing.specs.Ranking.{sideOfRow, reachOfRow, wordOf}
+use Rattle.listing.specs.Ranking.{sideOfRow, spotOfRow, wordOf}
 use Rattle.listing.proofs.Fronts.{table-none-yet, table-two-more, table-all}
 use Rattle.listing.proofs.NameTables.{even-word, odd-word}
 use borrow.Author.Needs.{needs}
@@ -43,7 +43,7 @@ loop-again c =
       put
           ∙ table-two-more (wordOf _) _ (turn .names) (turn .i) _ _ (omega (arith, c .before .before .before .before .before .loop-test .taken, room)) (turn .inv .2)
           (ap (λ (r : AccessRow). sideOfRow r) row ∙ sym (even-word _ (turn .i)))
-          (ap (λ (r : AccessRow). reachOfRow r) row ∙ sym (odd-word _ (turn .i))),
+          (ap (λ (r : AccessRow). spotOfRow r) row ∙ sym (odd-word _ (turn .i))),
     )
 
 returns : tie.Need-returns Inv-loop μ-loop

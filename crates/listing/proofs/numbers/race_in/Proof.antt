@@ -7,16 +7,16 @@ use Rattle.listing.proofs.numbers.race_in.Tie as tie
 returns : tie.Need-returns
 unfolding raceIn
 returns c =
-    let first = c .before .before .before .before in
+    let words = c .before .before .before .before in
     rw (
       c .element-in2 .ensures,
-      c .before .word-at4 .ensures,
-      c .before .before .name-in2 .ensures,
-      c .before .before .before .element-in .ensures,
-      first .word-at3 .ensures,
-      first .before .name-in .ensures,
-      first .before .before .word-at2 .ensures,
-      first .before .before .before .word-at .ensures,
+      c .before .name-in2 .ensures,
+      c .before .before .element-in .ensures,
+      c .before .before .before .name-in .ensures,
+      words .word-at4 .ensures,
+      words .before .word-at3 .ensures,
+      words .before .before .word-at2 .ensures,
+      words .before .before .before .word-at .ensures,
     )
 
 pub race-in-spec : {M : Type 1} → statement M
@@ -27,17 +27,17 @@ race-in-spec =
     (λ c. search needs)
     (λ c κs. search needs)
     (λ c. search needs)
+    (λ c. search needs)
     (λ c κs. search needs)
+    (λ c. search needs)
     (λ c κs. search needs)
     (λ c. search needs)
     (λ c. search needs)
+    (λ c κs. search needs)
+    (λ c κs. search needs)
     (λ c. search needs)
     (λ c κs. search needs)
     (λ c κs. search needs)
-    (λ c κs. search needs)
     (λ c. search needs)
-    (λ c. search needs)
-    (λ c. search needs)
-    (λ c κs. search needs)
     (λ c κs. search needs)
     returns)

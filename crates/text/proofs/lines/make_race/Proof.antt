@@ -7,7 +7,7 @@ use Rattle.text.proofs.lines.make_race.Tie as tie
 
 returns : tie.Need-returns
 returns c =
-    extended-as 62 (search needs) (race-bytes _)
+    extended-as 72 (search needs) (race-bytes _)
     (extended-then
     (extended-then
     (extended-then (extended-then (c .before .before .before .before .before .before .before .before .put-word .ensures) (c .before .before .before .before .before .before .put-hexadecimal .ensures)) (c .before .before .before .before .put-access .ensures))

@@ -7,10 +7,10 @@ use Rattle.text.proofs.pieces.put_access.Tie as tie
 
 returns : tie.Need-returns
 returns c =
-    extended-as 24 (search needs) (access-bytes _ _)
+    extended-as 29 (search needs) (access-bytes _ _)
     (extended-then
     (extended-then (extended-then (c .before .before .before .before .before .before .before .put-part .ensures) (c .before .before .before .before .put-part2 .ensures)) (c .before .before .put-part3 .ensures))
-    (c .put-part4 .ensures))
+    (c .put-site .ensures))
 
 pub put-access-spec : {M : Type 1} → statement M
 put-access-spec =

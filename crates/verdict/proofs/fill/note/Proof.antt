@@ -19,7 +19,7 @@ row-here-requires : tie.Need-row-here-requires
 row-here-requires c κs = access-room (c .before .before .before .before .before .before .before .before .before .before .pre) (c .before .before .command5 .given .1)
 
 add-access-requires : tie.Need-add-access-requires
-add-access-requires c κs = row-room (c .before .before .before .before .before .before .before .before .before .before .before .pre) (c .before .before .before .command5 .given .1)
+add-access-requires c κs = row-room (c .before .before .before .before .before .before .before .before .before .before .before .pre) (c .before .before .before .command5 .given .1) (c .row-here .ensures)
 
 advance-requires-5 : tie.Need-advance-requires-5
 advance-requires-5 c κs = access-counts (c .before .before .before .before .before .before .before .before .before .before .before .before .before .before .pre) (c .before .before .before .before .before .before .command5 .given .1)

@@ -7,34 +7,34 @@ use Rattle.verdict.proofs.rows.add_access.Statement.{statement}
 use Rattle.verdict.proofs.rows.add_access.Tie as tie
 
 slice-write-rows-2 : tie.Need-slice-write-rows-2
-slice-write-rows-2 c = simp length-set (omega (arith, c .before .pre .below, c .before .pre .whole))
+slice-write-rows-2 c = simp length-set (omega (arith, c .before .pre .0 .below, c .before .pre .0 .whole))
 
 slice-write-rows-3 : tie.Need-slice-write-rows-3
-slice-write-rows-3 c = simp length-set (omega (arith, c .before .pre .below, c .before .pre .whole))
+slice-write-rows-3 c = simp length-set (omega (arith, c .before .pre .0 .below, c .before .pre .0 .whole))
 
 slice-write-rows-4 : tie.Need-slice-write-rows-4
-slice-write-rows-4 c = simp length-set (omega (arith, c .before .pre .below, c .before .pre .whole))
+slice-write-rows-4 c = simp length-set (omega (arith, c .before .pre .0 .below, c .before .pre .0 .whole))
 
 slice-write-rows-5 : tie.Need-slice-write-rows-5
-slice-write-rows-5 c = simp length-set (omega (arith, c .before .before .before .before .pre .below, c .before .before .before .before .pre .whole))
+slice-write-rows-5 c = simp length-set (omega (arith, c .before .before .before .pre .0 .below, c .before .before .before .pre .0 .whole))
 
 slice-write-rows-6 : tie.Need-slice-write-rows-6
-slice-write-rows-6 c = simp length-set (omega (arith, c .before .before .before .before .before .pre .below, c .before .before .before .before .before .pre .whole))
+slice-write-rows-6 c = simp length-set (omega (arith, c .before .before .before .before .pre .0 .below, c .before .before .before .before .pre .0 .whole))
 
 slice-write-rows-7 : tie.Need-slice-write-rows-7
-slice-write-rows-7 c = simp length-set (omega (arith, c .before .before .before .before .before .before .pre .below, c .before .before .before .before .before .before .pre .whole))
+slice-write-rows-7 c = simp length-set (omega (arith, c .before .before .before .before .before .pre .0 .below, c .before .before .before .before .before .pre .0 .whole))
 
 slice-write-rows-8 : tie.Need-slice-write-rows-8
-slice-write-rows-8 c = simp length-set (omega (arith, c .before .before .before .before .before .before .before .pre .below, c .before .before .before .before .before .before .before .pre .whole))
+slice-write-rows-8 c = simp length-set (omega (arith, c .before .before .before .before .before .pre .0 .below, c .before .before .before .before .before .pre .0 .whole))
 
 same-length : tie.Need-same-length
 same-length c = simp length-set
 
 returns : tie.Need-returns
 returns c =
-    row-added _ _ _ _ _ _ (c .before .before .before .before .before .before .before .pre)
-    (record { stride = search needs; team = search needs; site = search needs; size = search needs; member = search needs; kind = search needs })
-    (c .before .before .two .ensures) (c .before .two2 .ensures) (c .two3 .ensures)
+    row-added _ _ _ _ _ _ _ (c .before .before .before .before .before .pre)
+    (record { stride = search needs; team = search needs; member = search needs })
+    (c .before .before .before .small .ensures) (c .before .before .two .ensures) (c .before .two2 .ensures) (c .two3 .ensures)
 
 pub add-access-spec : {M : Type 1} → statement M
 add-access-spec =
@@ -53,13 +53,8 @@ add-access-spec =
     (λ c. search needs)
     (λ c. search needs)
     slice-write-rows-4
-    (λ c. search needs)
-    (λ c. search needs)
-    (λ c. search needs)
-    (λ c. search needs)
-    (λ c. search needs)
-    (λ c. search needs)
-    (λ c. search needs)
+    (λ c κs. (c .before .pre .1 .kind, c .before .pre .1 .size))
+    (λ c κs. tt)
     (λ c. search needs)
     (λ c. search needs)
     slice-write-rows-5
@@ -71,7 +66,6 @@ add-access-spec =
     (λ c. search needs)
     (λ c. search needs)
     slice-write-rows-7
-    (λ c κs. tt)
     (λ c. search needs)
     (λ c. search needs)
     slice-write-rows-8
