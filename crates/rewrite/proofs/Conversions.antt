@@ -199,7 +199,7 @@ module _ (b : List ℕ) (bytes : Bytes b) (ok : Accepted b) where
         ∙ judgement-regrouped w (chunksOf b)
       where
         same-chunks : List·Permᴰ (map unplaced (map (regroupedChunk w) (chunksOf b))) (map unplaced (chunksOf (converted w b)))
-        same-chunks = rw (printed-result, result .chunks, unplaced-settle 0 (map (regroupedChunk w) (chunksOf b))) Permᴰ·refl
+        same-chunks = rw (printed-result, result .chunks, unplaced-settle 0 (map (regroupedChunk w) (chunksOf b))) (Permᴰ·refl (map unplaced (map (regroupedChunk w) (chunksOf b))))
 
     pub judged-same : (u v : List ℕ) → 16384 ≤ length u → 16384 ≤ length v → Judged b (converted w b) u v
     judged-same u v large large′ =

@@ -6,7 +6,8 @@ use mathlib.Core.List.{List, [], _∷_, _++_, map, append-assoc, append-nil, Lis
 use mathlib.Core.Option.{Option, none, some}
 use native.Mathlib.Omega.{arith}
 use native.Mathlib.Nat.{zero-add, add-assoc}
-use lib.ListN.{length, length-append}
+use lib.ListN.{length, take, drop, length-append, length-drop}
+use lib.Seq.{length-take-le}
 use lib.Dec.{ltb, leb}
 use borrow.Author.Tests.{lt-ltb, le-ltb, le-leb}
 use Rattle.bundle.specs.Answer.{Answer, gives, refuses, numberOf}
@@ -15,6 +16,7 @@ use Rattle.bundle.specs.Commands.{Bytes, Taken, Lent, bytesOf, inRange, readAt,
 use Rattle.bundle.specs.Chunks.{Placed, frontOf}
 use Rattle.bundle.specs.Check.{checkOf, Accepted}
 use Rattle.bundle.specs.declared.command.Command.{Command}
+use Rattle.bundle.specs.declared.refusal.Cause.{Cause}
 use Rattle.bundle.specs.declared.command.Putting.{Putting}
 use Rattle.bundle.specs.declared.command.Putting.the-variants as Put
 use Rattle.bundle.proofs.Tests.{or-one}
@@ -54,6 +56,9 @@ module _ {w : Bool} {s : List ℕ} {at : ℕ} {m : Measured} (x : MeasuredTo w s
   pub few-so-far : at < length s → m .size ≤ 1000000
   few-so-far h = omega (arith, x .few, x .short)
 
+  pub measured-on : {next : ℕ} {c : Command} → readAt s at ≡ gives (record { command = c; next = next }) → at < next
+  measured-on {next} {c} e = read-next s at (record { command = c; next = next }) e .0
+
   pub measured-turn :
       {next : ℕ} {c : Command} {r : Measured}
       → readAt s at ≡ gives (record { command = c; next = next })
@@ -83,6 +88,20 @@ module _ {w : Bool} {s : List ℕ} {at : ℕ} {m : Measured} (x : MeasuredTo w s
 
   pub measured-read : {A : Type 0} {n p : ℕ} → at < length s → readAt s at ≡ refuses n p → A
   measured-read {n = n} {p = p} h e = absurd (onward-read s at n p (x .onwards) h e)
+
+-- one more command
+pub small-size : (w : Bool) (c : Command) {size : ℕ} → size ≡ length (bytesOf (regrouped w c)) → size ≤ 14
+small-size w c q = rw q (bytes-most (regrouped w c))
+
+module _ (w : Bool) (m : Measured) (c : Command) (at : ℕ) {size : ℕ} (q : size ≡ length (bytesOf (regrouped w c))) where
+  pub after-over : m .over ≡ true → record { size = m .size + size; over = true; place = m .place } ≡ measuredAfter w m (record { at = at; command = c })
+  unfolding measuredAfter
+  after-over e = rw (e, q)
+
+  pub after-first :
+      {over : Bool} → m .over ≡ false → over ≡ siteOver c → record { size = m .size + size; over = over; place = at } ≡ measuredAfter w m (record { at = at; command = c })
+  unfolding measuredAfter
+  after-first e r = rw (e, q, r)
 
 -- what was measured
 size-from : (w : Bool) (m : Measured) (ps : List Placed) → measuredFrom w m ps .size ≡ m .size + length (concatMap bytesOf (map (regrouped w) (bare ps)))
@@ -139,17 +158,33 @@ module _ (w : Bool) (c : Command) (buffer : List ℕ) (position : ℕ) (x : Putt
   unfolding putAt
   put-fits = rw (x .in-range, le-leb (length (bytesOf (regrouped w c))) (length buffer - position) (omega (arith, x .fits)))
 
-  module _ (r : Putting) {after : List ℕ} (e : putAt (regrouped w c) buffer position ≡ record { answer = puttingOf r; buffer = after }) where
+  -- what putting the command gave, once it was regrouped
+  module _ {d : Command} (same : d ≡ regrouped w c) (r : Putting) {after : List ℕ} (e : putAt d buffer position ≡ record { answer = puttingOf r; buffer = after }) where
+    given :
+        _≡_ {A = Lent ℕ} (record { answer = puttingOf r; buffer = after })
+        (record { answer = gives (position + length (bytesOf (regrouped w c))); buffer = written buffer position (bytesOf (regrouped w c)) })
+    given = sym e ∙ ap (λ (f : Command). putAt f buffer position) same ∙ put-fits
+
     pub put-next : {next : ℕ} → r ≡ Put.Written next → (next ≡ position + length (bytesOf (regrouped w c))) × (after ≡ written buffer position (bytesOf (regrouped w c)))
     put-next {next} q =
-        let l : gives next ≡ gives (position + length (bytesOf (regrouped w c))) = ap puttingOf (sym q) ∙ ap (λ (y : Lent ℕ). y .answer) (sym e ∙ put-fits) in
-        (cc, ap (λ (y : Lent ℕ). y .buffer) (sym e ∙ put-fits))
+        let l : gives next ≡ gives (position + length (bytesOf (regrouped w c))) = ap puttingOf (sym q) ∙ ap (λ (y : Lent ℕ). y .answer) given in
+        (cc, ap (λ (y : Lent ℕ). y .buffer) given)
 
-    pub put-taken : {A : Type 0} {n p : ℕ} → puttingOf r ≡ refuses n p → A
-    put-taken {n = n} {p = p} q =
-        let l : refuses n p ≡ gives (position + length (bytesOf (regrouped w c))) = sym q ∙ ap (λ (y : Lent ℕ). y .answer) (sym e ∙ put-fits) in
+    pub put-taken : {A : Type 0} {place : ℕ} {cause : Cause} → r ≡ Put.Refused place cause → A
+    put-taken {place = place} {cause = cause} q =
+        let l : refuses (numberOf cause) place ≡ gives (position + length (bytesOf (regrouped w c))) = ap puttingOf (sym q) ∙ ap (λ (y : Lent ℕ). y .answer) given in
         let z : _≡_ {A = ℕ} 0 1 = cc in
         absurd (omega arith)
+
+written-length : (buffer : List ℕ) (at : ℕ) (bytes : List ℕ) → at + length bytes ≤ length buffer → length (written buffer at bytes) ≡ length buffer
+unfolding written
+written-length buffer at bytes h =
+    let one = length-append (take at buffer ++ bytes) (drop (at + length bytes) buffer) in
+    let two = length-append (take at buffer) bytes in
+    let three = length-take-le at buffer (omega arith) in
+    let four = length-drop (at + length bytes) buffer in
+    let rest : length (take at buffer ++ bytes) + length (drop (at + length bytes) buffer) ≡ length buffer = omega arith in
+    one ∙ rest
 
 -- the pass that writes is at a position: what is done, with the rest of the commands, is the whole
 pub record PutTo (w : Bool) (s old : List ℕ) (at position : ℕ) (new : List ℕ) : Type 0 where
@@ -200,11 +235,10 @@ module _ {w : Bool} {s old : List ℕ} {at position : ℕ} {new : List ℕ} (x :
 
     pub put-turn :
         {further : ℕ} {after : List ℕ}
-        → length after ≡ length new
         → further ≡ position + length (bytesOf (regrouped w c))
         → after ≡ written new position (bytesOf (regrouped w c))
         → PutTo w s old next further after
-    put-turn l n q =
+    put-turn n q =
         record {
           rest = ahead .rest;
           onwards = ahead .onwards;
@@ -214,13 +248,13 @@ module _ {w : Bool} {s old : List ℕ} {at position : ℕ} {new : List ℕ} (x :
           done = x .done ++ bytesOf (regrouped w c);
           whole = split;
           room = x .room;
-          long = l ∙ x .long;
+          long = ap length q ∙ written-length new position (bytesOf (regrouped w c)) (puttable .fits) ∙ x .long;
           behind = n ∙ ap (λ (k : ℕ). k + length (bytesOf (regrouped w c))) (x .behind) ∙ sym (length-append (x .done) (bytesOf (regrouped w c)));
           bytes = q ∙ (λ i. written (x .bytes i) (x .behind i) (bytesOf (regrouped w c))) ∙ written-on old (x .done) (bytesOf (regrouped w c));
         }
 
-    pub read-on : at < next
-    read-on = read-next s at (record { command = c; next = next }) e .0
+    pub put-on : at < next
+    put-on = read-next s at (record { command = c; next = next }) e .0
 
   pub put-end : length s ≤ at → new ≡ written old 0 (converted w s)
   put-end h =
@@ -233,57 +267,59 @@ module _ {w : Bool} {s old : List ℕ} {at position : ℕ} {new : List ℕ} (x :
   put-read {n = n} {p = p} h e = absurd (onward-read s at n p (x .onwards) h e)
 
 -- what the answer is
-pub filling-short : (buffer bytes : List ℕ) → length buffer < length bytes → record { answer = refuses 17 0; buffer = buffer } ≡ fillingOf buffer bytes
-unfolding fillingOf
-filling-short buffer bytes h = rw (lt-ltb (length buffer) (length bytes) h)
+pub measured-long : (w : Bool) (s : List ℕ) {m : Measured} → m ≡ measuredOf w s → m .size ≡ length (converted w s)
+measured-long w s e = ap (λ (m : Measured). m .size) e ∙ measured-size w s
 
-pub filling-written :
-    (buffer bytes : List ℕ) {after : List ℕ}
-    → length bytes ≤ length buffer
-    → after ≡ written buffer 0 bytes
-    → record { answer = gives (length bytes); buffer = after } ≡ fillingOf buffer bytes
-unfolding fillingOf
-filling-written buffer bytes h e = rw (le-ltb (length buffer) (length bytes) h, e)
+module _ (buffer bytes : List ℕ) {size : ℕ} (e : size ≡ length bytes) where
+  pub handed-short : length buffer < size → record { answer = refuses 17 0; buffer = buffer } ≡ fillingOf buffer bytes
+  unfolding fillingOf
+  handed-short h = rw (lt-ltb (length buffer) (length bytes) (rw (← e) h))
 
-module _ (s : List ℕ) (ok : Accepted s) (buffer : List ℕ) where
-  pub wide-too-long : 65536 < length (converted true s) → record { answer = refuses 1 0; buffer = buffer } ≡ convertOf true s buffer
-  unfolding convertOf toWide handedTo
-  wide-too-long h = rw (ok, lt-ltb 65536 (length (converted true s)) h)
+  pub handed-over : size ≤ length buffer → {after : List ℕ} → after ≡ written buffer 0 bytes → record { answer = gives size; buffer = after } ≡ fillingOf buffer bytes
+  unfolding fillingOf
+  handed-over h q = rw (le-ltb (length buffer) (length bytes) (rw (← e) h), e, q)
 
-  pub wide-filled : length (converted true s) ≤ 65536 → fillingOf buffer (converted true s) ≡ convertOf true s buffer
-  unfolding convertOf toWide handedTo
-  wide-filled h = rw (ok, le-ltb 65536 (length (converted true s)) h)
+module _ (s : List ℕ) (ok : Accepted s) where
+  -- by the length of the result in the wide group
+  module _ (buffer : List ℕ) {size : ℕ} (e : size ≡ length (converted true s)) where
+    pub wide-too-long : 65536 < size → record { answer = refuses 1 0; buffer = buffer } ≡ convertOf true s buffer
+    unfolding convertOf toWide handedTo
+    wide-too-long h = rw (ok, lt-ltb 65536 (length (converted true s)) (rw (← e) h))
 
-  pub wide-convertible : Bytes s → length (converted true s) ≤ 65536 → Convertible true s
-  wide-convertible bytes h = record { accepted = ok; in-range = ranged s bytes ok true h }
+    pub wide-filled : size ≤ 65536 → fillingOf buffer (converted true s) ≡ convertOf true s buffer
+    unfolding convertOf toWide handedTo
+    wide-filled h = rw (ok, le-ltb 65536 (length (converted true s)) (rw (← e) h))
+
+  pub wide-convertible : {size : ℕ} → size ≡ length (converted true s) → Bytes s → size ≤ 65536 → Convertible true s
+  wide-convertible e bytes h = record { accepted = ok; in-range = ranged s bytes ok true (rw (← e) h) }
 
   -- by what was measured for the narrow group
-  module _ {m : Measured} (e : m ≡ measuredOf false s) where
-    first-place : placeOf m ≡ atOf (firstOver (frontOf s .placed))
-    first-place = ap placeOf e ∙ measured-over false s
+  first-place : {m : Measured} → m ≡ measuredOf false s → placeOf m ≡ atOf (firstOver (frontOf s .placed))
+  first-place e = ap placeOf e ∙ measured-over false s
 
+  none-first : {m : Measured} → m ≡ measuredOf false s → m .over ≡ false → firstOver (frontOf s .placed) ≡ none
+  none-first {m} e h = go (firstOver (frontOf s .placed)) (sym (ap (λ (t : Bool). cond t (some (m .place)) none) h) ∙ first-place e)
+    where
+      go : (o : Option Placed) → _≡_ {A = Option ℕ} none (atOf o) → o ≡ none
+      go none q = refl
+      go (some p) q = let z : _≡_ {A = ℕ} 0 1 = cc in absurd (omega arith)
+
+  pub narrow-convertible : {m : Measured} → m ≡ measuredOf false s → Bytes s → m .over ≡ false → Convertible false s
+  narrow-convertible e bytes h =
+      record { accepted = ok; in-range = ranged s bytes ok false (unfold commandsIn in (none-over (frontOf s .placed) (none-first e h))) }
+
+  module _ (buffer : List ℕ) {m : Measured} (e : m ≡ measuredOf false s) where
     pub narrow-over : m .over ≡ true → record { answer = refuses 21 (m .place); buffer = buffer } ≡ convertOf false s buffer
     unfolding convertOf toNarrow handedTo
-    narrow-over h = rw ok (go (firstOver (frontOf s .placed)) (sym (ap (λ (t : Bool). cond t (some (m .place)) none) h) ∙ first-place))
+    narrow-over h = rw ok (go (firstOver (frontOf s .placed)) (sym (ap (λ (t : Bool). cond t (some (m .place)) none) h) ∙ first-place e))
       where
         go : (o : Option Placed) → some (m .place) ≡ atOf o → record { answer = refuses 21 (m .place); buffer = buffer } ≡ handedTo buffer (fromOption (gives (converted false s)) (λ (p : Placed). refuses 21 (p .at)) o)
         go none q = let z : _≡_ {A = ℕ} 0 1 = cc in absurd (omega arith)
         go (some p) q = let n : m .place ≡ p .at = cc in rw n
 
-    none-first : m .over ≡ false → firstOver (frontOf s .placed) ≡ none
-    none-first h = go (firstOver (frontOf s .placed)) (sym (ap (λ (t : Bool). cond t (some (m .place)) none) h) ∙ first-place)
-      where
-        go : (o : Option Placed) → _≡_ {A = Option ℕ} none (atOf o) → o ≡ none
-        go none q = refl
-        go (some p) q = let z : _≡_ {A = ℕ} 0 1 = cc in absurd (omega arith)
-
     pub narrow-filled : m .over ≡ false → fillingOf buffer (converted false s) ≡ convertOf false s buffer
     unfolding convertOf toNarrow handedTo
-    narrow-filled h = rw (ok, none-first h)
-
-    pub narrow-convertible : Bytes s → m .over ≡ false → Convertible false s
-    narrow-convertible bytes h =
-        record { accepted = ok; in-range = ranged s bytes ok false (unfold commandsIn in (none-over (frontOf s .placed) (none-first h))) }
+    narrow-filled h = rw (ok, none-first e h)
 
 pub convert-refused : (w : Bool) (s buffer : List ℕ) {n p : ℕ} → checkOf s ≡ refuses n p → record { answer = refuses n p; buffer = buffer } ≡ convertOf w s buffer
 unfolding convertOf toWide toNarrow handedTo

@@ -118,7 +118,8 @@ module _ (w : Bool) where
 
   fork-regrouped : (t m : ℕ) (e : Entry) → forkAt t m (regroupedEntry e) ≡ forkAt t m e
   unfolding forkAt regroupedEntry
-  fork-regrouped t m e = regrouped-keeps _ w (λ a. refl) (e .command)
+  fork-regrouped t m e =
+      regrouped-keeps (λ (c : Command). forkAt t m (record { at = e .at; command = c; state = e .state; segment = e .segment; accesses = e .accesses })) w (λ a. refl) (e .command)
 
   forks-regrouped : (c : Chunk) → forksIn (regroupedChunk c) ≡ forksIn c
   unfolding forksIn

@@ -46,7 +46,8 @@ module _ (w : Bool) where
   -- segments and accesses
   opening-regrouped : (e : Entry) → openingAt (regroupedEntry w e) ≡ openingAt e
   unfolding openingAt borders afterCommand regroupedEntry
-  opening-regrouped e = regrouped-keeps _ w (λ a. refl) (e .command)
+  opening-regrouped e =
+      regrouped-keeps (λ (c : Command). openingAt (record { at = e .at; command = c; state = e .state; segment = e .segment; accesses = e .accesses })) w (λ a. refl) (e .command)
 
   segments-in-regrouped : (c : Chunk) → segmentsIn (regroupedChunk w c) ≡ segmentsIn c
   unfolding segmentsIn

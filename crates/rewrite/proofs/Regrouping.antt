@@ -185,6 +185,11 @@ access-size a = rw (access-bytes a) (go (a .wide))
     go true = refl
     go false = refl
 
+pub size-of-access : {w : Bool} {c : Command} {a : Access} (v : Bool) → w ≡ v → c ≡ Com.Access a → cond v 14 12 ≡ length (bytesOf (regrouped w c))
+unfolding regrouped inGroup
+size-of-access {w} {c} {a} v e q =
+    ap (λ (u : Bool). cond u 14 12) (sym e) ∙ sym (access-size (inGroup w a)) ∙ ap (λ (d : Command). length (bytesOf (regrouped w d))) (sym q)
+
 pub bytes-most : (c : Command) → length (bytesOf c) ≤ 14
 unfolding bytesOf codeOf formOf widthsOf operandBytes lowFirst
 bytes-most (Com.Member t m) = omega arith

@@ -1,59 +1,45 @@
+-- `rewrite::convert::put_all` meets its contract. The invariant: what is written, with the rest of the commands, is the whole. The measure: the
+-- bytes left. Assumes nothing.
+use Prim.Native.Nat.{_-_}
+use mathlib.Core.Path.{sym, _∙_, ap}
+use native.Mathlib.Omega.{arith}
+use lib.ListN.{length}
+use borrow.Author.Needs.{needs}
+use Rattle.bundle.specs.Commands.{readingOf}
+use Rattle.bundle.proofs.Passing.{fewer-left}
+use Rattle.rewrite.proofs.ConvertPass.{PutTo, put-start, puttable, put-on, put-turn, put-end, put-read}
 use Rattle.rewrite.proofs.convert.put_all.Statement.{statement}
 use Rattle.rewrite.proofs.convert.put_all.Tie as tie
-use Rattle.rewrite.proofs.convert.put_all.Reads as reads
-use Rattle.rewrite.proofs.convert.put_all.Lts as lts
-use Rattle.bundle.proofs.command.read_command.Reads as read-command-reads
-use Rattle.rewrite.proofs.convert.put_regrouped.Reads as put-regrouped-reads
 
 abbrev Inv-loop : tie.InvT-loop
-Inv-loop bytes wide buffer₀ at₀ position₀ buffer at position = ?
+Inv-loop bytes wide buffer₀ at₀ position₀ buffer at position = PutTo wide bytes buffer₀ at position buffer
 
 abbrev μ-loop : tie.MeasureT-loop
-μ-loop bytes wide buffer₀ at₀ position₀ buffer at position = ?
+μ-loop bytes wide buffer₀ at₀ position₀ buffer at position = length bytes - at
 
--- src/convert.rt:154:5
 loop-holds : tie.Need-loop-holds Inv-loop μ-loop
-loop-holds c = ?
+loop-holds c = put-start _ _ _ (c .before .before .pre .0) (c .before .before .pre .1)
 
--- src/convert.rt:155:48
-read-command-requires : tie.Need-read-command-requires Inv-loop μ-loop
-read-command-requires c κs = ?
-
--- src/convert.rt:155:30
-enum-known-next : tie.Need-enum-known-next Inv-loop μ-loop
-enum-known-next c = ?
-
--- src/convert.rt:156:13
-enum-told : tie.Need-enum-told Inv-loop μ-loop
-enum-told c = ?
-
--- src/convert.rt:156:13
 same-length : tie.Need-same-length Inv-loop μ-loop
-same-length c = ?
+same-length c = omega (arith, c .before .before .before .before .loop .inv .long)
 
--- src/convert.rt:156:13
 returns : tie.Need-returns Inv-loop μ-loop
-returns c = ?
+returns c = put-read (c .before .before .before .before .loop .inv) (c .before .before .before .loop-test .taken) (sym (c .before .before .read-command .ensures) ∙ ap readingOf (c .enum-told .given .1))
 
--- src/convert.rt:158:9
 put-regrouped-requires : tie.Need-put-regrouped-requires Inv-loop μ-loop
-put-regrouped-requires c κs = ?
+put-regrouped-requires c κs = puttable (c .before .before .before .before .before .before .loop .inv) (sym (c .before .before .before .before .read-command .ensures) ∙ ap readingOf (c .before .before .next .given .1))
 
--- src/convert.rt:154:5
 loop-less : tie.Need-loop-less Inv-loop μ-loop
-loop-less c = ?
+loop-less c = fewer-left _ _ _ (c .before .before .before .before .before .before .before .before .loop-test .taken) (put-on (c .before .before .before .before .before .before .before .before .before .loop .inv) (sym (c .before .before .before .before .before .before .before .read-command .ensures) ∙ ap readingOf (c .before .before .before .before .before .next .given .1)))
 
--- src/convert.rt:154:5
 loop-again : tie.Need-loop-again Inv-loop μ-loop
-loop-again c = ?
+loop-again c = put-turn (c .before .before .before .before .before .before .before .before .before .loop .inv) (sym (c .before .before .before .before .before .before .before .read-command .ensures) ∙ ap readingOf (c .before .before .before .before .before .next .given .1)) (c .before .before .put-regrouped .ensures .0) (c .before .before .put-regrouped .ensures .1)
 
--- src/convert.rt:148:1
 same-length-2 : tie.Need-same-length-2 Inv-loop μ-loop
-same-length-2 c = ?
+same-length-2 c = omega (arith, c .before .loop .inv .long)
 
--- src/convert.rt:148:1
 returns-2 : tie.Need-returns-2 Inv-loop μ-loop
-returns-2 c = ?
+returns-2 c = put-end (c .before .loop .inv) (c .loop-test .left)
 
 pub put-all-spec : {M : Type 1} → statement M
 put-all-spec =
@@ -62,9 +48,9 @@ put-all-spec =
     Inv-loop
     μ-loop
     loop-holds
-    read-command-requires
-    enum-known-next
-    enum-told
+    (λ c κs. tt)
+    (λ c. search needs)
+    (λ c. search needs)
     same-length
     returns
     put-regrouped-requires

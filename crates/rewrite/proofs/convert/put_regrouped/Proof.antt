@@ -1,52 +1,24 @@
+-- `rewrite::convert::put_regrouped` meets its contract. Assumes nothing.
 use borrow.Author.Needs.{needs}
+use Rattle.rewrite.proofs.ConvertPass.{put-next, put-taken}
 use Rattle.rewrite.proofs.convert.put_regrouped.Statement.{statement}
 use Rattle.rewrite.proofs.convert.put_regrouped.Tie as tie
-use Rattle.rewrite.proofs.convert.put_regrouped.Reads as reads
-use Rattle.rewrite.proofs.convert.put_regrouped.Lts as lts
-use Rattle.bundle.proofs.command.put_command.Reads as put-command-reads
-use Rattle.rewrite.proofs.convert.regroup.Reads as regroup-reads
 
--- src/convert.rt:141:23
-regroup-requires : tie.Need-regroup-requires
-regroup-requires c κs = search needs
-
--- src/convert.rt:141:11
-put-command-requires : tie.Need-put-command-requires
-put-command-requires c κs = search needs
-
--- src/convert.rt:142:26
-enum-known-next : tie.Need-enum-known-next
-enum-known-next c = search needs
-
--- src/convert.rt:143:52
-enum-told : tie.Need-enum-told
-enum-told c = search needs
-
--- src/convert.rt:137:1
-same-length : tie.Need-same-length
-same-length c = search needs
-
--- src/convert.rt:137:1
 returns : tie.Need-returns
-returns c = ?
+returns c = put-next _ _ _ _ (c .before .before .before .before .before .before .before .before .before .pre) (c .before .before .before .before .before .before .before .regroup .ensures) _ (c .before .before .before .before .before .put-command .ensures) (c .before .next .given .1)
 
--- src/convert.rt:137:1
-same-length-2 : tie.Need-same-length-2
-same-length-2 c = search needs
-
--- src/convert.rt:137:1
 returns-2 : tie.Need-returns-2
-returns-2 c = ?
+returns-2 c = put-taken _ _ _ _ (c .before .before .before .before .before .before .before .before .pre) (c .before .before .before .before .before .before .regroup .ensures) _ (c .before .before .before .before .put-command .ensures) (c .enum-told .given .1)
 
 pub put-regrouped-spec : {M : Type 1} → statement M
 put-regrouped-spec =
     tie.close
     (tie.spec
-    regroup-requires
-    put-command-requires
-    enum-known-next
-    enum-told
-    same-length
+    (λ c κs. tt)
+    (λ c κs. tt)
+    (λ c. search needs)
+    (λ c. search needs)
+    (λ c. search needs)
     returns
-    same-length-2
+    (λ c. search needs)
     returns-2)

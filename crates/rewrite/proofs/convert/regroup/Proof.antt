@@ -1,85 +1,54 @@
+-- `rewrite::convert::regroup` meets its contract. Assumes nothing.
+use mathlib.Core.Path.{sym, ap}
 use borrow.Author.Needs.{needs}
+use Rattle.rewrite.specs.Converting.{inGroup, regrouped}
 use Rattle.rewrite.proofs.convert.regroup.Statement.{statement}
 use Rattle.rewrite.proofs.convert.regroup.Tie as tie
-use Rattle.rewrite.proofs.convert.regroup.Reads as reads
-use Rattle.rewrite.proofs.convert.regroup.Lts as lts
 
--- src/convert.rt:37:51
-enum-told : tie.Need-enum-told
-enum-told c = search needs
-
--- src/convert.rt:38:25
-enum-told-2 : tie.Need-enum-told-2
-enum-told-2 c = search needs
-
--- src/convert.rt:39:49
-enum-told-3 : tie.Need-enum-told-3
-enum-told-3 c = search needs
-
--- src/convert.rt:40:29
-enum-told-4 : tie.Need-enum-told-4
-enum-told-4 c = search needs
-
--- src/convert.rt:41:32
-enum-told-5 : tie.Need-enum-told-5
-enum-told-5 c = search needs
-
--- src/convert.rt:42:32
-enum-told-6 : tie.Need-enum-told-6
-enum-told-6 c = search needs
-
--- src/convert.rt:43:25
-enum-known-command : tie.Need-enum-known-command
-enum-known-command c = search needs
-
--- src/convert.rt:53:25
-enum-told-7 : tie.Need-enum-told-7
-enum-told-7 c = search needs
-
--- src/convert.rt:33:1
 returns : tie.Need-returns
-returns c = ?
+unfolding regrouped
+returns c = search needs
 
--- src/convert.rt:33:1
 returns-2 : tie.Need-returns-2
-returns-2 c = ?
+unfolding regrouped
+returns-2 c = search needs
 
--- src/convert.rt:33:1
 returns-3 : tie.Need-returns-3
-returns-3 c = ?
+unfolding regrouped
+returns-3 c = search needs
 
--- src/convert.rt:33:1
 returns-4 : tie.Need-returns-4
-returns-4 c = ?
+unfolding regrouped
+returns-4 c = search needs
 
--- src/convert.rt:33:1
 returns-5 : tie.Need-returns-5
-returns-5 c = ?
+unfolding regrouped
+returns-5 c = search needs
 
--- src/convert.rt:33:1
 returns-6 : tie.Need-returns-6
-returns-6 c = ?
+unfolding regrouped
+returns-6 c = search needs
 
--- src/convert.rt:33:1
 returns-7 : tie.Need-returns-7
-returns-7 c = ?
+unfolding regrouped inGroup
+returns-7 c = ap (regrouped _) (sym (c .before .before .command .given .1))
 
--- src/convert.rt:33:1
 returns-8 : tie.Need-returns-8
-returns-8 c = ?
+unfolding regrouped
+returns-8 c = search needs
 
 pub regroup-spec : {M : Type 1} → statement M
 regroup-spec =
     tie.close
     (tie.spec
-    enum-told
-    enum-told-2
-    enum-told-3
-    enum-told-4
-    enum-told-5
-    enum-told-6
-    enum-known-command
-    enum-told-7
+    (λ c. search needs)
+    (λ c. search needs)
+    (λ c. search needs)
+    (λ c. search needs)
+    (λ c. search needs)
+    (λ c. search needs)
+    (λ c. search needs)
+    (λ c. search needs)
     returns
     returns-2
     returns-3
