@@ -23,6 +23,7 @@ pub mod Copying
 pub mod Keys
 pub mod Shaped
 pub mod ShapeOrder
+pub mod ShapeAlike
 pub mod Reorder
 pub mod Shortening
 pub mod CutChunks

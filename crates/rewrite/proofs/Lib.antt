@@ -6,3 +6,8 @@ pub mod FixedChunks
 pub mod Pieces
 pub mod WordOrder
 pub mod Fitting
+pub mod Regrouping
+pub mod RegroupedChunks
+pub mod RegroupedRaces
+pub mod Conversions
+pub mod ConvertPass

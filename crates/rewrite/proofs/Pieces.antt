@@ -18,7 +18,7 @@ pub written-front : (buffer bytes : List ℕ) → written buffer 0 bytes ≡ byt
 unfolding written
 written-front buffer bytes = rw (zero-add (length bytes))
 
-written-on : (buffer p q : List ℕ) → written (written buffer 0 p) (length p) q ≡ written buffer 0 (p ++ q)
+pub written-on : (buffer p q : List ℕ) → written (written buffer 0 p) (length p) q ≡ written buffer 0 (p ++ q)
 written-on buffer p q =
     rw (written-front buffer p, written-front buffer (p ++ q), length-append p q)
     (unfold written in
