@@ -296,7 +296,8 @@ def large_chunks(rng):
     ]
     for title, make in rng.sample(shapes, 3):
         chunks = make()
-        yield title, chunks if generators.group_in(chunks) == sr.WIDE else generators.some_widened(rng, chunks)
+        wide = generators.some_widened(rng, chunks)
+        yield title, wide if len(generators.bundle_bytes(wide)) <= sr.MOST_BYTES else chunks
 
 
 def torn(rng, data):

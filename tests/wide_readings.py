@@ -162,25 +162,31 @@ def at_member(data):
     return refusal_by(data, place_of=lambda state, position: state.chunk.offset if state.chunk else position)
 
 
+def accesses_seen(data):
+    """As far as the commands are good but for their groups."""
+    seen = []
+    def why(command, state):
+        seen[:] = state.accesses
+        return in_turn(command, state, None)
+    refusal_by(data, why)
+    return seen
+
+
 def lowest_name(data):
-    """The first access is that of the lowest name, as far as the commands are good otherwise."""
-    seen = State()
-    refusal_by(data, lambda command, state: (setattr(seen, "accesses", state.accesses), in_turn(command, state, None))[1])
-    least = min(seen.accesses, key=lambda access: (access[2].team, access[2].member, access[0]), default=(0, None))[1]
+    """Compared with the access of the lowest name."""
+    seen = accesses_seen(data)
+    least = min(seen, key=lambda access: (access[2].team, access[2].member, access[0]), default=(0, None))[1]
     return refusal_by(data, lambda command, state: in_turn(command, state, least))
 
 
-def root_first(data):
-    """Compared with the last chunk's first access, as if the chunks were read from the back."""
-    seen = State()
-    refusal_by(data, lambda command, state: (setattr(seen, "accesses", state.accesses), in_turn(command, state, None))[1])
-    last = seen.accesses[-1][1] if seen.accesses else None
-    return refusal_by(data, lambda command, state: in_turn(command, state, last))
+def last_access(data):
+    seen = accesses_seen(data)
+    return refusal_by(data, lambda command, state: in_turn(command, state, seen[-1][1] if seen else None))
 
 
 WRONG_REFUSALS = (
     not_tested, before_3, before_4, after_5, after_7, behind_the_scan, behind_the_shape, own_chunk, other_chunks, wide_behind_narrow,
-    narrow_behind_wide, always_narrow_first, same_kind_alone, large_sites_alone, at_the_first, at_member, lowest_name, root_first,
+    narrow_behind_wide, always_narrow_first, same_kind_alone, large_sites_alone, at_the_first, at_member, lowest_name, last_access,
 )
 
 
@@ -218,7 +224,8 @@ def without_high_half(command):
 @lru_cache(maxsize=4)
 def converted(group, data):
     """The bytes of an accepted bundle in a group; sites that have no room lose their high half."""
-    return b"".join(sr.command_bytes(without_high_half(Command(sr.code_in(group, code), operands))) for _, (code, operands) in sr.placed_commands(data))
+    commands = (Command(sr.code_in(group, code), operands) for _, (code, operands) in sr.placed_commands(data))
+    return b"".join(sr.command_bytes(without_high_half(command)) for command in commands)
 
 
 GROUPS = {"wide": sr.WIDE, "narrow": sr.NARROW}
@@ -332,26 +339,23 @@ def first_alone(group, data):
     """Only the first access of each chunk is converted; then it is of the other group than the next."""
     def some(chunk):
         first = next((k for k, c in enumerate(chunk) if c.code in sr.ACCESSES), None)
-        return [Command(sr.code_in(group, c.code), (c.operands[0] % 65536, *c.operands[1:])) if k == first else c for k, c in enumerate(chunk)]
+        return [without_high_half(Command(sr.code_in(group, c.code), c.operands)) if k == first else c for k, c in enumerate(chunk)]
     return bundle_bytes([some(chunk) for chunk in chunks_of(data)])
 
 
 def with_codes(change):
     """A result with other command bytes for accesses."""
-    def make(group, data):
-        chunks = chunks_of(converted(group, data))
-        return bundle_bytes([[Command(change(c.code), c.operands) if c.code in sr.ACCESSES else c for c in chunk] for chunk in chunks])
-    return make
+    return lambda group, data: bundle_bytes([
+        [Command(change(c.code), c.operands) if c.code in sr.ACCESSES else c for c in chunk] for chunk in chunks_of(converted(group, data))])
 
 
 def with_sites(change):
     """A result with other sites."""
-    def make(group, data):
-        chunks = chunks_of(converted(group, data))
-        return bundle_bytes([
-            [Command(c.code, (change(c.code, c.operands[0]), *c.operands[1:])) if c.code in sr.ACCESSES else c for c in chunk] for chunk in chunks
-        ])
-    return make
+    def changed(command):
+        code, (site, *touched) = command
+        return Command(code, (change(code, site), *touched))
+    return lambda group, data: bundle_bytes([
+        [changed(c) if c.code in sr.ACCESSES else c for c in chunk] for chunk in chunks_of(converted(group, data))])
 
 
 def zeros_before(code, site):
@@ -533,4 +537,48 @@ def told_by_puts(asked):
             continue
         wanted = put_by(command, buffer, position)
         counts.update(reading for reading in WRONG_PUTS if reading(command, buffer, position) != wanted)
+    return counts
+
+
+def read_by(data, position, codes=None, widths=sr.WIDE_WIDTHS, site=lambda site: site):
+    """The command and the position after it, or the refusal: with other bytes for wide accesses, other widths and other sites."""
+    codes = dict(zip(sr.WIDE, sr.WIDE)) if codes is None else codes
+    if position >= len(data) or data[position] not in {*codes, *sr.WIDE}:
+        try:
+            return sr.read_command(data, position)
+        except sr.Refused as refusal:
+            return refusal.number, refusal.place
+    if data[position] not in codes:
+        return 2, position
+    after = position + 1 + sum(widths)
+    if after > len(data):
+        return 3, position
+    operands, at = [], position + 1
+    for width in widths:
+        operands.append(int.from_bytes(data[at : at + width], "little"))
+        at += width
+    command = Command(codes[data[position]], (site(operands[0]), *operands[1:]))
+    return (command, after) if sr.operands_are_good(command) else (5, position)
+
+
+WRONG_READS = {
+    "no wide accesses": {"codes": {}},
+    "from 0x34 on": {"codes": dict(zip(range(0x34, 0x3C), sr.WIDE * 2))},
+    "up to 0x3f": {"codes": dict(zip(range(0x38, 0x40), sr.WIDE * 2))},
+    "2-byte sites": {"widths": sr.NARROW_WIDTHS},
+    "3-byte sites": {"widths": (3, *sr.NARROW_WIDTHS[1:])},
+    "8-byte sites": {"widths": (8, *sr.NARROW_WIDTHS[1:])},
+    "sites of 16 bits": {"site": lambda site: site % 65536},
+    "high byte first": {"site": lambda site: int.from_bytes(site.to_bytes(4, "little"), "big")},
+    "halves exchanged": {"site": lambda site: site % 65536 * 65536 + site // 65536},
+    "kinds exchanged": {"codes": dict(zip(sr.WIDE, (*sr.WIDE[2:], *sr.WIDE[:2])))},
+}
+
+
+def told_by_reads(asked):
+    """In how many of these reads, each of bytes at a position, each reading differs."""
+    counts = Counter()
+    for data, position in asked:
+        wanted = read_by(data, position)
+        counts.update(title for title, changed in WRONG_READS.items() if read_by(data, position, **changed) != wanted)
     return counts
