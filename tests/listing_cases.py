@@ -270,6 +270,8 @@ def random_bundles(seed):
         yield "cut chunks", generators.stopped_run_bundle(rng)
         yield "unlike members", generators.bundle_bytes(generators.unlike_members(rng))
         yield "mixed groups", generators.mixed_groups(rng)
+    for _ in range(3):
+        yield "about 1,024 accesses", generators.mostly_full(rng)
     yield "any bytes", rng.randbytes(rng.randrange(200))
     yield "any commands", b"".join(bytes([rng.choice(list(sr.WIDTHS)), *rng.choices((0, 1, 2, 4), k=rng.randrange(12))])
                                    for _ in range(rng.randrange(30)))
