@@ -1,9 +1,10 @@
 -- Inner: what the functions of reading and putting ask and promise.
 use mathlib.Core.Path.{_≡_}
+use mathlib.Core.Logic.{_⊎_}
+use mathlib.Core.Bool.{Bool, cond}
 use Prim.Native.Nat.{ℕ, _+_, _<_, _≤_}
 use mathlib.Core.List.{List, [], _∷_}
 use lib.ListN.{length, getD, take}
-use Rattle.bundle.specs.Commands.{numberAt}
 use Rattle.bundle.specs.declared.command.Encoded.{Encoded}
 use Rattle.bundle.specs.declared.command.Range.{Range}
 
@@ -13,16 +14,26 @@ pub record StandsAt (s : List ℕ) (at b : ℕ) : Type 0 where
   pub byte : getD s at 0 ≡ b
 
 -- one of the four bytes from this one on at a position: those of a group of accesses
-pub record AccessAt (s : List ℕ) (at first : ℕ) : Type 0 where
+pub record GroupAt (s : List ℕ) (at first : ℕ) : Type 0 where
   pub within : at < length s
   pub low : first ≤ getD s at 0
   pub high : getD s at 0 < first + 4
 
--- the range of an access whose operands after the site begin at a position, and these operands
-abbrev pub rangeAt : List ℕ → ℕ → Range
-rangeAt s at =
-    record { base = numberAt 4 s at; stride = numberAt 2 s (at + 4); count = numberAt 2 s (at + 6); size = getD s (at + 8) 0 }
+-- an access's byte at a position, of either group
+pub record AccessAt (s : List ℕ) (at : ℕ) : Type 0 where
+  pub within : at < length s
+  pub low : 0x30 ≤ getD s at 0
+  pub high : getD s at 0 < 0x3c
+  pub group : (getD s at 0 < 0x34) ⊎ (0x38 ≤ getD s at 0)
 
+-- an access of a group at a position, and the position after it
+pub record AccessTo (s : List ℕ) (at next : ℕ) (wide : Bool) : Type 0 where
+  pub stands : GroupAt s at (cond wide 0x38 0x30)
+  pub ends : next ≡ at + cond wide 14 12
+  pub long : at + 12 ≤ next
+  pub fits : next ≤ length s
+
+-- the operands of an access after the site
 abbrev pub rangeOperands : Range → List ℕ
 rangeOperands r = r .base ∷ r .stride ∷ r .count ∷ r .size ∷ []
 

@@ -2,13 +2,13 @@
 use crate::copy::copy_in;
 use crate::refusal::Cause;
 ghost use mathlib.Core.Path.{_≡_};
-ghost use mathlib.Core.Bool.{true, false, _||_};
+ghost use mathlib.Core.Bool.{true, false, cond, _||_};
 ghost use Prim.Native.Nat.{_+_, _-_, _%_, _≤_};
 ghost use lib.Dec.{ltb, leb};
 ghost use mathlib.Core.List.{[], _∷_};
 ghost use lib.ListN.{length};
 ghost use Rattle.bundle.specs.Commands.{numberAt, kindOf, sizeOk, strideOk, lastByte, rangeOk, inRange, decodeAt, readAt, readingOf, kindByte, accessByte, accessWidths, operandBytes, bytesOf, putAt, puttingOf, ranged};
-ghost use Rattle.bundle.specs.Inner.{StandsAt, AccessAt, rangeAt, rangeOperands, Holds};
+ghost use Rattle.bundle.specs.Inner.{StandsAt, AccessAt, AccessTo, rangeOperands, Holds};
 ghost use Rattle.bundle.specs.Answer.{refuses, whenGiven};
 
 // What an access does: the commands 0x30 to 0x33, and 0x38 to 0x3b, in this order.
@@ -230,65 +230,67 @@ pub fn kind_of(byte: u8) -> AccessKind
     AccessKind::AtomicWrite
 }
 
-// The range of an access whose operands after the site begin at a position.
-fn decode_range(bytes: &[u8], at: usize) -> Range
-    requires { ⌜ at + 9 ≤ length (now bytes) ⌝ }
-    ensures { λ r. ⌜ r ≡ rangeAt (now (bytes .entry)) at ⌝ }
+// The site of an access, which has 4 bytes in the wide group and 2 in the narrow one.
+fn site_at(bytes: &[u8], at: usize, wide: bool) -> u32
+    requires { ⌜ at + 4 ≤ length (now bytes) ⌝ }
+    ensures { λ r. ⌜ r ≡ numberAt (cond wide 4 2) (now (bytes .entry)) at ⌝ }
 {
-    let base = four_bytes(bytes, at);
-    let stride = two_bytes(bytes, at + 4);
-    let count = two_bytes(bytes, at + 6);
-    let size = bytes[at + 8];
-    Range {
+    if wide {
+        return four_bytes(bytes, at);
+    }
+    two_bytes(bytes, at) as u32
+}
+
+// The access at a position, of which the position after it and the group are known. What stands behind the site is read from the end of the access.
+fn decode_operands(bytes: &[u8], position: usize, next: usize, wide: bool) -> Reading
+    requires { ⌜ AccessTo (now bytes) position next wide ⌝ }
+    ensures { λ r. ⌜ readingOf r ≡ decodeAt (now (bytes .entry)) position ⌝ }
+{
+    let kind = kind_of(bytes[position] % 8 + 0x30);
+    let site = site_at(bytes, position + 1, wide);
+    let base = four_bytes(bytes, next - 9);
+    let stride = two_bytes(bytes, next - 5);
+    let count = two_bytes(bytes, next - 3);
+    let size = bytes[next - 1];
+    let range = Range {
         base,
         stride,
         count,
         size,
+    };
+    let access = Access {
+        kind,
+        wide,
+        site,
+        range,
+    };
+    Reading::Taken {
+        next,
+        command: Command::Access(access),
     }
 }
 
+// An access of either group. With a function for each, the compiler makes one piece of code of the two in which the place of each operand is looked up, and
+// check takes nearly twice the time for narrow accesses.
 fn decode_access(bytes: &[u8], position: usize) -> Reading
-    requires { ⌜ AccessAt (now bytes) position 0x30 ⌝ }
+    requires { ⌜ AccessAt (now bytes) position ⌝ }
     ensures { λ r. ⌜ readingOf r ≡ decodeAt (now (bytes .entry)) position ⌝ }
 {
-    if bytes.len() - position < 12 {
-        return cut_off(position);
+    let mut next = position;
+    let mut wide = false;
+    if 0x38 <= bytes[position] {
+        if bytes.len() - position < 14 {
+            return cut_off(position);
+        }
+        next = position + 14;
+        wide = true;
+    } else {
+        if bytes.len() - position < 12 {
+            return cut_off(position);
+        }
+        next = position + 12;
     }
-    let kind = kind_of(bytes[position]);
-    let site = two_bytes(bytes, position + 1) as u32;
-    let range = decode_range(bytes, position + 3);
-    let access = Access {
-        kind,
-        wide: false,
-        site,
-        range,
-    };
-    Reading::Taken {
-        next: position + 12,
-        command: Command::Access(access),
-    }
-}
-
-fn decode_wide_access(bytes: &[u8], position: usize) -> Reading
-    requires { ⌜ AccessAt (now bytes) position 0x38 ⌝ }
-    ensures { λ r. ⌜ readingOf r ≡ decodeAt (now (bytes .entry)) position ⌝ }
-{
-    if bytes.len() - position < 14 {
-        return cut_off(position);
-    }
-    let kind = kind_of(bytes[position] - 8);
-    let site = four_bytes(bytes, position + 1);
-    let range = decode_range(bytes, position + 5);
-    let access = Access {
-        kind,
-        wide: true,
-        site,
-        range,
-    };
-    Reading::Taken {
-        next: position + 14,
-        command: Command::Access(access),
-    }
+    decode_operands(bytes, position, next, wide)
 }
 
 // The command at a position, its operands of any value, and the position after it: 18, 2 and 3 are tested.
@@ -319,7 +321,7 @@ pub fn decode_command(bytes: &[u8], position: usize) -> Reading
         0x20 => decode_acquire(bytes, position),
         0x21 => decode_release(bytes, position),
         0x30..=0x33 => decode_access(bytes, position),
-        0x38..=0x3b => decode_wide_access(bytes, position),
+        0x38..=0x3b => decode_access(bytes, position),
         _ => Reading::Refused {
             place: position,
             cause: Cause::UnknownCommand,
@@ -372,7 +374,7 @@ pub fn read_command(bytes: &[u8], position: usize) -> Reading
         0x20 => accept(decode_acquire(bytes, position), position),
         0x21 => accept(decode_release(bytes, position), position),
         0x30..=0x33 => accept(decode_access(bytes, position), position),
-        0x38..=0x3b => accept(decode_wide_access(bytes, position), position),
+        0x38..=0x3b => accept(decode_access(bytes, position), position),
         _ => Reading::Refused {
             place: position,
             cause: Cause::UnknownCommand,

@@ -19,14 +19,15 @@ ghost use Rattle.bundle.specs.Commands.{readingOf};
 ghost use Rattle.bundle.specs.Scan.{differs};
 ghost use Rattle.bundle.specs.Survey.{Bounded, stepOf, unmoved, decided, testedAt, stepAt, scanWith};
 
-// Whether a chunk is open, its team and state, the segments and accesses of the bundle so far, and whether these accesses are of the wide group.
+// Whether a chunk is open, and whether the accesses so far are of the wide group; the open chunk's team and state, and the segments and accesses of the
+// bundle so far.
 pub struct Scan {
     pub inside: bool,
+    pub wide: bool,
     pub team: u16,
     pub state: ChunkState,
     pub segments: u32,
     pub accesses: u32,
-    pub wide: bool,
 }
 
 // What the scan says to a command.

@@ -65,13 +65,7 @@ fn size_in(command: Command, wide: bool) -> usize
         Command::Barrier => 1,
         Command::Acquire(_) => 2,
         Command::Release(_) => 2,
-        Command::Access(_) => {
-            if wide {
-                14
-            } else {
-                12
-            }
-        }
+        Command::Access(_) => { if wide { 14 } else { 12 } }
         Command::Cut => 1,
     }
 }

@@ -2,7 +2,7 @@
 use mathlib.Core.Path.{refl}
 use Rattle.bundle.specs.Commands.{formOf, sum, widthOf, commandAt}
 use Rattle.bundle.proofs.Forms.{no-form}
-use Rattle.bundle.proofs.Arms.{decode-past, decode-unknown, decode-whole}
+use Rattle.bundle.proofs.Arms.{of-narrow, of-wide, decode-past, decode-unknown, decode-whole}
 use native.Mathlib.Omega.{arith}
 use borrow.Author.Needs.{needs}
 use Rattle.bundle.proofs.command.decode_command.Statement.{statement}
@@ -61,8 +61,8 @@ decode-command-spec =
     (λ c. search needs)
     (λ c κs. search needs)
     (λ c κs. search needs)
-    (λ c κs. search needs)
-    (λ c κs. search needs)
+    (λ c κs. of-narrow _ _ (c .before .before .before .before .if1 .left) (c .before .if2 .left) (c .if3 .taken))
+    (λ c κs. of-wide _ _ (c .before .before .before .before .before .before .if1 .left) (c .before .if4 .left) (c .if5 .taken))
     (λ c. search needs)
     returns-3
     returns-4

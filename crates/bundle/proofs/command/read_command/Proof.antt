@@ -3,7 +3,7 @@ use mathlib.Core.Path.{refl}
 use native.Mathlib.Omega.{arith}
 use Rattle.bundle.specs.Commands.{formOf, codeOf, sum, widthOf, widthsOf, fitWidths, operandsOk, inRange, commandAt}
 use Rattle.bundle.proofs.Forms.{no-form}
-use Rattle.bundle.proofs.Arms.{decode-past, decode-unknown, decode-whole, read-accepted, read-whole, read-not}
+use Rattle.bundle.proofs.Arms.{of-narrow, of-wide, decode-past, decode-unknown, decode-whole, read-accepted, read-whole, read-not}
 use borrow.Author.Needs.{needs}
 use Rattle.bundle.proofs.command.read_command.Statement.{statement}
 use Rattle.bundle.proofs.command.read_command.Tie as tie
@@ -39,7 +39,7 @@ returns-9 : tie.Need-returns-9
 returns-9 c = read-accepted _ _ (c .before .decode-access .ensures) (c .accept5 .ensures)
 
 returns-10 : tie.Need-returns-10
-returns-10 c = read-accepted _ _ (c .before .decode-wide-access .ensures) (c .accept6 .ensures)
+returns-10 c = read-accepted _ _ (c .before .decode-access2 .ensures) (c .accept6 .ensures)
 
 returns-11 : tie.Need-returns-11
 returns-11 c =
@@ -83,9 +83,9 @@ read-command-spec =
     (λ c κs. tt)
     (λ c κs. search needs)
     (λ c κs. tt)
-    (λ c κs. search needs)
+    (λ c κs. of-narrow _ _ (c .before .before .before .before .if1 .left) (c .before .if2 .left) (c .if3 .taken))
     (λ c κs. tt)
-    (λ c κs. search needs)
+    (λ c κs. of-wide _ _ (c .before .before .before .before .before .before .if1 .left) (c .before .if4 .left) (c .if5 .taken))
     (λ c κs. tt)
     returns-2
     returns-3
