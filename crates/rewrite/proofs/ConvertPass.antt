@@ -6,8 +6,7 @@ use mathlib.Core.List.{List, [], _∷_, _++_, map, append-assoc, append-nil, Lis
 use mathlib.Core.Option.{Option, none, some}
 use native.Mathlib.Omega.{arith}
 use native.Mathlib.Nat.{zero-add, add-assoc}
-use lib.ListN.{length, take, drop, length-append, length-drop}
-use lib.Seq.{length-take-le}
+use lib.ListN.{length, length-append}
 use lib.Dec.{ltb, leb}
 use borrow.Author.Tests.{lt-ltb, le-ltb, le-leb}
 use Rattle.bundle.specs.Answer.{Answer, gives, refuses, numberOf}
@@ -21,6 +20,7 @@ use Rattle.bundle.specs.declared.command.Putting.{Putting}
 use Rattle.bundle.specs.declared.command.Putting.the-variants as Put
 use Rattle.bundle.proofs.Tests.{or-one}
 use Rattle.bundle.proofs.Decoding.{read-next}
+use Rattle.bundle.proofs.Fitting.{written-length}
 use Rattle.bundle.proofs.Onward.{Onward, Next, onward-next, onward-read, onward-end, legible}
 use Rattle.rewrite.specs.Rewriting.{fillingOf}
 use Rattle.rewrite.specs.Converting.{regrouped, commandsIn, converted, siteOver, firstOver, toWide, toNarrow, toGroup, handedTo, convertOf}
@@ -175,16 +175,6 @@ module _ (w : Bool) (c : Command) (buffer : List ℕ) (position : ℕ) (x : Putt
         let l : refuses (numberOf cause) place ≡ gives (position + length (bytesOf (regrouped w c))) = ap puttingOf (sym q) ∙ ap (λ (y : Lent ℕ). y .answer) given in
         let z : _≡_ {A = ℕ} 0 1 = cc in
         absurd (omega arith)
-
-written-length : (buffer : List ℕ) (at : ℕ) (bytes : List ℕ) → at + length bytes ≤ length buffer → length (written buffer at bytes) ≡ length buffer
-unfolding written
-written-length buffer at bytes h =
-    let one = length-append (take at buffer ++ bytes) (drop (at + length bytes) buffer) in
-    let two = length-append (take at buffer) bytes in
-    let three = length-take-le at buffer (omega arith) in
-    let four = length-drop (at + length bytes) buffer in
-    let rest : length (take at buffer ++ bytes) + length (drop (at + length bytes) buffer) ≡ length buffer = omega arith in
-    one ∙ rest
 
 -- the pass that writes is at a position: what is done, with the rest of the commands, is the whole
 pub record PutTo (w : Bool) (s old : List ℕ) (at position : ℕ) (new : List ℕ) : Type 0 where

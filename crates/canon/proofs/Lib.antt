@@ -1,2 +1,0 @@
--- Laws over the definitions.
-pub mod LineFits
