@@ -97,7 +97,6 @@ UNKNOWN = [
     Case("inside a chunk", 2, "member 0 0; barrier; *raw 05; end"),
     Case("behind a good bundle", 2, "member 0 0; end; *raw ff"),
     Case("2 before 3: nothing follows", 2, "member 0 0; *raw 34"),
-    Case("behind the narrow accesses", 2, "member 0 0; read 1 0 0 1 1; *raw 37; end"),
     Case("2 before 4: outside a chunk", 2, "*raw 12; end"),
     Case("2 at a lower offset than 3", 2, "member 0 0; *raw 22; torn 1 acquire 1"),
     Case("2 at a lower offset than 4", 2, "member 0 0; *raw 2f"),
@@ -509,7 +508,8 @@ WIDE_ACCEPTED = [
 WIDE_TORN = [
     *[Case(f"wide access torn after {length}", 3, f"member 0 0; *torn {length} wide-{kind} 1 0 0 1 1")
       for length, kind in ((1, "read"), (2, "write"), (4, "atomic-read"), (12, "atomic-write"), (13, "read"))],
-    *[Case(f"the unknown byte {byte:#x} behind a wide access", 2, f"member 0 0; {WIDE_ACCESS}; *raw {byte:x}; end") for byte in (0x34, 0x37, 0x3C)],
+    *[Case(f"the unknown byte {byte:#x} behind an access", 2, f"member 0 0; {access}; *raw {byte:x}; end")
+      for byte, access in ((0x34, WIDE_ACCESS), (0x37, ACCESS), (0x37, WIDE_ACCESS), (0x3C, ACCESS), (0x3C, WIDE_ACCESS))],
     Case("3 before 4: wide access outside a chunk", 3, "*torn 13 wide-write 1 0 0 1 1"),
     Case("3 before 20: narrow access torn", 3, f"member 0 0; {WIDE_ACCESS}; *torn 11 {ACCESS}"),
     Case("3 before 20: wide access torn", 3, f"member 0 0; {ACCESS}; *torn 13 {WIDE_ACCESS}"),

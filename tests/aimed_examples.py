@@ -3,12 +3,13 @@
 import example_cases
 import second_reader as sr
 from example_terms import (
-    answer_term, bytes_term, found_term, judgement_term, name_term, overlap_term, races_term, range_term, triples_term,
+    answer_term, bytes_term, found_term, judgement_term, name_term, overlap_term, races_term, range_term, taken_term, triples_term,
 )
 
 HEAD = """\
 -- Examples aimed at single points of docs/FORMAT.md, with the second reader's answers. tests/write_examples writes this file.
 use Prim.Native.Nat.{ℕ}
+use mathlib.Core.Bool.{true, false}
 use mathlib.Core.Path.{_≡_, refl}
 use mathlib.Core.List.{List, [], _∷_, map}
 use mathlib.Core.Option.{Option, none, some}
@@ -16,6 +17,8 @@ use lib.ListN.{replicate}
 use Rattle.bundle.specs.Answer.{Answer, gives, refuses, whenGiven}
 use Rattle.bundle.specs.Commands.{Lent, Taken, readAt}
 use Rattle.bundle.specs.Check.{checkOf}
+use Rattle.bundle.specs.declared.command.AccessKind.the-variants as Kind
+use Rattle.bundle.specs.declared.command.Command.the-variants as Com
 use Rattle.order.specs.Labels.{labelOf, compareOf}
 use Rattle.order.specs.Ranges.{sharedOf}
 use Rattle.order.specs.declared.label.Triple.{Triple}
@@ -69,6 +72,11 @@ def read_rows():
         yield f"(whenGiven (readAt {bytes_term(data)} {position}) (λ (t : Taken). gives (t .next)))", wanted
 
 
+def wide_read_rows():
+    for data, position in example_cases.WIDE_READ:
+        yield f"(readAt {bytes_term(data)} {position})", answer_term(taken_term, sr.read_command, data, position)
+
+
 def has_cut(data):
     """Whether a chunk is cut, as far as the commands can be read."""
     position = 0
@@ -87,6 +95,11 @@ def check_rows(cut):
     for data in example_cases.checked_bundles():
         if has_cut(data) == cut:
             yield f"(checkOf {bytes_term(data)})", answer_term(lambda _: "tt", sr.check, data)
+
+
+def wide_check_rows():
+    for data in example_cases.WIDE_CHECKED:
+        yield f"(checkOf {bytes_term(data)})", answer_term(lambda _: "tt", sr.check, data)
 
 
 def label_rows():
@@ -137,8 +150,8 @@ def next_rows():
         yield given, f"(record {{ answer = {wanted}; buffer = {left_term(words, filler)} }})"
 
 
-def judge_rows():
-    for data, words, filler in example_cases.AREAS:
+def judge_rows(areas):
+    for data, words, filler in areas:
         wanted = answer_term(judgement_term, sr.judge, words, data)
         given = f"(judgeOf {bytes_term(data)} (replicate {words} {filler}))"
         yield given, f"(record {{ answer = {wanted}; buffer = {left_term(words, filler)} }})"
@@ -161,5 +174,8 @@ def text():
         "-- the races of five bundles; small-bundles has the bundles\n" + "".join(race_lists())
         + table("the least race above a key", "aboves", "Option Race", above_rows(), " ".join(example_cases.RACED) + " "),
         table("next race, and the work area afterwards", "nexts", "Lent (Option Race)", next_rows()),
-        table("judge, and the work area afterwards", "judgements", "Lent Judgement", judge_rows()),
+        table("judge, and the work area afterwards", "judgements", "Lent Judgement", judge_rows(example_cases.AREAS)),
+        table("reading an access of either group", "wide-reads", "Answer Taken", wide_read_rows()),
+        table("check of wide accesses, and of both groups", "wide-checks", "Answer (Unit {0})", wide_check_rows()),
+        table("judge of a bundle with wide accesses", "wide-judgements", "Lent Judgement", judge_rows(example_cases.WIDE_AREAS)),
     ))

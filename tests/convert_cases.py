@@ -21,7 +21,8 @@ E_SMALL_SITES = bytes.fromhex(
     "01 01 00 01 38 14 00 00 00 0a 10 00 00 00 00 01 00 04 11 02"
 )
 ONE_OF_EACH = (
-    "01 00 00 00 30 3433 33323130 0000 0100 01 31 ffff 39383b3a 3130 3332 02 11 32 0000 38000000 3800 3900 04 33 3800 3b3a3938 3b3a 0b00 08 02",
+    "01 00 00 00 30 3433 33323130 0000 0100 01 31 ffff 39383b3a 3130 3332 02 11 32 0000 38000000 3800 3900 04"
+    "33 3800 3b3a3938 3b3a 0b00 08 02",
     "01 00 00 00 38 34330000 33323130 0000 0100 01 39 ffff0000 39383b3a 3130 3332 02 11 3a 00000000 38000000 3800 3900 04"
     "3b 38000000 3b3a3938 3b3a 0b00 08 02",
 )
@@ -54,8 +55,9 @@ PAIRS = [
 COPIED = [
     ("only a root", bundle("member 0 0; end")),
     ("a cut root", bundle("member 0 0; barrier; cut")),
-    ("operands that look like accesses", bundle("member 0 0; region 48 1; acquire 48; release 48; end; member 48 0; region 14385 1; acquire "
-     "56; cut; member 14385 0; acquire 49; acquire 57; release 49; release 57; end")),
+    ("operands that look like accesses", bundle("""
+        member 0 0; region 48 1; acquire 48; release 48; end; member 48 0; region 14385 1; acquire 56; cut
+        member 14385 0; acquire 49; acquire 57; release 49; release 57; end""")),
     ("back to front", bundle("member 1 1; barrier; end; member 1 0; barrier; end; member 0 0; region 1 2; end")),
 ]
 
@@ -71,12 +73,14 @@ ONLY_WIDE = [
         ("E, the read", E_WIDE.replace("70000", "65535").replace("wide-read 20", "*wide-read 65536")),
         ("the second of three", "member 0 0; wide-read 65535 0 0 1 1; *wide-read 65536 0 0 1 1; wide-read 1 0 0 1 1; end"),
         ("two, the lower offset", "member 0 0; wide-read 1 0 0 1 1; *wide-read 70000 0 0 1 1; wide-read 65536 0 0 1 1; end"),
-        ("three, behind other commands",
-         "member 0 0; acquire 3; barrier; wide-write 0 0 0 1 1; *wide-read 4294967295 0 0 1 1; wide-read 65536 0 0 1 1; wide-read 99999 0 0 1 1; cut"),
+        ("three, behind other commands", """
+            member 0 0; acquire 3; barrier; wide-write 0 0 0 1 1
+            *wide-read 4294967295 0 0 1 1; wide-read 65536 0 0 1 1; wide-read 99999 0 0 1 1; cut"""),
         ("two chunks, the lower offset and the higher name",
          "member 1 1; *wide-write 65536 0 0 1 1; end; member 1 0; wide-read 65536 0 0 1 1; end; member 0 0; region 1 2; end"),
-        ("in the last chunk, the first ones small",
-         "member 0 0; region 1 1; wide-write 65535 0 0 1 1; wide-write 0 0 0 1 1; end; member 1 0; wide-read 7 0 0 1 1; *wide-read 65536 0 0 1 1; end"),
+        ("in the last chunk, the first ones small", """
+            member 0 0; region 1 1; wide-write 65535 0 0 1 1; wide-write 0 0 0 1 1; end
+            member 1 0; wide-read 7 0 0 1 1; *wide-read 65536 0 0 1 1; end"""),
     )
 ]
 

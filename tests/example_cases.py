@@ -13,8 +13,8 @@ MOST_BYTES = 100
 
 
 def checked_bundles():
-    """The short bundles that aim at a refusal of check."""
-    return [data for _, _, _, data in aimed_cases.check_cases() if len(data) <= MOST_BYTES]
+    """The short bundles that aim at a refusal of check, without wide accesses."""
+    return [data for _, _, _, data in aimed_cases.check_cases(aimed_cases.NARROW_CASES) if len(data) <= MOST_BYTES]
 
 
 # ----------------------------------------------------------------- reading
@@ -25,6 +25,24 @@ READ = [(bytes.fromhex(text), position) for text, position in (
     ("03", 0), ("0301", 0), ("0203", 1),
     ("01000040", 0), ("0100003f", 0), ("2040", 0), ("213f", 0), ("2140", 0), ("1111", 1), ("1111", 2), ("1112", 1), ("100100", 0),
 )]
+
+# -------------------------------------------------------------- wide sites
+
+# (bytes, position): a wide command with every byte another, the highest site, one byte cut off, a size that is no size, and a
+# narrow command with the highest site.
+WIDE_READ = [(bytes.fromhex(text), position) for text, position in (
+    ("02 3a 78563412 04030201 0600 0500 08", 1), ("39 ffffffff 00000000 0000 0100 01", 0), ("38 00000100 00000000 0000 0100", 0),
+    ("3b 00000000 00000000 0000 0100 03", 0), ("33 ffff 00000000 0000 0100 01 00", 0),
+)]
+
+ACCESS, WIDE_ACCESS = aimed_cases.ACCESS, aimed_cases.WIDE_ACCESS
+WIDE_CHECKED = [aimed_cases.E_WIDE_BYTES, *map(bundle, (
+    f"member 0 0; {ACCESS}; {WIDE_ACCESS}; end",
+    f"member 1 0; {WIDE_ACCESS}; end; member 0 0; region 1 1; {ACCESS}; end",  # in another chunk
+    f"member 0 0; {ACCESS}; end; {WIDE_ACCESS}",  # 4 before 20
+    f"member 0 0; {ACCESS}; wide-read 1 0 0 1 3; end",  # 20 before 5
+    f"member 0 0; {WIDE_ACCESS}; torn 11 {ACCESS}",  # 3 before 20
+))]
 
 # ------------------------------------------------------------------ labels
 
@@ -192,4 +210,5 @@ NEXT = [
 # ------------------------------------------------------------- work areas
 
 # (bundle, words, the word that fills the area)
+WIDE_AREAS = [(aimed_cases.E_WIDE_BYTES, 16384, 7)]
 AREAS = [(E, 0, 7), (E, 3, 7), (b"", 3, 7), (E, 16383, 7), (E, 16384, 7), (b"", 16385, 7)]

@@ -13,6 +13,22 @@ def race_term(race):
     return "race " + " ".join(str(n) for n in (race.witness, *first, *second))
 
 
+KINDS = ("Read", "Write", "AtomicRead", "AtomicWrite")
+
+
+def access_term(command):
+    """An access of either group as a command."""
+    group = sr.group_of(command.code)
+    kind, wide = KINDS[group.index(command.code)], "true" if group == sr.WIDE else "false"
+    site, *touched = command.operands
+    return f"Com.Access (record {{ kind = Kind.{kind}; wide = {wide}; site = {site}; range = {range_term(touched)[1:-1]} }})"
+
+
+def taken_term(read):
+    """An access that was read, and the position after it."""
+    return f"(record {{ command = {access_term(read[0])}; next = {read[1]} }})"
+
+
 def name_term(name):
     return "(name " + " ".join(str(n) for n in name) + ")"
 

@@ -641,11 +641,11 @@ def put_anywhere(rng, chunks, command):
     chunk.insert(rng.randint(1, len(chunk) - 1), command)
 
 
-def mostly_full(rng, kinds=sr.ACCESSES):
-    """1,023 to 1,025 accesses of one group and one of either, good or bad: accepted, 20, 5 or 7. Answers bytes."""
+def mostly_full(rng):
+    """1,022 to 1,024 accesses of one group and one of either, good or bad: accepted, 20, 5 or 7. Answers bytes."""
     group = rng.choice((sr.NARROW, sr.WIDE))
     accesses = [Command(group[0], (7, BASE, 0, 1, 1))] * rng.randint(1022, 1024)
-    last = Command(rng.choice(kinds), (7, BASE, 0, rng.choice((1, 1, 2)), 1))
+    last = Command(rng.choice(sr.ACCESSES), (7, BASE, 0, rng.choice((1, 1, 2)), 1))
     return bundle_bytes([[Command(sr.MEMBER, (0, 0)), *accesses, last, Command(sr.END, ())]])
 
 

@@ -57,7 +57,7 @@ def many_locks(rng, size, writes):
             taken = rng.sample(free, rng.randint(0, 4 - min(4, len(held))))
             held += taken
             yield from (Command(sr.ACQUIRE, (lock,)) for lock in taken)
-            yield access(rng.choice(sr.ACCESSES), WORD, rng.randrange(65536))
+            yield access(rng.choice(sr.NARROW), WORD, rng.randrange(65536))
             dropped = rng.sample(held, rng.randint(0, len(held)))
             held = [lock for lock in held if lock not in dropped]
             yield from (Command(sr.RELEASE, (lock,)) for lock in dropped)
@@ -193,7 +193,7 @@ def fixed_bundles():
     for length in range(len(E)):
         yield f"the first {length} bytes of E", E[:length]
     for place in range(len(E)):
-        for byte in (0x00, 0x03, 0x11, 0xFF):
+        for byte in (0x00, 0x03, 0x11, 0x38, 0xFF):
             yield f"E with {byte:#04x} at {place}", E[:place] + bytes([byte]) + E[place + 1 :]
     yield from limit_bundles()
     for length in (65536, 65537, 65538, 65540, 66000, 131072, 131073, 200000, 1000000):
@@ -232,6 +232,9 @@ def limit_bundles():
         ("64 members, 6 barriers, none complete", [cut_all(chunk) for chunk in intervals(64, 6, 2)]),
         ("teams of 4 four deep, all cut", [cut_all(chunk) for chunk in nested(rng, 4, 3)]),
         ("one byte too many", with_barrier(full)),
+        ("all limits reached, wide", generators.full_bundle(rng, generators.LARGE._replace(wides=1))),
+        ("all clash, wide", generators.widened(rng, all_clash(32, 8))),
+        ("64 members, 6 barriers, wide", generators.widened(rng, intervals(64, 6, 2))),
     )
     for title, chunks in shaped:
         yield title, generators.bundle_bytes(chunks)
@@ -266,6 +269,9 @@ def random_bundles(seed):
         yield "locks around regions", generators.locked_nest_bundle(rng)
         yield "cut chunks", generators.stopped_run_bundle(rng)
         yield "unlike members", generators.bundle_bytes(generators.unlike_members(rng))
+        yield "mixed groups", generators.mixed_groups(rng)
+    for _ in range(3):
+        yield "about 1,024 accesses", generators.mostly_full(rng)
     yield "any bytes", rng.randbytes(rng.randrange(200))
     yield "any commands", b"".join(bytes([rng.choice(list(sr.WIDTHS)), *rng.choices((0, 1, 2, 4), k=rng.randrange(12))])
                                    for _ in range(rng.randrange(30)))
@@ -291,7 +297,9 @@ def large_chunks(rng):
         ("coprime", lambda: coprime_strides(rng, rng.randint(2, 8), rng.randint(1, 8))),
     ]
     for title, make in rng.sample(shapes, 3):
-        yield title, make()
+        chunks = make()
+        wide = generators.some_widened(rng, chunks)
+        yield title, wide if len(generators.bundle_bytes(wide)) <= sr.MOST_BYTES else chunks
 
 
 def torn(rng, data):

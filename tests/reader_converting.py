@@ -1,11 +1,15 @@
 """Converting a bundle between the two groups of access commands: request A.6 of document 02."""
 
+from functools import lru_cache
+
 from reader_bundles import MOST_BYTES, check
 from reader_commands import ACCESSES, LAST_NARROW_SITE, NARROW, WIDE, Command, Refused, code_in, command_bytes, read_command
 
 
+@lru_cache(maxsize=4)
 def placed_commands(data):
-    """The commands of an accepted bundle, each with its offset."""
+    """The commands of a bundle, each with its offset, where check accepts it."""
+    check(data)
     found, position = [], 0
     while position < len(data):
         command, after = read_command(data, position)
@@ -14,9 +18,10 @@ def placed_commands(data):
     return found
 
 
-def in_group(group, commands):
-    """The bytes of the commands with each access in the group, the operands being the same."""
-    return b"".join(command_bytes(Command(code_in(group, code), operands)) for _, (code, operands) in commands)
+@lru_cache(maxsize=4)
+def in_group(group, data):
+    """The bundle with each access in the group, the operands being the same."""
+    return b"".join(command_bytes(Command(code_in(group, code), operands)) for _, (code, operands) in placed_commands(data))
 
 
 def fill(buffer, result):
@@ -28,20 +33,17 @@ def fill(buffer, result):
 
 
 def to_wide(data, buffer):
-    check(data)
-    result = in_group(WIDE, placed_commands(data))
+    result = in_group(WIDE, data)
     if len(result) > MOST_BYTES:
         raise Refused(1, 0)
     return fill(buffer, result)
 
 
 def to_narrow(data, buffer):
-    check(data)
-    commands = placed_commands(data)
-    for offset, (code, operands) in commands:
+    for offset, (code, operands) in placed_commands(data):
         if code in ACCESSES and operands[0] > LAST_NARROW_SITE:
             raise Refused(21, offset)
-    return fill(buffer, in_group(NARROW, commands))
+    return fill(buffer, in_group(NARROW, data))
 
 
 CONVERTERS = {"wide": to_wide, "narrow": to_narrow}

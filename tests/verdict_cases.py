@@ -123,7 +123,7 @@ def next_frames(seed):
     for data in [E, ALIKE] + listed_bundles(race_cases.LISTINGS + race_cases.LONG) + small_good(rng, 25):
         yield from walk(rng, data)
         yield from outside_of_all(rng, data)
-    for data in listed_bundles(race_cases.LOCKED_AROUND + race_cases.STOPPED) + locked_nests(rng, 12) + stopped_runs(rng, 12):
+    for data in listed_bundles(race_cases.LOCKED_AROUND + race_cases.STOPPED + race_cases.WIDE) + locked_nests(rng, 12) + stopped_runs(rng, 12):
         yield from walk(rng, data)
     for style in (generators.MIDDLE, generators.NESTED, generators.LOCKED, generators.FAR, generators.QUIET):
         yield from walk(rng, generators.random_bundle(rng, style))

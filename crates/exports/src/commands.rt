@@ -183,7 +183,7 @@ fn command_from(words: &[u32; 9]) -> Made
         0x20 => acquire_from(words[3]),
         0x21 => release_from(words[3]),
         0x30..=0x33 => access_from(words, false, kind_of(words[0] as u8)),
-        0x38..=0x3b => access_from(words, true, kind_of((words[0] - 8) as u8)),
+        0x38..=0x3b => access_from(words, true, kind_of(words[0] as u8 - 8)),
         _ => Made::NoCommand,
     }
 }

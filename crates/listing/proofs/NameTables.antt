@@ -112,7 +112,7 @@ module _
 
   pub site-small : (i : ℕ) → i < n → accessRowAt ordered i .site < 4294967296
   unfolding accessRowAt
-  site-small i h = omega (arith, ap (λ (r : AccessRow). r .site) (copied .each i h), small (getD (orderOf rows n) i 0 % 1024 + 7168))
+  site-small i h = omega (arith, ap (λ (r : AccessRow). r .site) (copied .each i h), small (getD (orderOf rows n) i 0 % 1024 + 4096))
 
   pub stride-small : (words : List ℕ) (r : ℕ) → accessRowAt words r .stride < 65536
   unfolding accessRowAt

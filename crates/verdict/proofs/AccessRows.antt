@@ -2,6 +2,7 @@
 use Prim.Native.Nat.{ℕ, zero, suc, _+_, _*_, _/_, _%_, _≤_, _<_}
 use mathlib.Core.Path.{_≡_, refl, _∙_, ap}
 use mathlib.Core.List.{List, [], _∷_}
+use native.Mathlib.Nat.{mod-lt}
 use native.Mathlib.Omega.{arith}
 use lib.ListN.{length, getD, set, length-set}
 use lib.Seq.{getD-set-same, getD-set-other}
@@ -52,7 +53,7 @@ low a b n h e = omega arith
 high : (a b n : ℕ) → a < 65536 → n ≡ a + 65536 * b → n / 65536 ≡ b
 high a b n h e = omega arith
 
--- a kind and a size of four bits each and a member of eight, below a segment
+-- a kind and a size of four bits each and a member of eight, below the high half of a site
 module _ (k z m s small n : ℕ) (hk : k < 16) (hz : z < 16) (hm : m < 256) (e : small ≡ k + 16 * z + 256 * m) (q : n ≡ small + 65536 * s) where
   kind-of : n % 16 ≡ k
   kind-of = omega arith
@@ -63,8 +64,11 @@ module _ (k z m s small n : ℕ) (hk : k < 16) (hz : z < 16) (hm : m < 256) (e :
   member-of : n / 256 % 256 ≡ m
   member-of = omega arith
 
-  segment-of : n / 65536 ≡ s
-  segment-of = omega arith
+  upper-of : n / 65536 ≡ s
+  upper-of = omega arith
+
+halves : (n : ℕ) → n % 65536 + 65536 * (n / 65536) ≡ n
+halves n = omega arith
 
 whole : (n : ℕ) → n % 4294967296 + 4294967296 * (n / 4294967296) ≡ n
 whole n = omega arith
@@ -80,16 +84,16 @@ pub record RowFits (r : AccessRow) : Type 0 where
   pub team : r .team < 65536
   pub member : r .member < 256
 
-module _ (words : List ℕ) (i : ℕ) (row : AccessRow) (small place range name : ℕ) where
+module _ (words : List ℕ) (i : ℕ) (row : AccessRow) (small upper range name place : ℕ) where
   abbrev behind : List ℕ
   behind =
       row .last
       ∷ (row .locks % 4294967296)
       ∷ (row .locks / 4294967296)
-      ∷ place
+      ∷ upper
       ∷ range
       ∷ name
-      ∷ row .site
+      ∷ place
       ∷ []
 
   abbrev pub rowStored : List ℕ
@@ -124,11 +128,12 @@ module _ (words : List ℕ) (i : ℕ) (row : AccessRow) (small place range name 
       RowIn words i × Slim row
       → RowFits row
       → small ≡ row .kind + 16 * row .size + 256 * row .member
-      → place ≡ small + 65536 * row .segment
+      → upper ≡ small + 65536 * (row .site / 65536)
       → range ≡ row .stride + 65536 * row .count
       → name ≡ row .team + 65536 * row .number
+      → place ≡ row .site % 65536 + 65536 * row .segment
       → Added accessRowAt words rowStored i row
-  row-added (h, l) f s p r n =
+  row-added (h, l) f s u r n p =
       record {
         long = row-length;
         new =
@@ -146,10 +151,13 @@ module _ (words : List ℕ) (i : ℕ) (row : AccessRow) (small place range name 
               high (row .stride) (row .count) range (f .stride) r,
               low (row .team) (row .number) name (f .team) n,
               high (row .team) (row .number) name (f .team) n,
-              kind-of (row .kind) (row .size) (row .member) (row .segment) small place (l .kind) (l .size) (f .member) s p,
-              size-of (row .kind) (row .size) (row .member) (row .segment) small place (l .kind) (l .size) (f .member) s p,
-              member-of (row .kind) (row .size) (row .member) (row .segment) small place (l .kind) (l .size) (f .member) s p,
-              segment-of (row .kind) (row .size) (row .member) (row .segment) small place (l .kind) (l .size) (f .member) s p,
+              kind-of (row .kind) (row .size) (row .member) (row .site / 65536) small upper (l .kind) (l .size) (f .member) s u,
+              size-of (row .kind) (row .size) (row .member) (row .site / 65536) small upper (l .kind) (l .size) (f .member) s u,
+              member-of (row .kind) (row .size) (row .member) (row .site / 65536) small upper (l .kind) (l .size) (f .member) s u,
+              upper-of (row .kind) (row .size) (row .member) (row .site / 65536) small upper (l .kind) (l .size) (f .member) s u,
+              low (row .site % 65536) (row .segment) place (mod-lt (row .site) (omega arith)) p,
+              high (row .site % 65536) (row .segment) place (mod-lt (row .site) (omega arith)) p,
+              halves (row .site),
               whole (row .locks),
             ));
         before =

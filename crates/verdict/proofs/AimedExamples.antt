@@ -1,5 +1,6 @@
 -- Examples aimed at single points of docs/FORMAT.md, with the second reader's answers. tests/write_examples writes this file.
 use Prim.Native.Nat.{ℕ}
+use mathlib.Core.Bool.{true, false}
 use mathlib.Core.Path.{_≡_, refl}
 use mathlib.Core.List.{List, [], _∷_, map}
 use mathlib.Core.Option.{Option, none, some}
@@ -7,6 +8,8 @@ use lib.ListN.{replicate}
 use Rattle.bundle.specs.Answer.{Answer, gives, refuses, whenGiven}
 use Rattle.bundle.specs.Commands.{Lent, Taken, readAt}
 use Rattle.bundle.specs.Check.{checkOf}
+use Rattle.bundle.specs.declared.command.AccessKind.the-variants as Kind
+use Rattle.bundle.specs.declared.command.Command.the-variants as Com
 use Rattle.order.specs.Labels.{labelOf, compareOf}
 use Rattle.order.specs.Ranges.{sharedOf}
 use Rattle.order.specs.declared.label.Triple.{Triple}
@@ -550,3 +553,42 @@ judgements =
 pub judgements-agree : map (λ (r : AimedExample (Lent Judgement)). r .given) judgements ≡ map (λ (r : AimedExample (Lent Judgement)). r .wanted) judgements
 unfolding verdict-computes bytes race row name label judgements
 judgements-agree = refl
+
+-- reading an access of either group
+unfoldable pub wide-reads : List (AimedExample (Answer Taken))
+wide-reads =
+    row (readAt (bytes 15 0x023a78563412040302010600050008) 1) (gives (record { command = Com.Access (record { kind = Kind.AtomicRead; wide = true; site = 305419896; range = range 16909060 6 5 8 }); next = 15 })) ∷
+    row (readAt (bytes 14 0x39ffffffff000000000000010001) 0) (gives (record { command = Com.Access (record { kind = Kind.Write; wide = true; site = 4294967295; range = range 0 0 1 1 }); next = 14 })) ∷
+    row (readAt (bytes 13 0x38000001000000000000000100) 0) (refuses 3 0) ∷
+    row (readAt (bytes 14 0x3b00000000000000000000010003) 0) (refuses 5 0) ∷
+    row (readAt (bytes 13 0x33ffff00000000000001000100) 0) (gives (record { command = Com.Access (record { kind = Kind.AtomicWrite; wide = false; site = 65535; range = range 0 0 1 1 }); next = 12 })) ∷
+    []
+
+pub wide-reads-agree : map (λ (r : AimedExample (Answer Taken)). r .given) wide-reads ≡ map (λ (r : AimedExample (Answer Taken)). r .wanted) wide-reads
+unfolding verdict-computes bytes race row name label wide-reads
+wide-reads-agree = refl
+
+-- check of wide accesses, and of both groups
+unfoldable pub wide-checks : List (AimedExample (Answer (Unit {0})))
+wide-checks =
+    row (checkOf (bytes 49 0x01000000100100020201010000397011010000100000080002000411020101000138140000000a10000000000100041102)) (gives tt) ∷
+    row (checkOf (bytes 31 0x01000000300100000000000000010001380100000000000000000001000102)) (refuses 20 16) ∷
+    row (checkOf (bytes 40 0x01010000380100000000000000000001000102010000001001000130010000000000000001000102)) (refuses 20 27) ∷
+    row (checkOf (bytes 31 0x01000000300100000000000000010001023801000000000000000000010001)) (refuses 4 17) ∷
+    row (checkOf (bytes 31 0x01000000300100000000000000010001380100000000000000000001000302)) (refuses 20 16) ∷
+    row (checkOf (bytes 29 0x0100000038010000000000000000000100013001000000000000000100)) (refuses 3 18) ∷
+    []
+
+pub wide-checks-agree : map (λ (r : AimedExample (Answer (Unit {0}))). r .given) wide-checks ≡ map (λ (r : AimedExample (Answer (Unit {0}))). r .wanted) wide-checks
+unfolding verdict-computes bytes race row name label wide-checks
+wide-checks-agree = refl
+
+-- judge of a bundle with wide accesses
+unfoldable pub wide-judgements : List (AimedExample (Lent Judgement))
+wide-judgements =
+    row (judgeOf (bytes 49 0x01000000100100020201010000397011010000100000080002000411020101000138140000000a10000000000100041102) (replicate 16384 7)) (record { answer = (gives (record { chunks = 3; segments = 6; accesses = 2; races = 1; verdict = Ver.Least (race 4106 1 0 0 70000 1 1 1 0 20 0) })); buffer = replicate 16384 0 }) ∷
+    []
+
+pub wide-judgements-agree : map (λ (r : AimedExample (Lent Judgement)). r .given) wide-judgements ≡ map (λ (r : AimedExample (Lent Judgement)). r .wanted) wide-judgements
+unfolding verdict-computes bytes race row name label wide-judgements
+wide-judgements-agree = refl

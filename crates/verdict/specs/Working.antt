@@ -58,7 +58,7 @@ kindCode Kind.Write = 1
 kindCode Kind.AtomicRead = 2
 kindCode Kind.AtomicWrite = 3
 
--- the row of an access in eight words, one of each column
+-- the row of an access in eight words, one of each column. The site stands in two halves: below the segment, and above kind, size and member
 unfoldable pub accessRowAt : List ℕ → ℕ → AccessRow
 accessRowAt words i =
     record {
@@ -67,8 +67,8 @@ accessRowAt words i =
       count = getD words (i + 5120) 0 / 65536;
       team = getD words (i + 6144) 0 % 65536;
       number = getD words (i + 6144) 0 / 65536;
-      site = getD words (i + 7168) 0;
-      segment = getD words (i + 4096) 0 / 65536;
+      site = getD words (i + 7168) 0 % 65536 + 65536 * (getD words (i + 4096) 0 / 65536);
+      segment = getD words (i + 7168) 0 / 65536;
       size = getD words (i + 4096) 0 / 16 % 16;
       member = getD words (i + 4096) 0 / 256 % 256;
       kind = getD words (i + 4096) 0 % 16;

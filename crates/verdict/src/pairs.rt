@@ -403,7 +403,7 @@ fn segment_at(rows: &[u32], j: u32) -> u16
     requires { ⌜ RowIn (now rows) j ⌝ }
     ensures { λ r. ⌜ r ≡ accessRowAt (now (rows .entry)) j .segment ⌝ }
 {
-    (word_at(rows, j as usize + 4096) / 65536) as u16
+    (word_at(rows, j as usize + 7168) / 65536) as u16
 }
 
 // Whether an access and the j-th clash by the tests so far: the lowest bit of `left` says whether they pass, and there is no path.

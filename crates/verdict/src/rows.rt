@@ -42,15 +42,15 @@ pub fn access_at(rows: &[u32], i: u32) -> AccessRow
     let small = word_at(rows, at + 4096);
     let range = word_at(rows, at + 5120);
     let name = word_at(rows, at + 6144);
-    let site = word_at(rows, at + 7168);
+    let place = word_at(rows, at + 7168);
     AccessRow {
         base: word_at(rows, at),
         stride: (range % 65536) as u16,
         count: (range / 65536) as u16,
         team: (name % 65536) as u16,
         number: (name / 65536) as u16,
-        site,
-        segment: (small / 65536) as u16,
+        site: place % 65536 + 65536 * (small / 65536),
+        segment: (place / 65536) as u16,
         size: (small / 16 % 16) as u8,
         member: (small / 256 % 256) as u8,
         kind: (small % 16) as u8,
@@ -81,12 +81,13 @@ pub fn add_access(rows: &mut [u32], i: u32, row: AccessRow)
 {
     let at = i as usize;
     let locks = row.locks;
+    let site = row.site;
     rows[at] = row.base;
     rows[at + 1024] = row.last;
     rows[at + 2048] = (locks % 4294967296) as u32;
     rows[at + 3072] = (locks / 4294967296) as u32;
-    rows[at + 4096] = two(small(row.kind, row.size, row.member), row.segment);
+    rows[at + 4096] = two(small(row.kind, row.size, row.member), (site / 65536) as u16);
     rows[at + 5120] = two(row.stride, row.count);
     rows[at + 6144] = two(row.team, row.number);
-    rows[at + 7168] = row.site;
+    rows[at + 7168] = two((site % 65536) as u16, row.segment);
 }

@@ -1,6 +1,6 @@
 -- `exports::commands::command_from` meets its contract: the first word decides. Assumes nothing.
 use native.Mathlib.Omega.{arith}
-use Rattle.exports.proofs.Widths.{by-member, by-end, by-cut, by-region, by-barrier, by-acquire, by-release, by-access, by-none}
+use Rattle.exports.proofs.Widths.{by-member, by-end, by-cut, by-region, by-barrier, by-acquire, by-release, by-access, by-wide-access, by-none}
 use borrow.Author.Needs.{needs}
 use Rattle.exports.proofs.commands.command_from.Statement.{statement}
 use Rattle.exports.proofs.commands.command_from.Tie as tie
@@ -27,19 +27,34 @@ returns-7 : tie.Need-returns-7
 returns-7 c = rw (by-release _ _ (c .before .before .match .keys7)) (c .release-from .ensures)
 
 returns-8 : tie.Need-returns-8
-returns-8 c = rw (by-access _ _ (c .before .before .if1 .left) (c .before .if2 .taken)) (c .access-from .ensures)
+returns-8 c =
+    rw (by-access _ _ (c .before .before .before .before .if1 .left) (c .before .before .before .if2 .taken), ← c .before .kind-of .ensures)
+    (c .access-from .ensures)
 
 returns-9 : tie.Need-returns-9
 returns-9 c =
-    let r = c .before .match .rest in
-    let h = c .if1 .taken in
-    by-none _ _ (r .0 .0 .0 .0 .0 .0 .1) (r .0 .0 .0 .0 .0 .1) (r .0 .0 .0 .0 .1) (r .0 .0 .0 .1) (r .0 .0 .1) (r .0 .1) (r .1) (λ low high. omega arith)
+    rw (by-wide-access _ _ (c .before .before .before .before .if3 .left) (c .before .before .before .if4 .taken), ← c .before .kind-of2 .ensures)
+    (c .access-from2 .ensures)
 
 returns-10 : tie.Need-returns-10
 returns-10 c =
-    let r = c .before .before .match .rest in
-    let h = c .if2 .left in
-    by-none _ _ (r .0 .0 .0 .0 .0 .0 .1) (r .0 .0 .0 .0 .0 .1) (r .0 .0 .0 .0 .1) (r .0 .0 .0 .1) (r .0 .0 .1) (r .0 .1) (r .1) (λ low high. omega arith)
+    let r = c .before .match .rest in
+    let below = c .if1 .taken in
+    by-none _ _ (r .0 .0 .0 .0 .0 .0 .1) (r .0 .0 .0 .0 .0 .1) (r .0 .0 .0 .0 .1) (r .0 .0 .0 .1) (r .0 .0 .1) (r .0 .1) (r .1) (λ low high. omega arith) (λ low high. omega arith)
+
+returns-11 : tie.Need-returns-11
+returns-11 c =
+    let r = c .before .before .before .match .rest in
+    let below = c .if3 .taken in
+    let above = c .before .before .if1 .left in
+    let past = c .before .if2 .left in
+    by-none _ _ (r .0 .0 .0 .0 .0 .0 .1) (r .0 .0 .0 .0 .0 .1) (r .0 .0 .0 .0 .1) (r .0 .0 .0 .1) (r .0 .0 .1) (r .0 .1) (r .1) (λ low high. omega arith) (λ low high. omega arith)
+
+returns-12 : tie.Need-returns-12
+returns-12 c =
+    let r = c .before .before .before .before .match .rest in
+    let above = c .if4 .left in
+    by-none _ _ (r .0 .0 .0 .0 .0 .0 .1) (r .0 .0 .0 .0 .0 .1) (r .0 .0 .0 .0 .1) (r .0 .0 .0 .1) (r .0 .0 .1) (r .0 .1) (r .1) (λ low high. omega arith) (λ low high. omega arith)
 
 pub command-from-spec : {M : Type 1} → statement M
 command-from-spec =
@@ -56,6 +71,14 @@ command-from-spec =
     (λ c κs. search needs)
     (λ c. search needs)
     (λ c κs. search needs)
+    (λ c. search needs)
+    (λ c. search needs)
+    (λ c κs. search needs)
+    (λ c κs. search needs)
+    (λ c. search needs)
+    (λ c. search needs)
+    (λ c. search needs)
+    (λ c κs. search needs)
     (λ c κs. search needs)
     returns
     returns-2
@@ -66,4 +89,6 @@ command-from-spec =
     returns-7
     returns-8
     returns-9
-    returns-10)
+    returns-10
+    returns-11
+    returns-12)

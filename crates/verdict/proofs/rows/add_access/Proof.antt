@@ -25,16 +25,17 @@ slice-write-rows-7 : tie.Need-slice-write-rows-7
 slice-write-rows-7 c = simp length-set (omega (arith, c .before .before .before .before .before .pre .0 .below, c .before .before .before .before .before .pre .0 .whole))
 
 slice-write-rows-8 : tie.Need-slice-write-rows-8
-slice-write-rows-8 c = simp length-set (omega (arith, c .before .before .before .before .before .pre .0 .below, c .before .before .before .before .before .pre .0 .whole))
+slice-write-rows-8 c = simp length-set (omega (arith, c .before .before .before .before .before .before .pre .0 .below, c .before .before .before .before .before .before .pre .0 .whole))
 
 same-length : tie.Need-same-length
 same-length c = simp length-set
 
 returns : tie.Need-returns
 returns c =
-    row-added _ _ _ _ _ _ _ (c .before .before .before .before .before .pre)
+    let words = c .before .before .before in
+    row-added _ _ _ _ _ _ _ _ (c .before .before .before .before .before .before .pre)
     (record { stride = search needs; team = search needs; member = search needs })
-    (c .before .before .before .small .ensures) (c .before .before .two .ensures) (c .before .two2 .ensures) (c .two3 .ensures)
+    (words .before .small .ensures) (words .two .ensures) (c .before .before .two2 .ensures) (c .before .two3 .ensures) (c .two4 .ensures)
 
 pub add-access-spec : {M : Type 1} → statement M
 add-access-spec =
@@ -54,6 +55,7 @@ add-access-spec =
     (λ c. search needs)
     slice-write-rows-4
     (λ c κs. (c .before .pre .1 .kind, c .before .pre .1 .size))
+    (λ c. search needs)
     (λ c κs. tt)
     (λ c. search needs)
     (λ c. search needs)
@@ -66,6 +68,8 @@ add-access-spec =
     (λ c. search needs)
     (λ c. search needs)
     slice-write-rows-7
+    (λ c. search needs)
+    (λ c κs. tt)
     (λ c. search needs)
     (λ c. search needs)
     slice-write-rows-8
