@@ -1,2 +1,2 @@
--- The words that the program takes.
+-- Whether an argument is a word.
 pub mod Words

@@ -14,7 +14,7 @@ use text::lines::put_refused;
 ghost use mathlib.Core.Path.{_≡_};
 ghost use Rattle.rewrite.specs.Rewriting.{rewritingOf};
 ghost use Rattle.rewrite.specs.Converting.{convertOf};
-ghost use Rattle.convert.specs.Words.{isWide, isNarrow};
+ghost use Rattle.convert.specs.Words.{same};
 
 fn print_refused(place: usize, cause: Cause) {
     let mut line = [0u8; 96];
@@ -49,46 +49,41 @@ fn convert_input(wide: bool) {
     print_converted(&bytes[..size], wide);
 }
 
-fn is_wide(word: &[u8]) -> bool
-    ensures { λ r. ⌜ r ≡ isWide (now (word .entry)) ⌝ }
+fn same_word(one: &[u8], other: &[u8]) -> bool
+    ensures { λ r. ⌜ r ≡ same (now (one .entry)) (now (other .entry)) ⌝ }
 {
-    if word.len() != 4 {
+    if one.len() != other.len() {
         return false;
     }
-    (word[0] == b'w') & (word[1] == b'i') & (word[2] == b'd') & (word[3] == b'e')
-}
-
-fn is_narrow(word: &[u8]) -> bool
-    ensures { λ r. ⌜ r ≡ isNarrow (now (word .entry)) ⌝ }
-{
-    if word.len() != 6 {
-        return false;
+    let mut i = 0;
+    while i < one.len() {
+        if one[i] != other[i] {
+            return false;
+        }
+        i += 1;
     }
-    (word[0] == b'n')
-        & (word[1] == b'a')
-        & (word[2] == b'r')
-        & (word[3] == b'r')
-        & (word[4] == b'o')
-        & (word[5] == b'w')
+    true
 }
 
-// The argument is the first of two words, the program's own name and it.
-fn convert_as(count: usize, word: &[u8]) {
-    if count == 2 {
-        if is_wide(word) {
-            convert_input(true);
-            return;
-        }
-        if is_narrow(word) {
-            convert_input(false);
-            return;
-        }
+fn convert_as(word: &[u8]) {
+    if same_word(word, b"wide") {
+        convert_input(true);
+        return;
+    }
+    if same_word(word, b"narrow") {
+        convert_input(false);
+        return;
     }
     io::write_all(STDERR_FILENO, b"usage: convert wide|narrow < BUNDLE\n");
 }
 
+// Several arguments are none of the two words.
 fn main() {
     let mut word = io::buffer();
     let size = os::arg(1, &mut word);
-    convert_as(os::arg_count(), &word[..size]);
+    if 2 < os::arg_count() {
+        convert_as(b"");
+        return;
+    }
+    convert_as(&word[..size]);
 }

@@ -1,17 +1,16 @@
 -- The passes over an accepted bundle that measure and write its conversion.
 use Prim.Native.Nat.{ℕ, _+_, _-_, _*_, _≤_, _<_}
 use mathlib.Core.Path.{_≡_, refl, sym, _∙_, ap, subst}
-use mathlib.Core.Bool.{Bool, true, false, cond, _||_}
+use mathlib.Core.Bool.{Bool, true, false, cond}
 use mathlib.Core.List.{List, [], _∷_, _++_, map, append-assoc, append-nil, List·Memᴰ, List·Memᴰ·head, List·Memᴰ·tail}
 use mathlib.Core.Option.{Option, none, some}
 use native.Mathlib.Omega.{arith}
 use native.Mathlib.Nat.{zero-add, add-assoc}
 use lib.ListN.{length, length-append}
-use lib.Dec.{ltb, leb}
 use borrow.Author.Tests.{lt-ltb, le-ltb, le-leb}
-use Rattle.bundle.specs.Answer.{Answer, gives, refuses, numberOf}
+use Rattle.bundle.specs.Answer.{gives, refuses, numberOf}
 use Rattle.bundle.specs.Lists.{first, concatMap, fromOption}
-use Rattle.bundle.specs.Commands.{Bytes, Taken, Lent, bytesOf, inRange, readAt, written, putAt, puttingOf}
+use Rattle.bundle.specs.Commands.{Bytes, Lent, bytesOf, inRange, readAt, written, putAt, puttingOf}
 use Rattle.bundle.specs.Chunks.{Placed, frontOf}
 use Rattle.bundle.specs.Check.{checkOf, Accepted}
 use Rattle.bundle.specs.declared.command.Command.{Command}
@@ -23,7 +22,7 @@ use Rattle.bundle.proofs.Decoding.{read-next}
 use Rattle.bundle.proofs.Fitting.{written-length}
 use Rattle.bundle.proofs.Onward.{Onward, Next, onward-next, onward-read, onward-end, legible}
 use Rattle.rewrite.specs.Rewriting.{fillingOf}
-use Rattle.rewrite.specs.Converting.{regrouped, commandsIn, converted, siteOver, firstOver, toWide, toNarrow, toGroup, handedTo, convertOf}
+use Rattle.rewrite.specs.Converting.{regrouped, commandsIn, converted, siteOver, firstOver, toWide, toNarrow, handedTo, convertOf}
 use Rattle.rewrite.specs.Measuring.{measuredAfter, measuredFrom, unmeasured, measuredOf, Puttable, Convertible}
 use Rattle.rewrite.specs.declared.convert.Measured.{Measured}
 use Rattle.rewrite.proofs.Pieces.{written-front, written-on}
