@@ -72,14 +72,8 @@ module _ (w : Bool) where
   unfolding accessesIn
   accesses-in-regrouped c =
       rw (entries-regrouped w c)
-      (unfold regroupedChunk in (concatMap-along′ (accessAt (c .team) (c .member)) (access-regrouped (c .team) (c .member)) (entriesOf c)))
-    where
-      concatMap-along′ :
-          (f : Entry → List NamedAccess)
-          → ((e : Entry) → f (regroupedEntry w e) ≡ map regroupedAccess (f e))
-          → (es : List Entry)
-          → concatMap f (map (regroupedEntry w) es) ≡ map regroupedAccess (concatMap f es)
-      concatMap-along′ f h es = concatMap-along f (regroupedEntry w) regroupedAccess h es
+      (unfold regroupedChunk in
+      (concatMap-along (accessAt (c .team) (c .member)) (regroupedEntry w) regroupedAccess (access-regrouped (c .team) (c .member)) (entriesOf c)))
 
   accesses-regrouped : (cs : List Chunk) → accessesOf (map (regroupedChunk w) cs) ≡ map regroupedAccess (accessesOf cs)
   unfolding accessesOf
