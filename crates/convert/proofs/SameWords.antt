@@ -1,6 +1,6 @@
 -- Two words compared byte by byte.
 use Prim.Native.Nat.{ℕ, zero, suc, _+_, _≤_, _<_}
-use mathlib.Core.Path.{_≡_, refl, sym, _∙_, ap}
+use mathlib.Core.Path.{_≡_, refl, sym, _∙_, ap, subst}
 use mathlib.Core.Bool.{Bool, true, false, _&&_}
 use mathlib.Core.List.{List, [], _∷_}
 use native.Mathlib.Omega.{arith}
@@ -21,6 +21,10 @@ unlike-lengths [] (y ∷ ys) n = refl
 unlike-lengths (x ∷ xs) [] n = refl
 unlike-lengths (x ∷ xs) (y ∷ ys) n =
     sym (ap (λ (t : Bool). eqb x y && t) (sym (unlike-lengths xs ys (λ e. n (omega arith)))) ∙ false-right (eqb x y))
+
+ends : true ≡ same [] []
+unfolding same
+ends = refl
 
 -- from an index on
 one-further :
@@ -58,4 +62,7 @@ module _ {xs ys : List ℕ} {i : ℕ} (x : SameTo xs ys i) where
       sym (ap (λ (t : Bool). t && same (drop (suc i) xs) (drop (suc i) ys)) (ne-eqb _ _ n)) ∙ sym (one-further xs ys i h (x .long)) ∙ x .rest
 
   pub same-end : length xs ≤ i → true ≡ same xs ys
-  same-end h = sym (unfold same in (rw (drop-of-length-le xs h, drop-of-length-le ys (omega (arith, x .long))))) ∙ x .rest
+  same-end h =
+      let first : drop i xs ≡ [] = drop-of-length-le xs h in
+      let second : drop i ys ≡ [] = drop-of-length-le ys (subst (λ (n : ℕ). n ≤ i) (x .long) h) in
+      ends ∙ sym (λ j. same (first j) (second j)) ∙ x .rest
