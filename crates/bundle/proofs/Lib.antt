@@ -20,6 +20,7 @@ pub mod Settling
 pub mod Failing
 pub mod Arms
 pub mod Copying
+pub mod Fitting
 pub mod Keys
 pub mod Shaped
 pub mod ShapeOrder

@@ -3,19 +3,19 @@ use Prim.Native.Nat.{ℕ, _≤_, _<_}
 use mathlib.Core.Path.{_≡_, refl, sym, _∙_, ap, subst}
 use mathlib.Core.Logic.{_⊎_, inl, inr}
 use mathlib.Core.Bool.{Bool, true, false, cond, not}
-use mathlib.Core.List.{List, [], _∷_, _++_, map, List·Memᴰ, Memᴰ·map, Memᴰ·of-map, List·Permᴰ, Permᴰ·refl}
+use mathlib.Core.List.{List, _++_, map, List·Memᴰ, Memᴰ·map, Memᴰ·of-map, List·Permᴰ, Permᴰ·refl}
 use mathlib.Core.Option.{Option, none, some}
 use native.Mathlib.Omega.{arith}
 use native.Mathlib.Nat.{zero-add}
-use lib.ListN.{length, drop, length-append}
+use lib.ListN.{length, drop}
 use lib.Dec.{ltb}
 use borrow.Author.Tests.{ltb-false, lt-ltb, le-ltb}
-use Rattle.bundle.specs.Answer.{Answer, gives, refuses, whenGiven}
+use Rattle.bundle.specs.Answer.{gives, refuses}
 use Rattle.bundle.specs.Lists.{first, concatMap, fromOption}
-use Rattle.bundle.specs.Commands.{Bytes, Lent, bytesOf, inRange, written}
-use Rattle.bundle.specs.Chunks.{Placed, Front, Chunk, frontOf, chunksOf}
+use Rattle.bundle.specs.Commands.{Bytes, bytesOf, inRange, written}
+use Rattle.bundle.specs.Chunks.{Placed, Front, frontOf, chunksOf}
 use Rattle.bundle.specs.Scan.{start}
-use Rattle.bundle.specs.Check.{checkOf, Accepted}
+use Rattle.bundle.specs.Check.{Accepted}
 use Rattle.bundle.specs.declared.command.Access.{Access}
 use Rattle.bundle.specs.declared.command.Command.{Command}
 use Rattle.bundle.specs.declared.command.Command.the-variants as Com
@@ -26,7 +26,7 @@ use Rattle.bundle.proofs.Gathering.{logOf}
 use Rattle.bundle.proofs.ScanChunks.{commands-of-chunks}
 use Rattle.bundle.proofs.Printing.{printed, placedFrom, commands-placed, front-of-printed}
 use Rattle.bundle.proofs.Settling.{unplaced-settle}
-use Rattle.bundle.proofs.Reorder.{Sound, Known, known, Made, made, orderly-range, distinct-members}
+use Rattle.bundle.proofs.Reorder.{Sound, known, Made, made, orderly-range, distinct-members}
 use Rattle.bundle.proofs.Onward.{legible}
 use Rattle.verdict.specs.Judge.{judgementOf}
 use Rattle.verdict.specs.Demand.{Judged}
@@ -34,7 +34,7 @@ use Rattle.verdict.proofs.SameRaces.{same-judgement}
 use Rattle.verdict.proofs.Demand3.{judges, exactly}
 use Rattle.rewrite.specs.Rewriting.{fillingOf}
 use Rattle.rewrite.specs.Converting.{regrouped, commandsIn, converted, siteOver, firstOver, toWide, toNarrow, toGroup, handedTo, convertOf}
-use Rattle.rewrite.specs.Conversion.{OfGroup, Converted, Conversion}
+use Rattle.rewrite.specs.Conversion.{OfGroup, ConvertedTo, Conversion}
 use Rattle.rewrite.proofs.Regrouping.{regrouped-site, all-own, all-twice, all-of-group, regrouped-range, narrow-not-over, narrower}
 use Rattle.rewrite.proofs.RegroupedChunks.{regroupedChunk, logs-regrouped, sound-regrouped}
 use Rattle.rewrite.proofs.RegroupedRaces.{judgement-regrouped}
@@ -226,13 +226,14 @@ conversion b bytes ok =
     record {
       one-group = one-group b bytes ok;
       copied = copied b bytes ok;
-      converts = λ w c e. let r = group-elim b ok w c e in subst (Converted w b) (sym (r .0)) (all w (r .1) (subst (λ (d : List ℕ). toGroup w b ≡ gives d) (r .0) e));
+      converts = λ w c e. let r = group-elim b ok w c e in subst (ConvertedTo w b) (sym (r .0)) (all w (r .1) (subst (λ (d : List ℕ). toGroup w b ≡ gives d) (r .0) e));
     }
   where
-    all : (w : Bool) → Feasible w b → toGroup w b ≡ gives (converted w b) → Converted w b (converted w b)
+    all : (w : Bool) → Feasible w b → toGroup w b ≡ gives (converted w b) → ConvertedTo w b (converted w b)
     all w f e =
         record {
           accepted-too = accepted-too b bytes ok w f;
+          same-commands = commands-result b bytes ok w f;
           of-group = of-group b bytes ok w f;
           judged-same = judged-same b bytes ok w f;
           restored = restored b bytes ok w f;

@@ -1,18 +1,16 @@
 -- The passes over an accepted bundle that measure and write its conversion.
 use Prim.Native.Nat.{ℕ, _+_, _-_, _*_, _≤_, _<_}
 use mathlib.Core.Path.{_≡_, refl, sym, _∙_, ap, subst}
-use mathlib.Core.Bool.{Bool, true, false, cond, _||_}
+use mathlib.Core.Bool.{Bool, true, false, cond}
 use mathlib.Core.List.{List, [], _∷_, _++_, map, append-assoc, append-nil, List·Memᴰ, List·Memᴰ·head, List·Memᴰ·tail}
 use mathlib.Core.Option.{Option, none, some}
 use native.Mathlib.Omega.{arith}
 use native.Mathlib.Nat.{zero-add, add-assoc}
-use lib.ListN.{length, take, drop, length-append, length-drop}
-use lib.Seq.{length-take-le}
-use lib.Dec.{ltb, leb}
+use lib.ListN.{length, length-append}
 use borrow.Author.Tests.{lt-ltb, le-ltb, le-leb}
-use Rattle.bundle.specs.Answer.{Answer, gives, refuses, numberOf}
+use Rattle.bundle.specs.Answer.{gives, refuses, numberOf}
 use Rattle.bundle.specs.Lists.{first, concatMap, fromOption}
-use Rattle.bundle.specs.Commands.{Bytes, Taken, Lent, bytesOf, inRange, readAt, written, putAt, puttingOf}
+use Rattle.bundle.specs.Commands.{Bytes, Lent, bytesOf, inRange, readAt, written, putAt, puttingOf}
 use Rattle.bundle.specs.Chunks.{Placed, frontOf}
 use Rattle.bundle.specs.Check.{checkOf, Accepted}
 use Rattle.bundle.specs.declared.command.Command.{Command}
@@ -21,9 +19,10 @@ use Rattle.bundle.specs.declared.command.Putting.{Putting}
 use Rattle.bundle.specs.declared.command.Putting.the-variants as Put
 use Rattle.bundle.proofs.Tests.{or-one}
 use Rattle.bundle.proofs.Decoding.{read-next}
+use Rattle.bundle.proofs.Fitting.{written-length}
 use Rattle.bundle.proofs.Onward.{Onward, Next, onward-next, onward-read, onward-end, legible}
 use Rattle.rewrite.specs.Rewriting.{fillingOf}
-use Rattle.rewrite.specs.Converting.{regrouped, commandsIn, converted, siteOver, firstOver, toWide, toNarrow, toGroup, handedTo, convertOf}
+use Rattle.rewrite.specs.Converting.{regrouped, commandsIn, converted, siteOver, firstOver, toWide, toNarrow, handedTo, convertOf}
 use Rattle.rewrite.specs.Measuring.{measuredAfter, measuredFrom, unmeasured, measuredOf, Puttable, Convertible}
 use Rattle.rewrite.specs.declared.convert.Measured.{Measured}
 use Rattle.rewrite.proofs.Pieces.{written-front, written-on}
@@ -175,16 +174,6 @@ module _ (w : Bool) (c : Command) (buffer : List ℕ) (position : ℕ) (x : Putt
         let l : refuses (numberOf cause) place ≡ gives (position + length (bytesOf (regrouped w c))) = ap puttingOf (sym q) ∙ ap (λ (y : Lent ℕ). y .answer) given in
         let z : _≡_ {A = ℕ} 0 1 = cc in
         absurd (omega arith)
-
-written-length : (buffer : List ℕ) (at : ℕ) (bytes : List ℕ) → at + length bytes ≤ length buffer → length (written buffer at bytes) ≡ length buffer
-unfolding written
-written-length buffer at bytes h =
-    let one = length-append (take at buffer ++ bytes) (drop (at + length bytes) buffer) in
-    let two = length-append (take at buffer) bytes in
-    let three = length-take-le at buffer (omega arith) in
-    let four = length-drop (at + length bytes) buffer in
-    let rest : length (take at buffer ++ bytes) + length (drop (at + length bytes) buffer) ≡ length buffer = omega arith in
-    one ∙ rest
 
 -- the pass that writes is at a position: what is done, with the rest of the commands, is the whole
 pub record PutTo (w : Bool) (s old : List ℕ) (at position : ℕ) (new : List ℕ) : Type 0 where

@@ -1,5 +1,6 @@
 -- Laws over the definitions.
 pub mod Examples
+pub mod ConvertExamples
 pub mod KeySort
 pub mod ChunkBytes
 pub mod FixedChunks

@@ -1,7 +1,7 @@
 -- Chunks with their accesses in another group: they pass the scan, have the same shape, and so make a bundle that is accepted.
 use Prim.Native.Nat.{ℕ, _+_, _≤_, _<_}
-use mathlib.Core.Path.{_≡_, refl, sym, _∙_, ap, subst}
-use mathlib.Core.Bool.{Bool, true, not, _&&_}
+use mathlib.Core.Path.{_≡_, refl, _∙_, ap, subst}
+use mathlib.Core.Bool.{Bool, true, not}
 use mathlib.Core.List.{List, [], _∷_, map, List·Memᴰ, List·Memᴰ·head, List·Memᴰ·tail, Memᴰ·of-map}
 use native.Mathlib.Omega.{arith}
 use lib.ListN.{length}
@@ -10,7 +10,7 @@ use Rattle.bundle.specs.Lists.{any, concatMap}
 use Rattle.bundle.specs.Commands.{inRange}
 use Rattle.bundle.specs.Chunks.{Placed, Chunk, fresh, afterCommand, afterCommands, gather, commandsOf, isEnd, complete}
 use Rattle.bundle.specs.Walk.{opensSegment, addsAccess, Entry, entriesFrom, entriesOf, barriersOf, forkAt, forksIn}
-use Rattle.bundle.specs.Scan.{misplaced, aboveOwnTeam, misusesLock, start, scanned}
+use Rattle.bundle.specs.Scan.{start, scanned}
 use Rattle.bundle.specs.declared.scan.Scan.{Scan}
 use Rattle.bundle.specs.declared.chunk.ChunkState.{ChunkState}
 use Rattle.bundle.specs.declared.command.Command.{Command}

@@ -1,15 +1,13 @@
 -- Chunks with their accesses in another group: the same segments, races and judgement.
 use Prim.Native.Nat.{ℕ}
-use mathlib.Core.Path.{_≡_, refl, sym, _∙_, ap}
+use mathlib.Core.Path.{_≡_, refl, ap}
 use mathlib.Core.Bool.{Bool}
-use mathlib.Core.List.{List, [], _∷_, _++_, map}
-use lib.ListN.{length, length-map}
+use mathlib.Core.List.{List, [], _∷_, map}
+use lib.ListN.{length-map}
 use Rattle.bundle.specs.Lists.{concatMap}
-use Rattle.bundle.specs.Cases.{onAccess}
 use Rattle.bundle.specs.Chunks.{Chunk, afterCommand}
 use Rattle.bundle.specs.Walk.{borders, Entry, entriesOf, openingAt, segmentsFrom, segmentsIn, segmentsOf, forksOf}
 use Rattle.bundle.specs.declared.index.Fork.{Fork}
-use Rattle.bundle.specs.declared.command.Access.{Access}
 use Rattle.bundle.specs.declared.command.Command.{Command}
 use Rattle.bundle.proofs.ListLaws.{concatMap-along, concatMap-map}
 use Rattle.bundle.proofs.Delimiters.{on-no-access, Accessing, accesses-some, accesses-none, accessings}
@@ -19,7 +17,6 @@ use Rattle.verdict.specs.Accesses.{NamedAccess, accessAt, accessesIn, accessesO
 use Rattle.verdict.specs.Lineages.{holderOf}
 use Rattle.verdict.specs.RaceLists.{clashes, raceWith, raceOf, racesAmong, inOrder, racesOf}
 use Rattle.verdict.specs.Judge.{judgementOf}
-use Rattle.verdict.specs.declared.race.Race.{Race}
 use Rattle.rewrite.specs.Converting.{inGroup, regrouped}
 use Rattle.rewrite.proofs.Regrouping.{regrouped-keeps}
 use Rattle.rewrite.proofs.RegroupedChunks.{regroupedChunk, regroupedEntry, entries-regrouped, alike-regrouped}
@@ -75,14 +72,8 @@ module _ (w : Bool) where
   unfolding accessesIn
   accesses-in-regrouped c =
       rw (entries-regrouped w c)
-      (unfold regroupedChunk in (concatMap-along′ (accessAt (c .team) (c .member)) (access-regrouped (c .team) (c .member)) (entriesOf c)))
-    where
-      concatMap-along′ :
-          (f : Entry → List NamedAccess)
-          → ((e : Entry) → f (regroupedEntry w e) ≡ map regroupedAccess (f e))
-          → (es : List Entry)
-          → concatMap f (map (regroupedEntry w) es) ≡ map regroupedAccess (concatMap f es)
-      concatMap-along′ f h es = concatMap-along f (regroupedEntry w) regroupedAccess h es
+      (unfold regroupedChunk in
+      (concatMap-along (accessAt (c .team) (c .member)) (regroupedEntry w) regroupedAccess (access-regrouped (c .team) (c .member)) (entriesOf c)))
 
   accesses-regrouped : (cs : List Chunk) → accessesOf (map (regroupedChunk w) cs) ≡ map regroupedAccess (accessesOf cs)
   unfolding accessesOf

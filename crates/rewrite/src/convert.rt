@@ -87,16 +87,16 @@ fn site_over(command: Command) -> bool
 }
 
 // One more command, at an offset.
-fn measure_one(measured: Measured, command: Command, at: usize, wide: bool) -> Measured
-    requires { ⌜ measured .size ≤ 1000000 ⌝ }
-    ensures { λ r. ⌜ r ≡ measuredAfter wide measured (record { at = at; command = command }) ⌝ }
+fn measure_one(before: Measured, command: Command, at: usize, wide: bool) -> Measured
+    requires { ⌜ before .size ≤ 1000000 ⌝ }
+    ensures { λ r. ⌜ r ≡ measuredAfter wide before (record { at = at; command = command }) ⌝ }
 {
-    let size = measured.size + size_in(command, wide);
-    if measured.over {
+    let size = before.size + size_in(command, wide);
+    if before.over {
         return Measured {
             size,
             over: true,
-            place: measured.place,
+            place: before.place,
         };
     }
     Measured {

@@ -8,3 +8,4 @@ pub mod Printing
 pub mod Reading
 pub mod Examples
 pub mod LineLengths
+pub mod LineFits

@@ -2,7 +2,7 @@
 use borrow.Author.Needs.{needs}
 use mathlib.Core.Path.{sym}
 use lib.Seq.{length-take-le}
-use Rattle.canon.proofs.LineFits.{line-fits}
+use Rattle.text.proofs.LineFits.{line-fits}
 use Rattle.canon.proofs.print_refused.Statement.{statement}
 use Rattle.canon.proofs.print_refused.Tie as tie
 

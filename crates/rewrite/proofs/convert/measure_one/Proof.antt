@@ -1,5 +1,4 @@
 -- `rewrite::convert::measure_one` meets its contract. Assumes nothing.
-use borrow.Author.Needs.{needs}
 use native.Mathlib.Omega.{arith}
 use Rattle.rewrite.proofs.ConvertPass.{small-size, after-over, after-first}
 use Rattle.rewrite.proofs.convert.measure_one.Statement.{statement}

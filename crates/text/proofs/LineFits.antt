@@ -1,4 +1,4 @@
--- A line that was put at the front of a buffer lies in it.
+-- For callers: a line that was put at the front of a buffer lies in it.
 use Prim.Native.Nat.{ℕ, _-_, _≤_}
 use mathlib.Core.Path.{_≡_, ap, subst}
 use mathlib.Core.List.{List}
@@ -9,8 +9,8 @@ use Rattle.bundle.specs.Commands.{puttingOf}
 use Rattle.bundle.specs.declared.command.Putting.{Putting}
 use Rattle.bundle.specs.declared.command.Putting.the-variants as Put
 use Rattle.bundle.proofs.Tests.{cond-elim}
+use Rattle.bundle.proofs.Fitting.{Fits, fits-refused, fits-written}
 use Rattle.text.specs.Lines.{printedAt}
-use Rattle.rewrite.proofs.Fitting.{Fits, fits-refused, fits-written}
 
 fits-printed : (line buffer : List ℕ) → Fits (printedAt line buffer 0)
 unfolding printedAt

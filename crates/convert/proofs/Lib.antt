@@ -1,2 +1,2 @@
 -- Laws over the definitions.
-pub mod LineFits
+pub mod SameWords

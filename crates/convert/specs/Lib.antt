@@ -1,0 +1,2 @@
+-- Whether an argument is a word.
+pub mod Words
