@@ -41,7 +41,7 @@ class Words(Case):
     def test_every_word_is_the_second_readers(self):
         rng = random.Random(7)
         wanted = {}
-        for number in range(60):
+        for number in range(80):
             build = f"b{number:02}"
             folder = self.put(build)
             datas = [self.random_bundle(rng) for _ in range(rng.choice((0, 1, 1, 2, 3, 5)))]
