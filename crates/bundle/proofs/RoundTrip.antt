@@ -6,7 +6,7 @@ use mathlib.Core.List.{List, [], _∷_, _++_, append-assoc}
 use Prim.Native.Nat.{ℕ, suc, _+_, _-_, _≤_, _<_}
 use native.Mathlib.Numerals.{add-one}
 use native.Mathlib.Omega.{arith}
-use borrow.Author.Tests.{leb-true, le-leb}
+use borrow.Author.Tests.{leb-true, le-leb, le-ltb}
 use lib.Dec.{leb}
 use lib.ListN.{length, getD, take, drop, length-drop, take-append-drop}
 use lib.Seq.{length-take-le, drop-cons, take-add}
@@ -22,14 +22,17 @@ use Rattle.bundle.specs.Commands.{
   operandBytes,
   commandAt,
   bytesOf,
+  fitWidths,
   inRange,
   readAt,
   written,
   putAt,
 }
+use Rattle.bundle.specs.declared.command.Access.{Access}
 use Rattle.bundle.specs.declared.command.Command.{Command}
+use Rattle.bundle.specs.declared.command.Command.the-variants as Com
 use Rattle.bundle.proofs.Operands.{operands-read, operands-written, length-operands}
-use Rattle.bundle.proofs.Forms.{Known, coded, code-made}
+use Rattle.bundle.proofs.Forms.{Known, coded, code-made, access-widths}
 use Rattle.bundle.proofs.Decoding.{
   known-width,
   known-widths,
@@ -152,3 +155,15 @@ read-puts-back s at t bytes e =
       bytes = rw n here;
       put = rw (r, long, here, le-leb w (length s - at) (omega arith)) (λ i. record { answer = gives (sym (d .next) i); buffer = again i });
     }
+
+-- "Putting a narrow command with a site over 65,535 is 5" (A.6), whatever its other operands are, and the buffer is as it was
+pub narrow-site-put :
+    (a : Access) (buffer : List ℕ) (at : ℕ)
+    → a .wide ≡ false
+    → 65535 < a .site
+    → putAt (Com.Access a) buffer at ≡ record { answer = refuses 5 at; buffer = buffer }
+unfolding putAt
+narrow-site-put a buffer at w h = rw out
+  where
+    out : inRange (Com.Access a) ≡ false
+    out = unfold inRange codeOf fitWidths in (rw (access-widths a, w, le-ltb (a .site) 65536 (omega arith)))

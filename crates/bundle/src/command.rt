@@ -271,7 +271,7 @@ fn decode_operands(bytes: &[u8], position: usize, next: usize, wide: bool) -> Re
 }
 
 // An access of either group. With a function for each, the compiler makes one piece of code of the two in which the place of each operand is looked up, and
-// check takes nearly twice the time for narrow accesses.
+// check takes nearly twice the time for narrow accesses. For the same reason both groups stand in one arm below: where this is called twice, it is kept apart.
 fn decode_access(bytes: &[u8], position: usize) -> Reading
     requires { ⌜ AccessAt (now bytes) position ⌝ }
     ensures { λ r. ⌜ readingOf r ≡ decodeAt (now (bytes .entry)) position ⌝ }
@@ -320,8 +320,7 @@ pub fn decode_command(bytes: &[u8], position: usize) -> Reading
         },
         0x20 => decode_acquire(bytes, position),
         0x21 => decode_release(bytes, position),
-        0x30..=0x33 => decode_access(bytes, position),
-        0x38..=0x3b => decode_access(bytes, position),
+        0x30..=0x33 | 0x38..=0x3b => decode_access(bytes, position),
         _ => Reading::Refused {
             place: position,
             cause: Cause::UnknownCommand,
@@ -373,8 +372,7 @@ pub fn read_command(bytes: &[u8], position: usize) -> Reading
         },
         0x20 => accept(decode_acquire(bytes, position), position),
         0x21 => accept(decode_release(bytes, position), position),
-        0x30..=0x33 => accept(decode_access(bytes, position), position),
-        0x38..=0x3b => accept(decode_access(bytes, position), position),
+        0x30..=0x33 | 0x38..=0x3b => accept(decode_access(bytes, position), position),
         _ => Reading::Refused {
             place: position,
             cause: Cause::UnknownCommand,

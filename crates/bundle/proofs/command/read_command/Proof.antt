@@ -1,5 +1,6 @@
 -- `bundle::command::read_command` meets its contract. Assumes nothing.
 use mathlib.Core.Path.{refl}
+use mathlib.Core.Logic.{⊎-elim}
 use native.Mathlib.Omega.{arith}
 use Rattle.bundle.specs.Commands.{formOf, codeOf, sum, widthOf, widthsOf, fitWidths, operandsOk, inRange, commandAt}
 use Rattle.bundle.proofs.Forms.{no-form}
@@ -7,6 +8,14 @@ use Rattle.bundle.proofs.Arms.{of-narrow, of-wide, decode-past, decode-
 use borrow.Author.Needs.{needs}
 use Rattle.bundle.proofs.command.read_command.Statement.{statement}
 use Rattle.bundle.proofs.command.read_command.Tie as tie
+
+access : tie.Need-decode-access-requires
+access c κs =
+    let within = c .before .before .before .before .if1 .left in
+    ⊎-elim
+    (λ t. of-narrow _ _ within (c .before .if2 .left) (t .taken))
+    (λ t. of-wide _ _ within (t .1 .left) (t .2 .taken))
+    (c .if3 .came)
 
 returns : tie.Need-returns
 returns c = read-not _ _ 18 _ (decode-past _ _ (c .if1 .taken))
@@ -39,18 +48,15 @@ returns-9 : tie.Need-returns-9
 returns-9 c = read-accepted _ _ (c .before .decode-access .ensures) (c .accept5 .ensures)
 
 returns-10 : tie.Need-returns-10
-returns-10 c = read-accepted _ _ (c .before .decode-access2 .ensures) (c .accept6 .ensures)
-
-returns-11 : tie.Need-returns-11
-returns-11 c =
+returns-10 c =
     let r = c .before .match .rest in
     let below = c .if2 .taken in
     read-not _ _ 2 _
     (decode-unknown _ _ (record { within = c .before .before .before .if1 .left; byte = refl })
     (no-form (r .0 .0 .0 .0 .0 .0 .1) (r .0 .0 .0 .0 .0 .1) (r .0 .0 .0 .0 .1) (r .0 .0 .0 .1) (r .0 .0 .1) (r .0 .1) (r .1) (λ low high. omega arith) (λ low high. omega arith)))
 
-returns-12 : tie.Need-returns-12
-returns-12 c =
+returns-11 : tie.Need-returns-11
+returns-11 c =
     let r = c .before .before .before .match .rest in
     let below = c .if4 .taken in
     let above = c .before .if3 .left in
@@ -58,8 +64,8 @@ returns-12 c =
     (decode-unknown _ _ (record { within = c .before .before .before .before .before .if1 .left; byte = refl })
     (no-form (r .0 .0 .0 .0 .0 .0 .1) (r .0 .0 .0 .0 .0 .1) (r .0 .0 .0 .0 .1) (r .0 .0 .0 .1) (r .0 .0 .1) (r .0 .1) (r .1) (λ low high. omega arith) (λ low high. omega arith)))
 
-returns-13 : tie.Need-returns-13
-returns-13 c =
+returns-12 : tie.Need-returns-12
+returns-12 c =
     let r = c .before .before .before .before .match .rest in
     let above = c .if5 .left in
     read-not _ _ 2 _
@@ -83,9 +89,7 @@ read-command-spec =
     (λ c κs. tt)
     (λ c κs. search needs)
     (λ c κs. tt)
-    (λ c κs. of-narrow _ _ (c .before .before .before .before .if1 .left) (c .before .if2 .left) (c .if3 .taken))
-    (λ c κs. tt)
-    (λ c κs. of-wide _ _ (c .before .before .before .before .before .before .if1 .left) (c .before .if4 .left) (c .if5 .taken))
+    access
     (λ c κs. tt)
     returns-2
     returns-3
@@ -97,5 +101,4 @@ read-command-spec =
     returns-9
     returns-10
     returns-11
-    returns-12
-    returns-13)
+    returns-12)
