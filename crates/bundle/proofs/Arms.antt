@@ -94,15 +94,11 @@ module _ (s : List ℕ) (at : ℕ) (stands : AccessAt s at) where
   narrow-at h =
       record { within = stands .within; low = stands .low; high = ⊎-elim (λ n. n) (λ l. omega arith) (stands .group) }
 
-  pub wide-to : {next : ℕ} {wide : Bool} → 0x38 ≤ getD s at 0 → 14 ≤ length s - at → next ≡ at + 14 → wide ≡ true → AccessTo s at next wide
-  wide-to l f e w =
-      rw (w, e)
-      (record { stands = wide-at l; ends = refl; long = omega arith; fits = omega (arith, stands .within) })
+  pub wide-to : 0x38 ≤ getD s at 0 → 14 ≤ length s - at → AccessTo s at (at + 14) true
+  wide-to l f = record { stands = wide-at l; ends = refl; long = omega arith; fits = omega (arith, stands .within) }
 
-  pub narrow-to : {next : ℕ} {wide : Bool} → getD s at 0 < 0x38 → 12 ≤ length s - at → next ≡ at + 12 → wide ≡ false → AccessTo s at next wide
-  narrow-to h f e w =
-      rw (w, e)
-      (record { stands = narrow-at h; ends = refl; long = omega arith; fits = omega (arith, stands .within) })
+  pub narrow-to : getD s at 0 < 0x38 → 12 ≤ length s - at → AccessTo s at (at + 12) false
+  narrow-to h f = record { stands = narrow-at h; ends = refl; long = omega arith; fits = omega (arith, stands .within) }
 
 -- an access whose operands behind the site are read from its end
 span : (wide : Bool) → cond wide 14 12 ≡ suc (sum (accessWidths wide))

@@ -19,6 +19,7 @@ use Rattle.bundle.specs.Index.{chunkRowAt, forkRowAt, tableFrom, table, 
 use Rattle.bundle.specs.Survey.{Bounded, Stepped, testedAt, stepAt, beginning, openedAt, closedRow, forkHere, passAfter, newChunks, newForks, Notable, Noted, openRow, rowsBehind, chunksToCome, forksToCome, Surveying, finished, Surveyed}
 use Rattle.bundle.specs.declared.chunk.ChunkState.{ChunkState}
 use Rattle.bundle.specs.declared.scan.Scan.{Scan}
+use Rattle.bundle.specs.declared.command.Access.{Access}
 use Rattle.bundle.specs.declared.command.Command.{Command}
 use Rattle.bundle.specs.declared.command.Command.the-variants as Com
 use Rattle.bundle.specs.declared.index.ChunkRow.{ChunkRow}
@@ -27,8 +28,8 @@ use Rattle.bundle.specs.declared.survey.Progress.{Progress}
 use Rattle.bundle.specs.declared.survey.Survey.{Survey}
 use Rattle.bundle.specs.declared.survey.Survey.the-variants as Surveys
 use Rattle.bundle.specs.declared.refusal.Cause.the-variants as Causes
-use Rattle.bundle.proofs.Tests.{cond-elim, or-false, false-of-not}
-use Rattle.bundle.proofs.Delimiters.{plain, closes, closes-forks-none, closes-keeps, closes-width, state-counts, Delimiter, opens-chunk, closes-chunk, neither, delimits, on-plain, on-closes, Forking, forks-team, forks-none, forkings, on-other, plain-not-end}
+use Rattle.bundle.proofs.Tests.{cond-elim, or-false, false-of-not, false-is-true}
+use Rattle.bundle.proofs.Delimiters.{plain, closes, closes-forks-none, closes-keeps, closes-width, state-counts, Delimiter, opens-chunk, closes-chunk, neither, delimits, on-plain, on-closes, Forking, forks-team, forks-none, forkings, on-other, plain-not-end, Accessing, accesses-some, accesses-none, accessings, on-no-access}
 use Rattle.bundle.proofs.Tables.{table-added}
 use Rattle.bundle.proofs.Gathering.{gather-plain, gather-closes}
 use Rattle.bundle.proofs.Decoding.{decode-next}
@@ -200,6 +201,17 @@ fork-opens n c = go c (forkings c)
     go c (forks-team t z) = unfold opensSegment in (omega arith)
     go c (forks-none h) = rw (on-other n (λ t z. n + 1) c h) (omega arith)
 
+-- the wide group is that of accesses, after a command too
+grouped-after : (k : Scan) (c : Command) → Bounded k → onAccess (k .wide) (λ (a : Access). a .wide) c ≡ true → 0 < k .accesses + addsAccess c
+unfolding addsAccess
+grouped-after k c b = go (accessings c)
+  where
+    go : {d : Command} → Accessing d → onAccess (k .wide) (λ (a : Access). a .wide) d ≡ true → 0 < k .accesses + addsAccess d
+    go (accesses-some a) e = omega arith
+    go (accesses-none {c = d} n) e =
+        rw (on-no-access {A = ℕ} 0 (λ (a : Access). 1) d n, add-zero (k .accesses))
+        (b .grouped (sym (on-no-access (k .wide) (λ (a : Access). a .wide) d n) ∙ e))
+
 module _ (p : Progress) (next : ℕ) where
   abbrev Counts : Command → Type 0
   Counts c =
@@ -226,7 +238,7 @@ module _ (p : Progress) (next : ℕ) where
           unfold scanned passAfter opensSegment addsAccess fresh in
           (let i : k .inside ≡ false = unfold misplaced isMember in q in
           let o : p .chunks + p .forks + 0 ≤ k .segments = rw i at f in
-          (record { segments = unfold opensSegment in (r .0); accesses = unfold addsAccess in (r .1); opened = omega arith }, omega arith))
+          (record { segments = unfold opensSegment in (r .0); accesses = unfold addsAccess in (r .1); opened = omega arith; grouped = grouped-after k c b }, omega arith))
       go c (closes-chunk h) q r =
           let o : p .chunks + p .forks + 1 ≤ k .segments = rw (inside-closes k c h q) at f in
           unfold scanned passAfter in
@@ -236,7 +248,7 @@ module _ (p : Progress) (next : ℕ) where
             on-closes (p .chunks) (λ t m. p .chunks) (p .chunks + 1) c h,
             on-other (p .forks) (λ t z. p .forks + 1) c (closes-forks-none c h),
           )
-          (record { segments = r .0; accesses = r .1; opened = unfold fresh in (omega arith) }, omega arith))
+          (record { segments = r .0; accesses = r .1; opened = unfold fresh in (omega arith); grouped = grouped-after k c b }, omega arith))
       go c (neither h) q r =
           let i = inside-plain k c h q in
           let d = continued p c next h in
@@ -244,7 +256,7 @@ module _ (p : Progress) (next : ℕ) where
           let n = fork-opens (p .forks) c in
           let s = state-counts (k .state) c in
           rw (d .pass, d .scan, i)
-          (record { segments = r .0; accesses = r .1; opened = omega (arith, b .opened) }, omega arith)
+          (record { segments = r .0; accesses = r .1; opened = omega (arith, b .opened); grouped = grouped-after k c b }, omega arith)
 
 -- what a step that gives, or refuses, tells
 record Gave (k : Scan) (d : Answer Taken) (st : Stepped) : Type 0 where
@@ -470,7 +482,7 @@ surveying-start s p chunks forks e h lc lf =
       short = h;
       chunk-table = lc;
       fork-table = lf;
-      bounded = record { segments = omega arith; accesses = omega arith; opened = omega arith };
+      bounded = record { segments = omega arith; accesses = omega arith; opened = omega arith; grouped = λ q. false-is-true q };
       few = omega arith;
       scan-rest = refl;
       chunk-rest = refl;

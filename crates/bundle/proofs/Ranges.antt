@@ -2,7 +2,7 @@
 -- Assumes nothing.
 use mathlib.Core.Path.{_≡_, refl, sym}
 use mathlib.Core.Bool.{Bool, true, false, _&&_, _||_}
-use Prim.Native.Nat.{ℕ, _*_, _-_, _≤_, _<_}
+use Prim.Native.Nat.{ℕ, zero, suc, _*_, _-_, _/_, _%_, _^_, _≤_, _<_}
 use native.Mathlib.Nat.{mul-le-mul}
 use native.Mathlib.Omega.{arith}
 use borrow.Author.Tests.{leb-true, eqb-true}
@@ -10,7 +10,7 @@ use lib.Dec.{eqb, leb}
 use Rattle.bundle.specs.Commands.{sizeOk, strideOk, lastByte, rangeOk, codeOf, widthsOf, fitWidths, operandsOk, inRange}
 use Rattle.bundle.specs.declared.command.Range.{Range}
 use Rattle.bundle.specs.declared.command.Command.{Command}
-use Rattle.bundle.proofs.Tests.{and-left, and-right}
+use Rattle.bundle.proofs.Tests.{and-left, and-right, is-false}
 use Rattle.bundle.proofs.Operands.{Fits}
 
 pub record RangeParts (r : Range) : Type 0 where
@@ -46,6 +46,23 @@ size-within z e = go (eqb z 1) (eqb z 2) (eqb z 4) (eqb z 8) (eqb-true z 1) (eqb
     go false true c d f g h k e = omega (arith, g refl)
     go false false true d f g h k e = omega (arith, h refl)
     go false false false d f g h k e = omega (arith, k e)
+
+pub size-beyond : (z : ℕ) → 8 < z → false ≡ sizeOk z
+size-beyond z h = sym (is-false _ (λ e. omega (arith, size-within z e .1)))
+
+-- the sizes as bits of a number
+pub size-bits : (z : ℕ) → z ≤ 8 → eqb (0x116 / 2 ^ z % 2) 1 ≡ sizeOk z
+unfolding sizeOk
+size-bits zero h = refl
+size-bits (suc zero) h = refl
+size-bits (suc (suc zero)) h = refl
+size-bits (suc (suc (suc zero))) h = refl
+size-bits (suc (suc (suc (suc zero)))) h = refl
+size-bits (suc (suc (suc (suc (suc zero))))) h = refl
+size-bits (suc (suc (suc (suc (suc (suc zero)))))) h = refl
+size-bits (suc (suc (suc (suc (suc (suc (suc zero))))))) h = refl
+size-bits (suc (suc (suc (suc (suc (suc (suc (suc zero)))))))) h = refl
+size-bits (suc (suc (suc (suc (suc (suc (suc (suc (suc z))))))))) h = absurd (omega arith)
 
 -- at the numbers of the code
 pub steps-fit : (n t : ℕ) → n < 65536 → t < 65536 → (n - 1) * t < 4294967296

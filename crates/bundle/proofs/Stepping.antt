@@ -1,5 +1,5 @@
 -- One command of the scan: each answer of the code is the definition's.
-use Prim.Native.Nat.{ℕ, _+_}
+use Prim.Native.Nat.{ℕ, _+_, _<_}
 use mathlib.Core.Path.{_≡_, refl, sym, _∙_, ap}
 use mathlib.Core.Bool.{Bool, true, false, cond, not, _&&_, _||_}
 use mathlib.Core.List.{List}
@@ -68,9 +68,9 @@ module _ (k : Scan) {r : Scan} {st : ChunkState} where
       held true h = refl
       held false h = sym h
 
-pub after-access : (k : Scan) {r : Scan} (a : Access) → r ≡ scanWith k (k .state) 0 1 (a .wide) → r ≡ scanned k (Com.Access a)
+pub after-access : (k : Scan) {r : Scan} (a : Access) {wide : Bool} → a .wide ≡ wide → r ≡ scanWith k (k .state) 0 1 wide → r ≡ scanned k (Com.Access a)
 unfolding scanned afterCommand opensSegment addsAccess
-after-access k a q = q
+after-access k a e q = q ∙ ap (scanWith k (k .state) 0 1) (sym e)
 
 -- 7 by what a command adds
 module _ (k : Scan) (c : Command) (b : Bounded k) where
@@ -91,9 +91,34 @@ module _ (k : Scan) (c : Command) (b : Bounded k) where
   many-none e f = rw (e, f, le-ltb 512 (k .segments + 0) (omega (arith, b .segments)), le-ltb 1024 (k .accesses + 0) (omega (arith, b .accesses)))
 
 -- 20: the group of an access against that of those before it
-pub other-group : (k : Scan) (a : Access) {d : Bool} → d ≡ differs (k .wide) (a .wide) → ltb 0 (k .accesses) && d ≡ ofOtherGroup k (Com.Access a)
+module _ (k : Scan) (b : Bounded k) {wide : Bool} where
+  pub wide-follows : wide ≡ true → ltb 0 (k .accesses) && not (k .wide) ≡ ltb 0 (k .accesses) && differs (k .wide) wide
+  unfolding differs
+  wide-follows e = rw e (ap (λ (t : Bool). ltb 0 (k .accesses) && t) (go (k .wide)))
+    where
+      go : (w : Bool) → not w ≡ differs w true
+      go true = refl
+      go false = refl
+
+  pub narrow-follows : wide ≡ false → k .wide ≡ ltb 0 (k .accesses) && differs (k .wide) wide
+  unfolding differs
+  narrow-follows e = rw e (go (k .wide) (b .grouped))
+    where
+      none : (t : Bool) → false ≡ t && false
+      none true = refl
+      none false = refl
+
+      go : (w : Bool) → (w ≡ true → 0 < k .accesses) → w ≡ ltb 0 (k .accesses) && differs w false
+      go true g = rw (lt-ltb 0 (k .accesses) (g refl))
+      go false g = none (ltb 0 (k .accesses))
+
+pub other-group :
+    (k : Scan) (a : Access) {wide r : Bool}
+    → a .wide ≡ wide
+    → r ≡ ltb 0 (k .accesses) && differs (k .wide) wide
+    → r ≡ ofOtherGroup k (Com.Access a)
 unfolding ofOtherGroup
-other-group k a e = ap (λ (t : Bool). ltb 0 (k .accesses) && t) e
+other-group k a e q = q ∙ ap (λ (t : Bool). ltb 0 (k .accesses) && differs (k .wide) t) (sym e)
 
 -- 5: the ranges, and the own-team rule at a REGION
 pub beyond-range : (c : Command) {r : Bool} → r ≡ inRange c → not r ≡ not (inRange c && true)

@@ -1,7 +1,7 @@
 -- Inner: the scan as the code goes: one command at a position, and the rows of the chunks and REGIONs that it has met so far.
 use Prim.Native.Nat.{ℕ, _+_, _*_, _≤_, _<_}
 use mathlib.Core.Path.{_≡_}
-use mathlib.Core.Bool.{Bool, cond}
+use mathlib.Core.Bool.{Bool, true, cond}
 use mathlib.Core.List.{List, [], _∷_, _++_, map}
 use lib.Dec.{eqb}
 use lib.ListN.{length}
@@ -26,11 +26,12 @@ use Rattle.bundle.specs.declared.survey.Survey.the-variants as Surveys
 use Rattle.bundle.specs.declared.scan.Step.{Step}
 use Rattle.bundle.specs.declared.scan.Step.the-variants as Steps
 
--- the scan's counts are within 7's limits, and the open chunk's within the count of segments
+-- the scan's counts are within 7's limits, and the open chunk's within the count of segments; it has the wide group only of accesses
 pub record Bounded (k : Scan) : Type 0 where
   pub segments : k .segments ≤ 512
   pub accesses : k .accesses ≤ 1024
   pub opened : k .state .barriers + k .state .regions ≤ k .segments
+  pub grouped : k .wide ≡ true → 0 < k .accesses
 
 abbrev pub scanWith : Scan → ChunkState → ℕ → ℕ → Bool → Scan
 scanWith k state opens adds wide =

