@@ -70,7 +70,6 @@ enum Command {
 }
 
 /// The command at a position and the position after it, its operands not yet tested; or 2 or 3.
-#[inline]
 #[inline(always)]
 fn decode(bytes: &[u8], at: usize) -> Result<(Command, usize), Refusal> {
     Ok(match bytes[at..] {
