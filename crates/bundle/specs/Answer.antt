@@ -23,6 +23,8 @@ use Rattle.bundle.specs.declared.refusal.Cause.the-variants.{
   CutAhead,
   OtherGroup,
   SiteTooLarge,
+  TooFewRecords,
+  WrongRecord,
 }
 
 -- an operation's answer: a value, or a refusal by its number and place
@@ -58,3 +60,5 @@ numberOf PastEnd = 18
 numberOf CutAhead = 19
 numberOf OtherGroup = 20
 numberOf SiteTooLarge = 21
+numberOf TooFewRecords = 22
+numberOf WrongRecord = 23

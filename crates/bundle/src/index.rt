@@ -38,7 +38,8 @@ pub struct Parts {
     pub fifth: u16,
 }
 
-fn pack(parts: Parts) -> u64
+// A word that holds these numbers.
+pub fn pack(parts: Parts) -> u64
     ensures { λ r. ⌜ partsOf r ≡ parts ⌝ }
 {
     let first = parts.first as u64;
@@ -49,7 +50,7 @@ fn pack(parts: Parts) -> u64
     first + 65536 * (second + 65536 * (third + 256 * (fourth + 256 * fifth)))
 }
 
-fn unpack(word: u64) -> Parts
+pub fn unpack(word: u64) -> Parts
     ensures { λ r. ⌜ r ≡ partsOf word ⌝ }
 {
     Parts {
@@ -62,7 +63,7 @@ fn unpack(word: u64) -> Parts
 }
 
 // The word at an index; 0 past the end.
-fn word_at(table: &[u64], i: usize) -> u64
+pub fn word_at(table: &[u64], i: usize) -> u64
     ensures { λ r. ⌜ r ≡ getD (now (table .entry)) i 0 ⌝ }
 {
     if i < table.len() {

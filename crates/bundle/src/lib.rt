@@ -10,3 +10,4 @@ pub mod refusal;
 mod scan;
 mod shape;
 mod survey;
+pub mod teams;

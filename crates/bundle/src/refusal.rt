@@ -25,6 +25,8 @@ pub enum Cause {
     CutAhead, // 19
     OtherGroup, // 20
     SiteTooLarge, // 21
+    TooFewRecords, // 22
+    WrongRecord, // 23
 }
 
 // The number of a cause.
@@ -53,5 +55,7 @@ pub fn number(cause: Cause) -> u8
         Cause::CutAhead => 19,
         Cause::OtherGroup => 20,
         Cause::SiteTooLarge => 21,
+        Cause::TooFewRecords => 22,
+        Cause::WrongRecord => 23,
     }
 }

@@ -4,8 +4,9 @@ use crate::index::ChunkRow;
 use crate::index::chunk_at;
 use crate::index::fork_at;
 use crate::refusal::Cause;
-use sorting::search::first_with_key;
-use sorting::sort::sort;
+use crate::teams::order_teams;
+use crate::teams::size_of;
+use crate::teams::slot_of;
 ghost use mathlib.Core.Path.{_≡_};
 ghost use mathlib.Core.Bool.{_||_};
 ghost use Prim.Native.Nat.{_+_, _*_, _≤_, _<_};
@@ -24,14 +25,6 @@ pub enum Test {
     TooDeep, // 11, of a REGION
     UnlikeLowest, // 12, of a chunk
     Uneven, // 12 or 19, of a chunk
-}
-
-// The slot of a team: the index of the REGION that forks it, the number of REGIONs where none does.
-fn slot_of(order: &[u64], team: u16) -> u32
-    requires { ⌜ length (now order) ≤ 512 ⌝ }
-    ensures { λ r. ⌜ r ≡ firstWithKey (now (order .entry)) team ⌝ }
-{
-    first_with_key(order, team as u64) as u32
 }
 
 // Whether a member of the team of a slot was met: a bit for each member, in four words.
@@ -62,21 +55,6 @@ fn lead_at(leads: &[u32], slot: u32) -> u32
         return leads[at];
     }
     0
-}
-
-// "The root is team 0, size 1"; a team that is never forked has no members.
-fn size_of(forks: &[u64], regions: u32, slot: u32, team: u16) -> u8
-    requires { ⌜ slot ≡ slotOf (table (forkRowAt (now forks)) regions) team ⌝ }
-    ensures { λ r. ⌜ r ≡ sizeOf (table (forkRowAt (now (forks .entry))) regions) team ⌝ }
-{
-    if team == 0 {
-        return 1;
-    }
-    if regions <= slot {
-        return 0;
-    }
-    let row = fork_at(forks, slot);
-    row.size
 }
 
 // 9: a member number not below the team's size, or a second chunk of one member.
@@ -386,28 +364,6 @@ fn test_all(
         return at_chunk(chunks, i, Cause::StrayChunk);
     }
     test_settled(chunks, count, forks, regions, order, masks, leads)
-}
-
-// Writes the team of each REGION with its index, as first_with_key reads them.
-fn number_teams(forks: &[u64], order: &mut [u64])
-    requires { ⌜ length (now order) ≤ 512 ⌝ }
-    ensures { λ _. ⌜ now (order .exit) ≡ table (λ i. forkRowAt (now (forks .entry)) i .team * 65536 + i) (length (now (order .entry))) ⌝ }
-{
-    let mut i = 0;
-    while i < order.len() {
-        let row = fork_at(forks, i as u32);
-        order[i] = (row.team as u64) * 65536 + i as u64;
-        i += 1;
-    }
-}
-
-fn order_teams(forks: &[u64], order: &mut [u64])
-    requires { ⌜ length (now order) ≤ 512 ⌝ }
-    ensures { λ _. ⌜ ByTeam (now (order .exit)) (table (forkRowAt (now (forks .entry))) (length (now (order .entry)))) ⌝ }
-{
-    let mut spare = [0u64; 256];
-    number_teams(forks, order);
-    sort(order, &mut spare);
 }
 
 // The tests 8 to 12 and 19, in tables that are lent: a word for each REGION, and masks and leads that are all 0.

@@ -9,7 +9,7 @@ use Rattle.bundle.proofs.shape.climb.Reads as climb
 use Rattle.bundle.proofs.shape.climb.Kinds as climb-kinds
 use Rattle.bundle.proofs.shape.+climb.Lts-climb as climb-lts
 use Rattle.bundle.proofs.index.fork_at.Reads as fork-at-reads
-use Rattle.bundle.proofs.shape.slot_of.Reads as slot-of-reads
+use Rattle.bundle.proofs.teams.slot_of.Reads as slot-of-reads
 use Rattle.bundle.proofs.shape.+climb.{statement}
 use Rattle.bundle.proofs.shape.+climb.Tie.{close}
 

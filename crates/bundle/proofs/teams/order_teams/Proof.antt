@@ -1,9 +1,9 @@
--- `bundle::shape::order_teams` meets its contract. Assumes nothing.
+-- `bundle::teams::order_teams` meets its contract. Assumes nothing.
 use native.Mathlib.Omega.{arith}
 use Rattle.bundle.proofs.TeamOrder.{teams-sorted}
 use borrow.Author.Needs.{needs}
-use Rattle.bundle.proofs.shape.order_teams.Statement.{statement}
-use Rattle.bundle.proofs.shape.order_teams.Tie as tie
+use Rattle.bundle.proofs.teams.order_teams.Statement.{statement}
+use Rattle.bundle.proofs.teams.order_teams.Tie as tie
 
 returns : tie.Need-returns
 returns c = teams-sorted (c .before .before .before .before .before .before .before .before .before .before .before .before .args .forks .now) _ _ (c .before .before .before .before .before .before .before .before .before .before .before .before .pre) (λ k. omega (arith, c .before .before .before .before .before .before .before .before .before .before .before .shared-slice-known .given k)) (c .before .before .before .before .before .before .before .before .number-teams .ensures) (c .before .before .before .sort .ensures) (search needs)

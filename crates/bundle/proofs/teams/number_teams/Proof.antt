@@ -1,4 +1,4 @@
--- `bundle::shape::number_teams` meets its contract. Assumes nothing.
+-- `bundle::teams::number_teams` meets its contract. Assumes nothing.
 use borrow.Author.Needs.{needs}
 use Rattle.bundle.proofs.TeamOrder.{written-more, written-all}
 use Rattle.bundle.proofs.Tables.{table-none}
@@ -6,8 +6,8 @@ use Rattle.bundle.specs.Index.{forkRowAt, table}
 use lib.ListN.{length, take}
 use Prim.Native.Nat.{_+_, _*_, _≤_, _-_}
 use mathlib.Core.Path.{_≡_, refl, sym}
-use Rattle.bundle.proofs.shape.number_teams.Statement.{statement}
-use Rattle.bundle.proofs.shape.number_teams.Tie as tie
+use Rattle.bundle.proofs.teams.number_teams.Statement.{statement}
+use Rattle.bundle.proofs.teams.number_teams.Tie as tie
 
 abbrev Inv-loop : tie.InvT-loop
 Inv-loop forks order₀ i₀ order i = (i ≤ length order₀) × (length order ≡ length order₀) × (take i order ≡ table (λ k. forkRowAt forks k .team * 65536 + k) i)

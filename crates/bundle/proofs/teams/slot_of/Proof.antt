@@ -1,9 +1,9 @@
--- `bundle::shape::slot_of` meets its contract. Assumes nothing.
+-- `bundle::teams::slot_of` meets its contract. Assumes nothing.
 use native.Mathlib.Omega.{arith}
 use Rattle.bundle.proofs.Slots.{key-fits}
 use borrow.Author.Needs.{needs}
-use Rattle.bundle.proofs.shape.slot_of.Statement.{statement}
-use Rattle.bundle.proofs.shape.slot_of.Tie as tie
+use Rattle.bundle.proofs.teams.slot_of.Statement.{statement}
+use Rattle.bundle.proofs.teams.slot_of.Tie as tie
 
 cast-result : tie.Need-cast-result
 cast-result c = omega (arith, c .first-with-key .ensures, key-fits (c .before .before .args .order .now) (c .before .before .args .team) (c .before .before .pre))

@@ -1,7 +1,7 @@
--- `bundle::shape::size_of` meets its contract. Assumes nothing.
+-- `bundle::teams::size_of` meets its contract. Assumes nothing.
 use Rattle.bundle.proofs.Slots.{size-root, size-none, size-some}
-use Rattle.bundle.proofs.shape.size_of.Statement.{statement}
-use Rattle.bundle.proofs.shape.size_of.Tie as tie
+use Rattle.bundle.proofs.teams.size_of.Statement.{statement}
+use Rattle.bundle.proofs.teams.size_of.Tie as tie
 
 returns : tie.Need-returns
 returns c = size-root _ _ _ (c .if1 .taken)
