@@ -45,7 +45,7 @@ intervalsFrom t m begin k [] = []
 intervalsFrom t m begin k (e ∷ es) =
     let ends = endsInterval (e .command) in
     let rest =
-      intervalsFrom t m (cond ends (pastOf e) begin) (cond ends (afterCommand (e .state) (e .command)) k) es in
+    intervalsFrom t m (cond ends (pastOf e) begin) (cond ends (afterCommand (e .state) (e .command)) k) es in
     cond ends (record { team = t; member = m; state = k; begin = begin; past = pastOf e } ∷ rest) rest
 
 -- "Data begins after MEMBER or BARRIER"

@@ -32,7 +32,13 @@ fn order_rows(words: &mut [u64], count: u32)
 }
 
 // The records of an accepted bundle, by its REGIONs in the order of their teams.
-fn lay_intervals(bytes: &[u8], forks: &[u64], regions: u32, order: &mut [u64], words: &mut [u64]) -> usize
+fn lay_intervals(
+    bytes: &[u8],
+    forks: &[u64],
+    regions: u32,
+    order: &mut [u64],
+    words: &mut [u64],
+) -> usize
     requires { ⌜ Listable (now bytes) (table (forkRowAt (now forks)) regions) (now words) × (length (now order) ≡ regions) × (regions ≤ 512) ⌝ }
     ensures { λ r. ⌜ RowsHeld (now (bytes .entry)) r (now (words .exit)) ⌝ }
 {

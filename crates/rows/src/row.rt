@@ -47,8 +47,7 @@ pub const ROW_WORDS: usize = 1536;
 pub fn same_row(one: Row, other: Row) -> bool
     ensures { λ r. ⌜ r ≡ sameRow one other ⌝ }
 {
-    let names = (one.pid == other.pid)
-        & ((one.ppid == other.ppid) & (one.bid == other.bid));
+    let names = (one.pid == other.pid) & ((one.ppid == other.ppid) & (one.bid == other.bid));
     let label = (one.offset == other.offset)
         & ((one.span == other.span) & (one.level == other.level));
     let data = (one.begin == other.begin) & (one.size == other.size);
