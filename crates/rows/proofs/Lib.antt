@@ -1,1 +1,2 @@
 -- Laws over the definitions.
+pub mod Filling
