@@ -1,2 +1,3 @@
 -- Laws over the definitions.
 pub mod Filling
+pub mod Words
