@@ -76,7 +76,7 @@ rowName r = r .team ∷ r .member ∷ []
 
 -- the elements of a table
 module _ {A : Type 0} (f : ℕ → A) where
-  from-elim : (i k : ℕ) {y : A} → List·Memᴰ y (tableFrom f i k) → (j : ℕ) × (i ≤ j) × (j < i + k) × (y ≡ f j)
+  pub from-elim : (i k : ℕ) {y : A} → List·Memᴰ y (tableFrom f i k) → (j : ℕ) × (i ≤ j) × (j < i + k) × (y ≡ f j)
   unfolding tableFrom
   from-elim i zero m = absurd (List·Memᴰ·not-nil m)
   from-elim i (suc k) {y} m =
@@ -85,7 +85,7 @@ module _ {A : Type 0} (f : ℕ → A) where
       (λ l. let r = from-elim (suc i) k l in (r .0, omega (arith, r .1), omega (arith, r .2), r .3))
       (List·Memᴰ·cases-cons m)
 
-  from-intro : (i k j : ℕ) → i ≤ j → j < i + k → List·Memᴰ (f j) (tableFrom f i k)
+  pub from-intro : (i k j : ℕ) → i ≤ j → j < i + k → List·Memᴰ (f j) (tableFrom f i k)
   unfolding tableFrom
   from-intro i zero j h l = absurd (omega arith)
   from-intro i (suc k) j h l = go (from-intro (suc i) k j) (ℕ-discrete j i)

@@ -1,3 +1,12 @@
 -- Laws over the definitions.
+pub mod Levels
+pub mod TeamRows
+pub mod SlotLaws
+pub mod IntervalPass
+pub mod IntervalCounts
+pub mod Running
+pub mod IntervalNames
+pub mod IntervalOrder
+pub mod Answers
 pub mod Filling
 pub mod Words

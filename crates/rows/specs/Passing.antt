@@ -107,7 +107,7 @@ pub record Closable (c : Course) (next : ℕ) : Type 0 where
   pub joined : c .joined < 65536
   pub begin : c .begin < 65536
   pub ordered : c .begin ≤ next
-  pub size : next - c .begin < 65536
+  pub size : next - c .begin ≤ 65536
 
 pub record Notable (c : Course) (command : Command) (next : ℕ) (words : List ℕ) : Type 0 where
   pub long : length words ≡ 1536

@@ -1,5 +1,5 @@
 -- Inner: the words that hold records, each with the number by which records are ordered.
-use Prim.Native.Nat.{ℕ, zero, suc, _+_, _*_, _%_, _≤_, _<_}
+use Prim.Native.Nat.{ℕ, _+_, _*_, _/_, _%_}
 use mathlib.Core.Path.{_≡_}
 use mathlib.Core.List.{List, [], _∷_, _++_}
 use lib.ListN.{length, getD}
@@ -41,14 +41,15 @@ firstParts team i =
     record { first = i .interval; second = team .parent; third = team .size; fourth = team .level; fifth = team .team }
 
 unfoldable pub secondParts : Span → Parts
-secondParts i = record { first = i .begin; second = i .size; third = i .member; fourth = 0; fifth = i .joined }
+secondParts i =
+    record { first = i .begin; second = i .size % 65536; third = i .member; fourth = i .size / 65536; fifth = i .joined }
 
 -- the record that two words hold, and the record of a place with its number
 unfoldable pub heldIn : Parts → Parts → Row
 heldIn one other =
     rowMade
     (record { team = one .fifth; parent = one .second; size = one .third; level = one .fourth })
-    (record { member = other .third; interval = one .first; joined = other .fifth; begin = other .first; size = other .second })
+    (record { member = other .third; interval = one .first; joined = other .fifth; begin = other .first; size = other .second + 65536 * other .fourth })
 
 unfoldable pub slotAt : List ℕ → ℕ → Slot
 slotAt words i =

@@ -8,7 +8,7 @@ use crate::row::same_row;
 use bundle::answer::Checking;
 use bundle::refusal::Cause;
 ghost use mathlib.Core.Path.{_≡_};
-ghost use Prim.Native.Nat.{_≤_, _<_};
+ghost use Prim.Native.Nat.{_+_, _^_, _≤_, _<_};
 ghost use lib.ListN.{length};
 ghost use Rattle.bundle.specs.Index.{table};
 ghost use Rattle.rows.specs.Rows.{agreeing, checkRowsOf, rowCheckingOf};
@@ -34,7 +34,7 @@ fn least_of(layout: Layout, given: usize) -> usize
 
 // How many records are the same from the front, after one more at index i.
 fn same_after(same: usize, i: usize, mine: Row, given: Row) -> usize
-    requires { ⌜ i < 2 ^ 63 ⌝ }
+    requires { ⌜ i + 1 < 2 ^ 64 ⌝ }
     ensures { λ r. ⌜ r ≡ sameAfter same i mine given ⌝ }
 {
     if (same == i) & same_row(mine, given) {

@@ -10,6 +10,7 @@ use bundle::teams::size_of;
 use bundle::teams::slot_of;
 ghost use mathlib.Core.Path.{_≡_};
 ghost use Prim.Native.Nat.{_≤_, _<_};
+ghost use mathlib.Core.List.{[], _∷_};
 ghost use lib.ListN.{length};
 ghost use Rattle.bundle.specs.Check.{depthFrom, forkOf};
 ghost use Rattle.bundle.specs.Index.{table, forkRowAt};
@@ -137,7 +138,7 @@ fn span_here(course: Course, next: usize) -> Span
         interval: course.interval as u16,
         joined: course.joined as u16,
         begin: course.begin as u16,
-        size: (next - course.begin) as u16,
+        size: (next - course.begin) as u32,
     }
 }
 

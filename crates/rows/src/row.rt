@@ -4,7 +4,7 @@ use bundle::index::pack;
 use bundle::index::unpack;
 use bundle::index::word_at;
 ghost use mathlib.Core.Path.{_≡_};
-ghost use Prim.Native.Nat.{_<_};
+ghost use Prim.Native.Nat.{_≤_, _<_};
 ghost use lib.ListN.{length};
 ghost use Rattle.bundle.specs.Index.{partsOf, Added};
 ghost use Rattle.rows.specs.Rows.{sameRow};
@@ -37,7 +37,7 @@ pub struct Span {
     pub interval: u16,
     pub joined: u16,
     pub begin: u16,
-    pub size: u16,
+    pub size: u32,
 }
 
 // The words of the records: for each the number by which it is ordered, and two words that hold it.
@@ -77,20 +77,21 @@ fn first_word(team: TeamRow, span: Span) -> u64
 }
 
 fn second_word(span: Span) -> u64
+    requires { ⌜ span .size ≤ 65536 ⌝ }
     ensures { λ r. ⌜ partsOf r ≡ secondParts span ⌝ }
 {
     pack(Parts {
         first: span.begin,
-        second: span.size,
+        second: (span.size % 65536) as u16,
         third: span.member,
-        fourth: 0,
+        fourth: (span.size / 65536) as u8,
         fifth: span.joined,
     })
 }
 
 // Writes a record and its number behind the first `count`.
 pub(crate) fn add_row(words: &mut [u64], count: u32, team: TeamRow, span: Span)
-    requires { ⌜ (length (now words) ≡ 1536) × (count < 512) ⌝ }
+    requires { ⌜ (length (now words) ≡ 1536) × (count < 512) × (span .size ≤ 65536) ⌝ }
     ensures { λ _. ⌜ Added slotAt (now (words .entry)) (now (words .exit)) count (slotMade team span count) ⌝ }
 {
     let at = count as usize;
@@ -113,7 +114,7 @@ fn held_in(one: Parts, other: Parts) -> Row
         span,
         level: one.fourth as u32,
         begin: other.first as u32,
-        size: other.second as u32,
+        size: other.second as u32 + 65536 * (other.fourth as u32),
     }
 }
 

@@ -1,0 +1,11 @@
+use Rattle.rows.proofs.pass.begin.Statement.{statement}
+use Rattle.rows.proofs.pass.begin.Tie as tie
+use Rattle.rows.proofs.pass.begin.Reads as reads
+use Rattle.rows.proofs.pass.begin.Lts as lts
+
+-- src/pass.rt:75:1
+returns : tie.Need-returns
+returns c = ?
+
+pub begin-spec : {M : Type 1} → statement M
+begin-spec = tie.close (tie.spec returns)

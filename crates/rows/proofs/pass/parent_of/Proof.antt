@@ -1,0 +1,21 @@
+use borrow.Author.Needs.{needs}
+use Rattle.rows.proofs.pass.parent_of.Statement.{statement}
+use Rattle.rows.proofs.pass.parent_of.Tie as tie
+use Rattle.rows.proofs.pass.parent_of.Reads as reads
+use Rattle.rows.proofs.pass.parent_of.Lts as lts
+use Rattle.bundle.proofs.index.fork_at.Reads as fork-at-reads
+
+-- src/pass.rt:55:9
+returns : tie.Need-returns
+returns c = ?
+
+-- src/pass.rt:57:9
+fork-at-requires : tie.Need-fork-at-requires
+fork-at-requires c κs = search needs
+
+-- src/pass.rt:50:1
+returns-2 : tie.Need-returns-2
+returns-2 c = ?
+
+pub parent-of-spec : {M : Type 1} → statement M
+parent-of-spec = tie.close (tie.spec returns fork-at-requires returns-2)

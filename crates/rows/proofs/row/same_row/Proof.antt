@@ -1,0 +1,11 @@
+use Rattle.rows.proofs.row.same_row.Statement.{statement}
+use Rattle.rows.proofs.row.same_row.Tie as tie
+use Rattle.rows.proofs.row.same_row.Reads as reads
+use Rattle.rows.proofs.row.same_row.Lts as lts
+
+-- src/row.rt:47:1
+returns : tie.Need-returns
+returns c = ?
+
+pub same-row-spec : {M : Type 1} → statement M
+same-row-spec = tie.close (tie.spec returns)
