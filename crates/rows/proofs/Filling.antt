@@ -63,6 +63,19 @@ module _ (d : Row) where
       ∙ agrees-snoc (table f i) gs (f i) (let t = table-length f i in omega arith)
       ∙ ap (λ (k : ℕ). sameAfter (agreeing (table f i) gs) k (f i) (getD gs k d)) (table-length f i)
 
+agrees-few : (rs gs : List Row) → agreeing rs gs ≤ length rs
+unfolding agreeing
+agrees-few [] gs = omega arith
+agrees-few (r ∷ rs) [] = omega arith
+agrees-few (r ∷ rs) (g ∷ gs) = go (sameRow r g) (agrees-few rs gs)
+  where
+    go : (t : Bool) → agreeing rs gs ≤ length rs → cond t (suc (agreeing rs gs)) 0 ≤ suc (length rs)
+    go true h = omega arith
+    go false h = omega arith
+
+pub agrees-within : (f : ℕ → Row) (i : ℕ) (gs : List Row) → agreeing (table f i) gs ≤ i
+agrees-within f i gs = let t = table-length f i in let h = agrees-few (table f i) gs in omega arith
+
 -- the place of a record, in bytes
 pub place-fits : (i n : ℕ) → i < n → n * 32 < 2 ^ 63 → i * 32 < 2 ^ 64
 place-fits i n l r = omega arith
