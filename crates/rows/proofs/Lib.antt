@@ -9,4 +9,8 @@ pub mod IntervalNames
 pub mod IntervalOrder
 pub mod Answers
 pub mod Filling
+pub mod Called
+pub mod Counting
+pub mod MakesRow
 pub mod Words
+pub mod Laying
