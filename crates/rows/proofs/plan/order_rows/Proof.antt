@@ -1,3 +1,6 @@
+-- `rows::plan::order_rows` meets its contract. Assumes nothing.
+use Rattle.rows.proofs.Layouts.{front-sorted}
+use native.Mathlib.Omega.{arith}
 use borrow.Author.Needs.{needs}
 use Rattle.rows.proofs.plan.order_rows.Statement.{statement}
 use Rattle.rows.proofs.plan.order_rows.Tie as tie
@@ -27,7 +30,7 @@ same-length c = search needs
 
 -- src/plan.rt:26:1
 returns : tie.Need-returns
-returns c = ?
+returns c = front-sorted _ _ _ (c .before .before .before .before .before .before .before .pre .0) (c .before .before .before .before .before .before .before .pre .1) (omega arith) (c .before .before .before .sort .ensures) refl
 
 pub order-rows-spec : {M : Type 1} → statement M
 order-rows-spec =
