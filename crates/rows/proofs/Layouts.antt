@@ -35,8 +35,8 @@ front-sorted words n room {r} {after} long few most e q =
     let done = sorting-sorts r (take n words) after room e (omega (arith, short, few, most)) in
     record { is = q ∙ ap (λ (ws : List ℕ). ws ++ drop n words) done }
 
-pub teams-for : (forks order after : List ℕ) {regions : ℕ} → length order ≡ regions → ByTeam after (table (forkRowAt forks) (length order)) → ByTeam after (table (forkRowAt forks) regions)
-teams-for forks order after e x = subst (λ (n : ℕ). ByTeam after (table (forkRowAt forks) n)) e x
+pub teams-for : (forks after : List ℕ) (n : ℕ) {regions : ℕ} → n ≡ regions → ByTeam after (table (forkRowAt forks) n) → ByTeam after (table (forkRowAt forks) regions)
+teams-for forks after n e x = subst (λ (k : ℕ). ByTeam after (table (forkRowAt forks) k)) e x
 
 pub rows-held :
     (s words after : List ℕ) {n : ℕ}
@@ -58,12 +58,8 @@ module _ {s chunks forks : List ℕ} {n m : ℕ} (k : Indexed s n m chunks forks
   laid-out words count h = record { checked = sym (k .accepted); rows = λ a. h .rows }
 
 -- nothing is laid out of a bundle that is refused
+not-both : (s : List ℕ) {n p : ℕ} → checkOf s ≡ refuses n p → checkOf s ≡ gives tt → ⊥
+not-both s e a = let z : _≡_ {A = ℕ} 0 1 = cc in omega (arith, z)
+
 pub laid-none : (s words : List ℕ) (place : ℕ) (cause : Cause) → checkOf s ≡ refuses (numberOf cause) place → LaidOut s (record { count = 0; checking = Checks.Refused place cause }) words
-laid-none s words place cause e =
-    record {
-      checked = sym e;
-      rows = λ a. let z : _≡_ {A = ℕ} 0 1 = clash (sym e ∙ a) in absurd (omega (arith, z));
-    }
-  where
-    clash : refuses (numberOf cause) place ≡ gives tt → _≡_ {A = ℕ} 0 1
-    clash q = cc
+laid-none s words place cause e = record { checked = sym e; rows = λ a. absurd (not-both s e a) }

@@ -7,8 +7,8 @@ use lib.ListN.{length}
 use borrow.Author.Needs.{needs}
 use Rattle.bundle.specs.Commands.{readingOf}
 use Rattle.bundle.specs.Index.{table, forkRowAt}
-use Rattle.bundle.proofs.Passing.{fewer-left}
-use Rattle.rows.proofs.Running.{Running, running-start, running-read, running-on, running-notable, running-turn, running-end}
+
+use Rattle.rows.proofs.Running.{Running, running-start, running-read, running-notable, running-less, running-turn, running-end}
 use Rattle.rows.proofs.pass.list_intervals.Statement.{statement}
 use Rattle.rows.proofs.pass.list_intervals.Tie as tie
 
@@ -19,25 +19,25 @@ abbrev μ-loop : tie.MeasureT-loop
 μ-loop bytes forks regions order words₀ course₀ words course = length bytes - course .at
 
 loop-holds : tie.Need-loop-holds Inv-loop μ-loop
-loop-holds c = ?
+loop-holds c = rw (c .begin .ensures) (running-start _ _ _ (c .before .before .before .before .before .pre .1))
 
 returns : tie.Need-returns Inv-loop μ-loop
-returns c = ?
+returns c = running-read (c .before .before .before .before .before .loop .inv) (c .before .before .before .if1 .taken) (sym (c .before .before .read-command .ensures) ∙ ap readingOf (c .enum-told .given .1))
 
 note-requires : tie.Need-note-requires Inv-loop μ-loop
-note-requires c κs = ?
+note-requires c κs = (c .before .before .before .before .before .before .before .before .before .before .before .before .before .pre .0, running-notable (c .before .before .before .before .before .before .before .loop .inv) (λ i h. omega (arith, c .before .before .before .before .before .before .before .before .before .before .before .before .shared-slice-known .given i)) (sym (c .before .before .before .before .read-command .ensures) ∙ ap readingOf (c .before .before .next .given .1)))
 
 loop-less : tie.Need-loop-less Inv-loop μ-loop
-loop-less c = ?
+loop-less c = running-less (c .before .before .before .before .before .before .before .before .before .before .loop .inv) (λ i h. omega (arith, c .before .before .before .before .before .before .before .before .before .before .before .before .before .before .before .shared-slice-known .given i)) (sym (c .before .before .before .before .before .before .before .read-command .ensures) ∙ ap readingOf (c .before .before .before .before .before .next .given .1)) (c .before .before .before .before .before .before .before .before .if1 .taken) (c .before .before .note .ensures)
 
 loop-again : tie.Need-loop-again Inv-loop μ-loop
-loop-again c = ?
+loop-again c = running-turn (c .before .before .before .before .before .before .before .before .before .before .loop .inv) (λ i h. omega (arith, c .before .before .before .before .before .before .before .before .before .before .before .before .before .before .before .shared-slice-known .given i)) (sym (c .before .before .before .before .before .before .before .read-command .ensures) ∙ ap readingOf (c .before .before .before .before .before .next .given .1)) (c .before .before .note .ensures)
 
 same-length : tie.Need-same-length Inv-loop μ-loop
-same-length c = ?
+same-length c = c .before .before .before .before .before .loop .inv .long ∙ sym (c .before .before .before .before .before .before .before .before .before .before .before .pre .1 .long)
 
 same-length-2 : tie.Need-same-length-2 Inv-loop μ-loop
-same-length-2 c = ?
+same-length-2 c = c .before .before .loop .inv .long ∙ sym (c .before .before .before .before .before .before .before .before .pre .1 .long)
 
 returns-2 : tie.Need-returns-2 Inv-loop μ-loop
 returns-2 c = running-end (c .before .before .loop .inv) (c .if1 .left)

@@ -24,7 +24,7 @@ slice-aggregate-lay-accepted c = sym ((indexed-accepted _ _ _ (c .before .before
 
 -- src/plan.rt:70:20
 lay-accepted-requires : tie.Need-lay-accepted-requires
-lay-accepted-requires c κs = (listable (indexed-accepted _ _ _ (c .before .before .before .before .before .index-bundle .ensures) (c .before .before .before .regions .given .1)) _ ?, few-regions (indexed-accepted _ _ _ (c .before .before .before .before .before .index-bundle .ensures) (c .before .before .before .regions .given .1)))
+lay-accepted-requires c κs = (listable (indexed-accepted _ _ _ (c .before .before .before .before .before .index-bundle .ensures) (c .before .before .before .regions .given .1)) _ (search needs), few-regions (indexed-accepted _ _ _ (c .before .before .before .before .before .index-bundle .ensures) (c .before .before .before .regions .given .1)))
 
 -- src/plan.rt:73:29
 enum-known-place : tie.Need-enum-known-place
