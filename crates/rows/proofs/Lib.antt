@@ -10,3 +10,5 @@ pub mod NoteCases
 pub mod IntervalOrder
 pub mod Layouts
 pub mod Answers
+pub mod Filling
+pub mod Words
