@@ -325,6 +325,45 @@ def wrong_records(right):
         yield from found(right)
 
 
+# ------------------------------------------------- the program interval_rows
+
+OTHER_WORDS = (["checks"], ["check", "check"], [""], ["Check"], ["--help"])  # with which it tells its usage
+ONE_ROOT = bytes.fromhex("01000000 02")
+ONE_ROW = bytes.fromhex("00000000 00000000 00000000 00000000 01000000 00000000 04000000 01000000")
+NOT_READ = b"interval_rows: not a bundle and records\n"
+
+# (what it reads with the word check, what it writes to standard output and to standard error)
+CHECK_INPUTS = [
+    (b"\x05\0\0\0" + ONE_ROOT + ONE_ROW, b"the rows\n", b""),
+    (b"\x05\0\0\0" + ONE_ROOT + 2 * ONE_ROW, b"", b"refused 23 at 1\n"),
+    (b"\x05\0\0\0" + ONE_ROOT + 513 * ONE_ROW, b"", b"refused 23 at 1\n"),
+    (b"\x05\0\0\0" + ONE_ROOT + ONE_ROW[:31] + b"\1", b"", b"refused 23 at 0\n"),
+    (b"\x05\0\0\0" + ONE_ROOT, b"", b"refused 23 at 0\n"),
+    (b"\x04\0\0\0" + ONE_ROOT[:4], b"", b"refused 4 at 4\n"),
+    (b"\x04\0\0\0" + ONE_ROOT[:4] + ONE_ROW, b"", b"refused 4 at 4\n"),
+    (bytes(4), b"", b"refused 10 at 0\n"),
+    (bytes(4) + ONE_ROW, b"", b"refused 10 at 0\n"),
+    (b"\1\0\1\0" + bytes(65537), b"", b"refused 1 at 0\n"),
+    (b"\1\0\1\0" + bytes(65537) + 513 * ONE_ROW, b"", b"refused 1 at 0\n"),
+    (b"\1\0\1\0" + bytes(65536), b"", NOT_READ),
+    (b"\2\0\1\0" + bytes(65538), b"", NOT_READ),
+    (b"\xff\xff\xff\xff" + bytes(100), b"", NOT_READ),
+    (b"\xfc\xff\xff\xff", b"", NOT_READ),
+    (b"\x05\0\0\0" + ONE_ROOT + ONE_ROW[:31], b"", NOT_READ),
+    (b"\x05\0\0\0" + ONE_ROOT + ONE_ROW + b"\0", b"", NOT_READ),
+    (b"\x05\0\0\0" + ONE_ROOT + b"\0", b"", NOT_READ),
+    (b"\x06\0\0\0" + ONE_ROOT, b"", NOT_READ),
+    (b"\x25\0\0\0" + ONE_ROOT + ONE_ROW, b"", b"refused 2 at 5\n"),
+    (b"\x05\0\0", b"", NOT_READ),
+    (b"", b"", NOT_READ),
+]
+
+
+def check_input(data, given):
+    """What interval_rows check reads for a bundle and records."""
+    return len(data).to_bytes(4, "little") + data + b"".join(map(sr.record_bytes, given))
+
+
 # ------------------------------------------------------------------ frames
 
 ROWS_SEED, LARGE_SEED, STORED = 115, 116, 14  # of the stored frames, and how many random bundles they have
