@@ -208,6 +208,12 @@ def number_in_team_by_barriers(bundle, interval):
     return number_in_team(bundle, interval) - sum(c.member < interval.chunk.member for c in bundle.members(interval.chunk.team))
 
 
+def number_since_region(bundle, interval):
+    """Counted from 0 again behind each region."""
+    forks = [fork for fork in interval.chunk.forks if fork.offset < interval.begin]
+    return interval.number - (interval.chunk.segments[forks[-1].segment].barriers if forks else 0)
+
+
 def number_in_bundle(bundle, interval):
     return sum(chunk.offset < interval.chunk.offset and chunk.barriers() + 1 for chunk in bundle.chunks) + interval.number
 
@@ -227,6 +233,7 @@ WRONG_COLUMNS = {
     "bid counted on in the team": columns(bid=number_in_team),
     "bid by all barriers of the team": columns(bid=number_in_team_by_barriers),
     "bid counted on in the bundle": columns(bid=number_in_bundle),
+    "bid counted from the last region": columns(bid=number_since_region),
     "the segment as bid": columns(bid=first_segment),
     "bid by the barriers left": columns(bid=lambda bundle, interval: intervals_of_chunk(interval) - 1 - interval.number),
     "offset at the interval's end": columns(offset=offset_with(lambda bundle, interval: interval.joined + len(regions_in(interval)))),
