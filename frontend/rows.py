@@ -94,8 +94,8 @@ def record_in(name, row, places):
 def number_in(name, row, place, column):
     found = CELL.fullmatch(row.value(place))
     if not found or int(found[1]) > MOST_NUMBER:
-        raise CannotDo(
-            f"{name}: line {row.line}, column {place + 1} ({column}): {shortened(row.value(place))} is no decimal number from 0 to {MOST_NUMBER}")
+        where = f"{name}: line {row.line}, column {place + 1} ({column})"
+        raise CannotDo(f"{where}: {shortened(row.value(place))} is no decimal number from 0 to {MOST_NUMBER}")
     return int(found[1])
 
 

@@ -75,13 +75,15 @@ class Writing(RowsCase):
         lines = E_TEXT.splitlines(keepends=True)
         self.csv.write_bytes(b"kept")
         for text in (
-            "", HEADING, E_TEXT[:-1], "".join(lines[:-1]), "".join(lines[:2] + lines[3:]), "".join(lines[1:]), E_TEXT + lines[-1], E_TEXT + "\n",
-            E_TEXT.replace("data begin", "begin"), E_TEXT.replace(",44,", ",044,"), E_TEXT.replace("0,0,0,0", "0,0,0"), E_TEXT.replace(",", ";"),
+            "", HEADING, E_TEXT[:-1], "".join(lines[:-1]), "".join(lines[:2] + lines[3:]), "".join(lines[1:]), E_TEXT + lines[-1],
+            E_TEXT + "\n", E_TEXT.replace("data begin", "begin"), E_TEXT.replace(",44,", ",044,"), E_TEXT.replace("0,0,0,0", "0,0,0"),
+            E_TEXT.replace(",", ";"),
         ):
             ended = self.rows(EXAMPLE, "--out", self.csv, programs_at=self.faulty(f"sys.stdout.write({text!r})\n"))
             self.assert_cannot(ended, "interval_rows is not whole")
-        for body in (f"sys.stdout.write({E_TEXT!r})\nsys.exit(3)\n", f"sys.stdout.write({E_TEXT!r})\nsys.stderr.write('refused 3 at 1\\n')\n"):
-            self.assert_cannot(self.rows(EXAMPLE, "--out", self.csv, programs_at=self.faulty(body)), "nothing was written")
+        for more in ("sys.exit(3)\n", "sys.stderr.write('refused 3 at 1\\n')\n"):
+            folder = self.faulty(f"sys.stdout.write({E_TEXT!r})\n" + more)
+            self.assert_cannot(self.rows(EXAMPLE, "--out", self.csv, programs_at=folder), "nothing was written")
         self.assertEqual((self.csv.read_bytes(), self.leftovers()), (b"kept", []))
 
     def test_no_program(self):
@@ -147,7 +149,8 @@ class Checking(RowsCase):
             self.assertEqual(self.check(data, E_TEXT), (1, f"refused {number} at {place}: {words}\n", ""))
 
     def test_a_file_that_is_not_read(self):
-        self.assert_cannot(self.check(EXAMPLE, E_TEXT.replace("44", "4x")), f"{self.csv}: line 6, column 7 (data begin): '4x' is no decimal number")
+        ended = self.check(EXAMPLE, E_TEXT.replace("44", "4x"))
+        self.assert_cannot(ended, f"{self.csv}: line 6, column 7 (data begin): '4x' is no decimal number")
         for name in (self.folder / "none", self.tray):
             self.assert_cannot(self.rows(EXAMPLE, "--check", name), f"{name} cannot be read")
 
@@ -186,8 +189,9 @@ class Files(RowsCase):
         lines = E_TEXT.splitlines()
         quoted = "\n".join(",".join(f'"{cell}"' for cell in line.split(",")) for line in lines)
         for text in (
-            E_TEXT, E_TEXT[:-1], E_TEXT + "\n\n", E_TEXT + " \n,,,,,,,\n\n", "\ufeff" + E_TEXT, E_TEXT.replace("\n", "\r\n"), E_TEXT.replace("\n", "\r"),
-            "\ufeff" + E_TEXT.replace("\n", "\r\n"), E_TEXT.replace(",", ";"), E_TEXT.replace(",", "\t"), "sep=;\r\n" + E_TEXT.replace(",", ";"),
+            E_TEXT, E_TEXT[:-1], E_TEXT + "\n\n", E_TEXT + " \n,,,,,,,\n\n", E_TEXT.replace("\n", "\r\n"), E_TEXT.replace("\n", "\r"),
+            "\ufeff" + E_TEXT, "\ufeff" + E_TEXT.replace("\n", "\r\n"),
+            E_TEXT.replace(",", ";"), E_TEXT.replace(",", "\t"), "sep=;\r\n" + E_TEXT.replace(",", ";"),
             quoted, "\ufeff" + quoted + "\r\n", E_TEXT.replace("pid,ppid", "PID, Ppid "), E_TEXT.replace(",13\n", ",0000000000013\n"),
         ):
             self.assertEqual(self.read(text), list(E_ROWS), text)
@@ -227,7 +231,9 @@ class Files(RowsCase):
             self.assert_not_read(text, *pieces)
 
     def test_cells(self):
-        for cell in ("", " ", "x", "-1", "+1", "1.0", "1e3", "0x1", " 1", "1 ", "1_0", "4294967296", "9" * 5000, "\u0661", "\uff11", "\u00b2", "1\x00", "'1"):
+        for cell in (
+            "", " ", "x", "-1", "+1", "1.0", "1e3", "0x1", " 1", "1 ", "1_0", "'1", "1\x00", "4294967296", "9" * 5000, "\u0661", "\uff11", "\u00b2",
+        ):
             self.assert_not_read(HEADING + "0,0,0,0,1,0,4,5\n" + f"1,0,0,{cell},2,1,13,13\n", "line 3, column 4 (offset)", "decimal number")
         self.assert_not_read(HEADING + '0,0,0,"1,000",1,0,4,5\n', "line 2, column 4 (offset)", "'1,000'")
         self.assert_not_read(HEADING + '0,0,0,"1\n0",1,0,4,5\n', "line 2, column 4 (offset)")

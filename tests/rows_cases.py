@@ -345,6 +345,7 @@ CHECK_INPUTS = [
     (bytes(4) + ONE_ROW, b"", b"refused 10 at 0\n"),
     (b"\1\0\1\0" + bytes(65537), b"", b"refused 1 at 0\n"),
     (b"\1\0\1\0" + bytes(65537) + 513 * ONE_ROW, b"", b"refused 1 at 0\n"),
+    (b"\1\0\1\0" + bytes(65537) + 600 * ONE_ROW, b"", b"refused 1 at 0\n"),  # longer than it reads
     (b"\1\0\1\0" + bytes(65536), b"", NOT_READ),
     (b"\2\0\1\0" + bytes(65538), b"", NOT_READ),
     (b"\xff\xff\xff\xff" + bytes(100), b"", NOT_READ),

@@ -452,7 +452,9 @@ def without_column(column):
 
 def by_values(change):
     """Columns are compared after a change of each."""
-    return lambda rows, given: min(differences(rows, given, lambda row, record: [*map(change, row)] == [*map(change, record)]), default=None)
+    def same(row, record):
+        return [*map(change, row)] == [*map(change, record)]
+    return lambda rows, given: min(differences(rows, given, same), default=None)
 
 
 def at_another_index(change):

@@ -55,6 +55,7 @@ def compare_fixed(program, tally):
             hold_given(program, case.title, case.data, given, tally)
     for given, *_ in rows_cases.CHECK_INPUTS:
         held(program, "an input by hand", ["check"], given, tally)
+    held(program, "longer than it reads", [], bytes(200000), tally)
     for words in rows_cases.OTHER_WORDS:
         held(program, "other words", words, rows_cases.ONE_ROOT, tally)
     for title, data in listing_cases.fixed_bundles():
