@@ -7,7 +7,6 @@ use lib.ListN.{length}
 use borrow.Author.Needs.{needs}
 use Rattle.bundle.specs.Commands.{readingOf}
 use Rattle.bundle.specs.Index.{table, forkRowAt}
-
 use Rattle.rows.proofs.Running.{Running, running-start, running-read, running-notable, running-less, running-turn, running-end}
 use Rattle.rows.proofs.pass.list_intervals.Statement.{statement}
 use Rattle.rows.proofs.pass.list_intervals.Tie as tie
