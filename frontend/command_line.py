@@ -22,7 +22,7 @@ programs; this front end walks the tray, runs them, and writes the spreadsheet a
 STATUSES = """\
 exit status:
   0  every build is race-free (list: the bundle is race-free; check, show, graph, canon: it is accepted;
-     convert: it is accepted and was converted)
+     convert: it is accepted and was converted; rows: it is accepted, and with --check the rows are its own)
   1  some build or bundle is not
   2  the job could not be done, or was stopped: there is no verdict, and no file was changed"""
 
@@ -65,6 +65,20 @@ Writes an accepted bundle with all of its accesses in one group: narrow, with si
 4 bytes. The rest is copied, and the verdict stays the same. A bundle that is in that group already, or has no accesses, is copied.
 
 It is refused with 1 if it would have over 65,536 bytes with wide sites, and with 21 if a site does not fit into a narrow command."""
+
+
+ROWS = """\
+Writes SWORD's interval rows of an accepted bundle as CSV: a line for each barrier interval of each member's log, by team, member and
+interval. The first line names the columns:
+  pid, ppid         the team, and the team that forked it (0 for the root)
+  bid               the interval: how many barriers the member has passed
+  offset, span      of the last triple of the label at the interval's start
+  level             how many forks lead from the root to the team
+  data begin, size  where its data begins in the bundle and how many bytes it has: behind MEMBER or BARRIER, through the next BARRIER,
+                    END or CUT
+
+With --check nothing is written: it is told whether the rows of a CSV file are those of the bundle, and if not, the first record, from
+0, that is missing, extra or differs, with its line. The file may have its columns in any order, commas, semicolons or tabs, and quotes."""
 
 
 def jobs_of(text):
@@ -144,9 +158,13 @@ def parser():
     )
     convert = add("convert", "write a bundle with wide or with narrow sites", CONVERT)
     convert.add_argument("--to", required=True, choices=("wide", "narrow"), help="which sites the result has")
+    rows = add("rows", "write the interval rows of a bundle, or check given ones", ROWS)
+    form = rows.add_mutually_exclusive_group()
+    form.add_argument("--out", metavar="CSV", help="the file to write, whole and last (default: standard output)")
+    form.add_argument("--check", metavar="ROWS", help="a CSV file of rows, which are compared with those of the bundle")
     for made in (canon, convert):
         made.add_argument("--out", metavar="OUT", help="the file to write, whole and last (default: standard output)")
-    for made in (listing, check, show, graph, canon, convert):
+    for made in (listing, check, show, graph, canon, convert, rows):
         made.add_argument("file", metavar="FILE", help=one)
     form = graph.add_mutually_exclusive_group()
     form.add_argument("--svg", metavar="OUT", help="write a picture instead")
@@ -160,6 +178,10 @@ def command_of(options):
         from frontend.job import judge_tray
 
         return judge_tray
+    if options.command == "rows":
+        from frontend.rows import rows_file
+
+        return rows_file
     from frontend import single
 
     return {

@@ -26,6 +26,7 @@ BUNDLE_RACE = re.compile(rb"race " + COUNTS + rb" " + RACE + rb" pairs " + NUMBE
 BUNDLE_FREE = re.compile(rb"race-free " + COUNTS)
 BUILD_LINE = re.compile(rb"build (race|refused|missing|race-free)")
 
+BUILT = ("judge_build", "racelist", "canon", "convert", "interval_rows")  # all programs of the front end
 MOST_LINE = 400  # bytes; the longest line of a whole output is shorter
 FOR_NOW = (errno.EAGAIN, errno.ENOMEM, errno.ETXTBSY)  # why a program may not start now, and start a moment later
 MOST_TRIES = 10
@@ -90,7 +91,7 @@ class Programs:
         lacking = [n for n in names if not (os.path.isfile(self.path(n)) and os.access(self.path(n), os.X_OK))]
         if lacking:
             raise CannotDo(
-                f"no program {' and no '.join(self.path(n) for n in lacking)}; build with: rt check judge_build racelist canon convert"
+                f"no program {' and no '.join(self.path(n) for n in lacking)}; build with: rt check {' '.join(BUILT)}"
             )
 
     def start(self, name, given, *arguments, folder=None, errors=subprocess.DEVNULL):
@@ -235,10 +236,10 @@ class Programs:
             end(process)
         return Listing(races, pairs, refusal)
 
-    # --------------------------------------------------------- canon, convert
+    # ------------------------------------------ canon, convert, interval_rows
 
     def rewrite(self, name, data, *arguments):
-        """What canon or convert writes of a bundle to standard output, and to standard error."""
+        """What one of these writes to standard output, and to standard error."""
         process = self.start(name, data, *arguments, errors=subprocess.PIPE)
         deadline = time.monotonic() + self.timeout
         try:

@@ -63,6 +63,12 @@ CONVERTING = {
     21: Refusal("An access has a site over 65,535, which needs 4 bytes.", "that access", "Keep it with wide sites."),
 }
 
+# What interval rows are turned away for: those of an accepted bundle that do not fit into the lent list, and given ones.
+ROWS = {
+    22: Refusal("Too few records are lent.", "0", "Lend one for each barrier interval: 512 are always enough."),
+    23: Refusal("A given record is missing, extra or differs.", "the lowest such index, from 0", "Write the rows of the bundle again."),
+}
+
 TORN = "It ends inside a member's log: it was torn."
 MIXED = "A command stands between two members' logs, or a MEMBER inside one."
 NONE_THERE = "The log is empty."
@@ -84,4 +90,11 @@ def converting_in_words(number, place, length):
     """The same where a bundle was to be converted: one that is accepted, or one that is refused by check."""
     if number in CONVERTING and length <= MOST_BYTES:
         return CONVERTING[number].wrong, CONVERTING[number].advice
+    return in_words(number, place, length)
+
+
+def rows_in_words(number, place, length):
+    """The same where rows were wanted or given."""
+    if number in ROWS:
+        return ROWS[number].wrong, ROWS[number].advice
     return in_words(number, place, length)

@@ -10,6 +10,7 @@ from frontend.failures import CannotDo
 
 SEPARATORS = (",", ";", "\t")
 BYTE_ORDER_MARK = b"\xef\xbb\xbf"
+EMPTY = "the sheet is empty: its first row has to name the columns"
 SEPARATOR_LINE = re.compile(r'"?sep=([,;\t])"?\r?\n', re.IGNORECASE)  # a first line of some spreadsheet programs
 
 Cell = namedtuple("Cell", "raw value")
@@ -79,6 +80,22 @@ def put(row, place, raw, insert=False):
 
 def read_sheet(data, column, verdict_column):
     """The sheet of a file's bytes."""
+    mark, before, separator, rows = read_rows(data, column)
+    header = next((r for r in rows if not r.is_empty()), None)
+    if header is None:
+        raise CannotDo(EMPTY)
+    build = find_column(header, column)
+    if build is None:
+        names = ", ".join(repr(c.value) for c in header.cells)
+        raise CannotDo(f"the sheet has no column {column!r}; its first row has {names}; --column names another")
+    verdict = find_column(header, verdict_column)
+    if verdict == build:
+        raise CannotDo("the column of builds and the column of verdicts are the same")
+    return Sheet(mark, before, separator, rows, header, build, verdict)
+
+
+def read_rows(data, column):
+    """(byte order mark, text before the first row, separator, rows) of a file's bytes; this is one of its columns."""
     if data.startswith((b"\xff\xfe", b"\xfe\xff")) or 4 * data.count(b"\0") > len(data):
         raise CannotDo("the sheet is no CSV in UTF-8 (UTF-16, or no text): save it as CSV, UTF-8")
     mark = BYTE_ORDER_MARK if data.startswith(BYTE_ORDER_MARK) else b""
@@ -88,20 +105,9 @@ def read_sheet(data, column, verdict_column):
     if found := SEPARATOR_LINE.match(text):
         before, text, separators = found[0], text[found.end() :], (found[1],)
     if not text.strip():
-        raise CannotDo("the sheet is empty: its first row has to name the columns")
+        raise CannotDo(EMPTY)
     separator = best_separator(text, separators, column)
-    rows = list(rows_of(text, separator, 1 + before.count("\n")))
-    header = next((r for r in rows if not r.is_empty()), None)
-    if header is None:
-        raise CannotDo("the sheet is empty: its first row has to name the columns")
-    build = find_column(header, column)
-    if build is None:
-        names = ", ".join(repr(c.value) for c in header.cells)
-        raise CannotDo(f"the sheet has no column {column!r}; its first row has {names}; --column names another")
-    verdict = find_column(header, verdict_column)
-    if verdict == build:
-        raise CannotDo("the column of builds and the column of verdicts are the same")
-    return Sheet(mark, before, separator, rows, header, build, verdict)
+    return mark, before, separator, list(rows_of(text, separator, 1 + before.count("\n")))
 
 
 def find_column(header, name):
@@ -116,7 +122,7 @@ def find_column(header, name):
 
 
 def best_separator(text, separators, column):
-    """The one that gives the header a column of builds; of several, the one with most columns."""
+    """The one that gives the header this column; of several, the one with most columns."""
     wanted = column.strip().casefold()
     keys, problem = [], None
     for separator in separators:

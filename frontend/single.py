@@ -164,42 +164,60 @@ def plain_dump(data, place):
 
 def canon_file(options):
     """Writes the bundle with its chunks in the fixed order."""
-    return rewrite_file(options, ["canon"], len, in_words)
+    return rewrite_file(options, ["canon"], lambda written, data: len(written) == len(data), in_words)
 
 
 def convert_file(options):
     """Writes the bundle with its accesses in one group."""
-    return rewrite_file(options, ["convert", options.to], lambda data: bundles.converted_length(data, options.to), converting_in_words)
+    def is_whole(written, data):
+        return len(written) == bundles.converted_length(data, options.to)
+
+    return rewrite_file(options, ["convert", options.to], is_whole, converting_in_words)
 
 
-def rewrite_file(options, command, length_of, words):
-    """Writes what a program and its arguments make of a bundle: to standard output, or whole and last to a file. An output is whole
-    if it has the length that such a bundle gives."""
-    from frontend.outputs import demand_writable, write_all
+def rewrite_file(options, command, is_whole, words, is_text=False):
+    """Writes what a program and its arguments make of a bundle: to standard output, or whole and last to a file. is_whole tells whether
+    an output is whole, by the bundle; one that is no text is not written to a terminal."""
+    from frontend.outputs import demand_writable
 
     if options.out:
         demand_writable([options.out])
-    elif sys.stdout.isatty():
+    elif not is_text and sys.stdout.isatty():
         raise CannotDo("a bundle is no text for a terminal: give --out, or send the output to a file")
-    name, *arguments = command
-    programs = programs_of(options, name)
+    programs = programs_of(options, command[0])
     data = read_input(options.file)
+    written, refusal = made_by(programs, command, data, lambda written: is_whole(written, data))
+    if refusal:
+        sys.stderr.write(told(refusal, data, words) + "\n")
+        return 1
+    hand_over(options, written)
+    return 0
+
+
+def made_by(programs, command, given, is_whole, otherwise="nothing was written"):
+    """(what a program and its arguments write, None), or (None, the refusal). An output that is not whole is not taken."""
+    name, *arguments = command
     try:
-        written, said = programs.rewrite(name, data, *arguments)
+        written, said = programs.rewrite(name, given, *arguments)
     except Failed as failure:
-        raise CannotDo(f"nothing was written: {failure}") from failure
-    if written and len(written) == length_of(data) and not said:
-        if options.out:
-            write_all([(options.out, written)])
-        else:
-            sys.stdout.buffer.write(written)
-            sys.stdout.buffer.flush()
-        return 0
+        raise CannotDo(f"{otherwise}: {failure}") from failure
+    if written and is_whole(written) and not said:
+        return written, None
     found = REFUSED_LINE.fullmatch(said.rstrip(b"\n"))
     if written or not found:
-        raise CannotDo(f"nothing was written: the output of {name} is not whole")
-    sys.stderr.write(told(tuple(map(int, found.groups())), data, words) + "\n")
-    return 1
+        raise CannotDo(f"{otherwise}: the output of {name} is not whole")
+    return None, tuple(map(int, found.groups()))
+
+
+def hand_over(options, written):
+    """To the file that was asked for, whole and last, or to standard output."""
+    from frontend.outputs import write_all
+
+    if options.out:
+        write_all([(options.out, written)])
+    else:
+        sys.stdout.buffer.write(written)
+        sys.stdout.buffer.flush()
 
 
 # ---------------------------------------------------------------------- graph

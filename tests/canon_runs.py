@@ -34,16 +34,7 @@ class Tally:
 def held(program, title, data, tally):
     """What the program writes, where that is what the second reader says."""
     wanted = sr.canon(data)
-    answer = listing_runs.with_pipe(program, data)
-    if answer != (0, *wanted):
-        listing_runs.FOLDER.mkdir(parents=True, exist_ok=True)
-        path = listing_runs.FOLDER / "different.bundle"
-        path.write_bytes(data)
-        raise listing_runs.Different(
-            f"{title}: a bundle of {len(data)} bytes, kept in {path}\n"
-            f"  the program: {[part[:300] if isinstance(part, bytes) else part for part in answer]}\n"
-            f"  the second reader: {[part[:300] for part in wanted]}"
-        )
+    listing_runs.demand(title, data, listing_runs.with_pipe(program, data), wanted)
     tally.add(data, *wanted)
     return wanted[0]
 

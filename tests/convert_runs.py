@@ -34,16 +34,7 @@ class Tally:
 def held(program, title, word, data, tally):
     """What the program writes, where that is what the second reader says."""
     wanted = sr.convert(word, data)
-    answer = listing_runs.ended(listing_runs.start(program, word), data)
-    if answer != (0, *wanted):
-        listing_runs.FOLDER.mkdir(parents=True, exist_ok=True)
-        path = listing_runs.FOLDER / "different.bundle"
-        path.write_bytes(data)
-        raise listing_runs.Different(
-            f"{title}: to {word}: a bundle of {len(data)} bytes, kept in {path}\n"
-            f"  the program: {[part[:300] if isinstance(part, bytes) else part for part in answer]}\n"
-            f"  the second reader: {[part[:300] for part in wanted]}"
-        )
+    listing_runs.demand(f"{title}: to {word}", data, listing_runs.ended(listing_runs.start(program, word), data), wanted)
     tally.add(data, *wanted)
     return wanted[0]
 

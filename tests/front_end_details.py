@@ -366,7 +366,7 @@ class Single(Case):
         self.assertEqual((ended.status, ended.err.split(":")[0]), (1, "refused 1 at 65537"), ended)
 
     def test_files_that_cannot_be_read(self):
-        for command in (["list"], ["check"], ["show"], ["graph"], ["canon"], ["convert", "--to", "wide"]):
+        for command in (["list"], ["check"], ["show"], ["graph"], ["canon"], ["convert", "--to", "wide"], ["rows"]):
             for name in (self.folder / "none", self.tray):
                 ended = self.run_command(*command, name)
                 self.assertEqual(ended.status, 2)

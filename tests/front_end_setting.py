@@ -13,7 +13,7 @@ from pathlib import Path
 
 ROOT = Path(__file__).resolve().parent.parent
 SCRIPT = ROOT / "dezhakom"
-NEEDED = ("judge_build", "racelist", "canon", "convert")
+NEEDED = ("judge_build", "racelist", "canon", "convert", "interval_rows")
 EXAMPLE = (ROOT / "examples" / "e.bundle").read_bytes()  # a race
 LATE = (ROOT / "examples" / "late.bundle").read_bytes()  # race-free
 TORN = EXAMPLE[:40]  # refused 3 at 31

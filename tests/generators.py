@@ -198,6 +198,14 @@ def random_bundle(rng, style):
     return bundle_bytes(shuffled(rng, random_chunks(rng, style)))
 
 
+def far_teams(rng, chunks):
+    """With team numbers of all sizes, in the same order."""
+    teams = sorted({chunk[0].operands[0] for chunk in chunks} - {0})
+    far = {0: 0, **dict(zip(teams, sorted(rng.sample(range(1, 65536), len(teams)))))}
+    return [
+        [Command(c.code, (far[c.operands[0]], c.operands[1])) if c.code in (sr.MEMBER, sr.REGION) else c for c in chunk] for chunk in chunks]
+
+
 # -------------------------------------------------------------- wide sites
 
 EDGES_OF_SITES = (0, 65535, 65536, 4294967295)

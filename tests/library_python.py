@@ -116,7 +116,7 @@ def want(title, got, wanted):
 
 
 def test_frames():
-    stored, wanted = vf.without_rewriting(*((ROOT / "crates" / "vectors" / name).read_bytes() for name in ("stdin", "stdout")))
+    stored, wanted = vf.for_library(*((ROOT / "crates" / "vectors" / name).read_bytes() for name in ("stdin", "stdout")))
     frames = vf.split_frames(stored)
     for (operation, body), line in zip(frames, wanted.decode().splitlines(), strict=True):
         want(f"operation {operation}, {body.hex()[:200]}", answer_line(operation, body), line)

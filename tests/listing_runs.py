@@ -62,6 +62,20 @@ def held(title, data, answer):
     raise Different(f"{title}: a bundle of {len(data)} bytes, kept in {path}\n{difference(*answer, wanted)}")
 
 
+def demand(title, data, answer, wanted):
+    """The answer is status 0 with what is wanted on standard output and standard error; else what was read is kept."""
+    if answer == (0, *wanted):
+        return
+    FOLDER.mkdir(parents=True, exist_ok=True)
+    path = FOLDER / "different.bundle"
+    path.write_bytes(data)
+    raise Different(
+        f"{title}: an input of {len(data)} bytes, kept in {path}\n"
+        f"  the program: {[part[:300] if isinstance(part, bytes) else part for part in answer]}\n"
+        f"  the second reader: {[part[:300] for part in wanted]}"
+    )
+
+
 def difference(status, given, said, wanted):
     if status == NO_END:
         return "  the program did not end in its time"

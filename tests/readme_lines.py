@@ -116,7 +116,7 @@ def check_forms(text, listings):
 def check_refusals(text, refused):
     """One table has a row for each number that racelist prints, the next for each of the others."""
     want("rows of refusals", [row[0] for row in table(text, "| N | What")], [str(number) for number in (*range(1, 13), 19, 20)])
-    want("rows of others", [row[0] for row in table(text, "| N | Operation")], [str(number) for number in (*range(13, 19), 21)])
+    want("rows of others", [row[0] for row in table(text, "| N | Operation")], [str(number) for number in (*range(13, 19), 21, 22, 23)])
     for line in re.findall(r"`(refused \d+ at \d+)`", text):
         want(f"{line} comes from an example", line in refused, True)
 

@@ -14,6 +14,9 @@ OPERATION_COMPARE, OPERATION_SHARED = 6, 7
 OPERATION_JUDGE, OPERATION_NEXT = 8, 9
 OPERATION_REWRITE = 12  # 10 and 11 are tests/library_frames.py's
 OPERATION_TO_WIDE, OPERATION_TO_NARROW = 13, 14
+OPERATION_ROWS, OPERATION_CHECK_ROWS = 15, 16
+
+MOST_ROWS = 520  # records lent or given by a frame
 
 RECORD_LENGTH = 14
 
@@ -309,6 +312,38 @@ def answer_rewriting(rewrite, body):
         return f"{refusal_text(refusal)} {buffer.hex()}"
 
 
+# ----------------------------------------------------------- interval rows
+
+
+def filler_rows(count):
+    """What the records of a lent list hold before."""
+    return tuple(sr.Row(*range(4000000000 + 8 * i, 4000000008 + 8 * i)) for i in range(count))
+
+
+def rows_frame(room, bundle):
+    """The room is how many records are lent."""
+    return frame(OPERATION_ROWS, number(room, 2) + bundle)
+
+
+def check_rows_frame(given, bundle):
+    return frame(OPERATION_CHECK_ROWS, number(len(given), 2) + b"".join(map(sr.record_bytes, given)) + bundle)
+
+
+def answer_rows(body):
+    """And each record of the lent list afterwards."""
+    lent = list(filler_rows(body.number(2)))
+    try:
+        text = f"written {sr.export_rows(body.rest(), lent)}"
+    except Refused as refusal:
+        text = refusal_text(refusal)
+    return " ".join([text] + [",".join(map(str, record)) for record in lent])
+
+
+def answer_check_rows(body):
+    given = sr.records_in(body.bytes(32 * body.number(2)))
+    return sr.check_rows(body.rest(), given)
+
+
 ANSWERS = {
     OPERATION_READ: answer_read,
     OPERATION_PUT: answer_put,
@@ -322,18 +357,21 @@ ANSWERS = {
     OPERATION_REWRITE: answer_rewrite,
     OPERATION_TO_WIDE: answer_to_wide,
     OPERATION_TO_NARROW: answer_to_narrow,
+    OPERATION_ROWS: answer_rows,
+    OPERATION_CHECK_ROWS: answer_check_rows,
 }
 
 
-REWRITINGS = (OPERATION_REWRITE, OPERATION_TO_WIDE, OPERATION_TO_NARROW)
+# Rewriting, converting and interval rows.
+NOT_IN_LIBRARY = (OPERATION_REWRITE, OPERATION_TO_WIDE, OPERATION_TO_NARROW, OPERATION_ROWS, OPERATION_CHECK_ROWS)
 
 
-def without_rewriting(frames, lines):
-    """A file of frames and its answers without those that rewrite a bundle, which are not in the library."""
+def for_library(frames, lines):
+    """A file of frames and its answers without the operations that the library does not have."""
     kept = [
         (frame(operation, body), line)
         for (operation, body), line in zip(split_frames(frames), lines.splitlines(keepends=True), strict=True)
-        if operation not in REWRITINGS
+        if operation not in NOT_IN_LIBRARY
     ]
     return b"".join(made for made, _ in kept), b"".join(line for _, line in kept)
 

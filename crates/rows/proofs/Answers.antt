@@ -18,7 +18,7 @@ use Rattle.bundle.specs.declared.refusal.Cause.the-variants.{WrongRecord}
 use Rattle.bundle.proofs.Tables.{table-none, table-length}
 use Rattle.rows.specs.Rows.{rowsOf, LentRows, fillingWith, exportAs, exportOf, exportingOf, sameRow, agreeing, comparedWith, checkRowsOf, rowCheckingOf}
 use Rattle.rows.specs.Slots.{rowIn}
-use Rattle.rows.specs.Planning.{LaidOut, RowsHeld, putOver, writtenOf, exportedOf, comparable, toldOf}
+use Rattle.rows.specs.Planning.{LaidOut, putOver, writtenOf, exportedOf, comparable, toldOf}
 use Rattle.rows.specs.declared.row.Row.{Row}
 use Rattle.rows.specs.declared.plan.Layout.{Layout}
 use Rattle.rows.specs.declared.export.Exporting.{Exporting}
@@ -141,10 +141,3 @@ told s words l given x =
     ap (λ (rs : List Row). agreeing rs given) (table-front (rowIn words) n (l .count) (comparable-within l (length given)))
     ∙ compared-front l (table (rowIn words) (l .count)) given (table-length (rowIn words) (l .count))
     ∙ ap (λ (rs : List Row). agreeing rs given) (x .rows ok))
-
--- the records held, of an accepted bundle
-pub laid-out : (s words : List ℕ) (n : ℕ) → checkOf s ≡ gives tt → RowsHeld s n words → LaidOut s (record { count = n; checking = Checks.Accepted }) words
-laid-out s words n e h = record { checked = sym e; rows = λ a. h .rows }
-
-pub laid-none : (s words : List ℕ) {k : Checking} → checkingOf k ≡ checkOf s → (Accepted s → ⊥) → LaidOut s (record { count = 0; checking = k }) words
-laid-none s words e no-rows = record { checked = e; rows = λ a. absurd (no-rows a) }

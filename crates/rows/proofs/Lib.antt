@@ -6,7 +6,9 @@ pub mod IntervalPass
 pub mod IntervalCounts
 pub mod Running
 pub mod IntervalNames
+pub mod NoteCases
 pub mod IntervalOrder
+pub mod Layouts
 pub mod Answers
 pub mod Filling
 pub mod Called

@@ -196,6 +196,11 @@ module _ {s : List ℕ} {fs : List Fork} {c : Course} {words : List ℕ} (x : Ru
               };
         }
 
+    pub running-less : {after : Course} {words′ : List ℕ} → c .at < length s → Noted fs c d next after words words′ → length s - after .at < length s - c .at
+    running-less {after} h n =
+        let here : after .at ≡ next = ap (λ (a : Course). a .at) (n .course) ∙ near-after fs c d (c .at) next (x .near) running-on .here in
+        omega (arith, h, here, running-on)
+
     pub running-turn : {after : Course} {words′ : List ℕ} → Noted fs c d next after words words′ → Running s fs after words′
     running-turn {after} {words′} n =
         let more = read-next s (c .at) (record { command = d; next = next }) e in

@@ -63,8 +63,7 @@ module _ (forks : List ℕ) (n t most : ℕ) where
         → Level (r + 1)
     level-goes positive h {f} {r} q w =
         let less : suc (most - 1) ≡ most = omega (arith, positive) in
-        let known = fork-some (forkRowAt forks) n t slot (unfold slotOf in at-slot) h q in
-        (
+        let known = fork-some (forkRowAt forks) n t slot (unfold slotOf in at-slot) h q in (
           add-one r ∙ ap suc (w .0) ∙ sym (one-climb fs (most - 1) t known) ∙ ap (λ (m : ℕ). depthFrom m fs t) less,
           omega (arith, positive, w .1),
         )

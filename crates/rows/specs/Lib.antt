@@ -1,5 +1,6 @@
 -- SWORD's interval rows.
 pub mod Rows
+pub mod RowLaws
 pub mod Slots
 pub mod Planning
 pub mod Passing

@@ -1,3 +1,5 @@
+-- `rows::checker::same_after` meets its contract. Assumes nothing.
+use Rattle.rows.specs.Planning.{sameAfter}
 use borrow.Author.Needs.{needs}
 use Rattle.rows.proofs.checker.same_after.Statement.{statement}
 use Rattle.rows.proofs.checker.same_after.Tie as tie
@@ -15,11 +17,13 @@ add-result c = search needs
 
 -- src/checker.rt:41:9
 returns : tie.Need-returns
-returns c = ?
+unfolding sameAfter
+returns c = rw (← c .before .same-row .ensures, c .if1 .taken)
 
 -- src/checker.rt:36:1
 returns-2 : tie.Need-returns-2
-returns-2 c = ?
+unfolding sameAfter
+returns-2 c = rw (← c .before .same-row .ensures, c .if1 .left)
 
 pub same-after-spec : {M : Type 1} → statement M
 same-after-spec = tie.close (tie.spec same-row-requires add-result returns returns-2)

@@ -1,3 +1,5 @@
+-- `rows::export::written_of` meets its contract. Assumes nothing.
+use borrow.Author.Tests.{lt-ltb, le-ltb}
 use borrow.Author.Needs.{needs}
 use Rattle.rows.proofs.export.written_of.Statement.{statement}
 use Rattle.rows.proofs.export.written_of.Tie as tie
@@ -14,11 +16,11 @@ enum-told-2 c = search needs
 
 -- src/export.rt:23:1
 returns : tie.Need-returns
-returns c = ?
+returns c = rw (c .before .enum-told .given .1, lt-ltb _ _ (c .if1 .taken))
 
 -- src/export.rt:23:1
 returns-2 : tie.Need-returns-2
-returns-2 c = ?
+returns-2 c = rw (c .before .enum-told .given .1, le-ltb _ _ (c .if1 .left))
 
 -- src/export.rt:23:1
 returns-3 : tie.Need-returns-3

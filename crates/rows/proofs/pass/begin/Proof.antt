@@ -1,3 +1,6 @@
+-- `rows::pass::begin` meets its contract. Assumes nothing.
+use borrow.Author.Needs.{needs}
+use Rattle.rows.specs.Passing.{beginning}
 use Rattle.rows.proofs.pass.begin.Statement.{statement}
 use Rattle.rows.proofs.pass.begin.Tie as tie
 use Rattle.rows.proofs.pass.begin.Reads as reads
@@ -5,7 +8,8 @@ use Rattle.rows.proofs.pass.begin.Lts as lts
 
 -- src/pass.rt:75:1
 returns : tie.Need-returns
-returns c = ?
+unfolding beginning
+returns c = search needs
 
 pub begin-spec : {M : Type 1} → statement M
 begin-spec = tie.close (tie.spec returns)

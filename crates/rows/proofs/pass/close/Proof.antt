@@ -1,3 +1,8 @@
+-- `rows::pass::close` meets its contract. Assumes nothing.
+use mathlib.Core.Path.{refl}
+use native.Mathlib.Omega.{arith}
+use Rattle.rows.specs.Passing.{spanHere, closedAt}
+use Rattle.rows.proofs.SlotLaws.{grown-one}
 use borrow.Author.Needs.{needs}
 use Rattle.rows.proofs.pass.close.Statement.{statement}
 use Rattle.rows.proofs.pass.close.Tie as tie
@@ -12,7 +17,8 @@ span-here-requires c κs = search needs
 
 -- src/pass.rt:152:5
 add-row-requires : tie.Need-add-row-requires
-add-row-requires c κs = ?
+unfolding spanHere
+add-row-requires c κs = (c .before .before .before .before .pre .1, c .before .before .before .before .pre .0 .few, rw (c .span-here .ensures) (c .before .before .before .before .pre .0 .size))
 
 -- src/pass.rt:155:22
 add-after : tie.Need-add-after
@@ -28,7 +34,8 @@ same-length c = search needs
 
 -- src/pass.rt:146:1
 returns : tie.Need-returns
-returns c = ?
+unfolding closedAt
+returns c = (refl, grown-one (rw (← c .before .before .before .before .span-here .ensures) (c .before .before .before .add-row .ensures)))
 
 pub close-spec : {M : Type 1} → statement M
 close-spec =

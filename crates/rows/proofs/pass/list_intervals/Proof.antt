@@ -1,64 +1,45 @@
+-- `rows::pass::list_intervals` meets its contract. The invariant: what the words hold, with what the rest of the commands adds, is the whole.
+-- The measure: the bytes left. Assumes nothing.
+use Prim.Native.Nat.{_-_}
+use mathlib.Core.Path.{sym, _∙_, ap}
+use native.Mathlib.Omega.{arith}
+use lib.ListN.{length}
+use borrow.Author.Needs.{needs}
+use Rattle.bundle.specs.Commands.{readingOf}
+use Rattle.bundle.specs.Index.{table, forkRowAt}
+use Rattle.rows.proofs.Running.{Running, running-start, running-read, running-notable, running-less, running-turn, running-end}
 use Rattle.rows.proofs.pass.list_intervals.Statement.{statement}
 use Rattle.rows.proofs.pass.list_intervals.Tie as tie
-use Rattle.rows.proofs.pass.list_intervals.Reads as reads
-use Rattle.rows.proofs.pass.list_intervals.Lts as lts
-use Rattle.bundle.proofs.command.read_command.Reads as read-command-reads
-use Rattle.rows.proofs.pass.begin.Reads as begin-reads
-use Rattle.rows.proofs.pass.note.Reads as note-reads
 
 abbrev Inv-loop : tie.InvT-loop
-Inv-loop bytes forks regions order words₀ course₀ words course = ?
+Inv-loop bytes forks regions order words₀ course₀ words course = Running bytes (table (forkRowAt forks) regions) course words
 
 abbrev μ-loop : tie.MeasureT-loop
-μ-loop bytes forks regions order words₀ course₀ words course = ?
+μ-loop bytes forks regions order words₀ course₀ words course = length bytes - course .at
 
--- src/pass.rt:203:9
-begin-requires : tie.Need-begin-requires Inv-loop μ-loop
-begin-requires c κs = ?
-
--- src/pass.rt:204:5
 loop-holds : tie.Need-loop-holds Inv-loop μ-loop
-loop-holds c = ?
+loop-holds c = rw (c .begin .ensures) (running-start _ _ _ (c .before .before .before .before .before .pre .1))
 
--- src/pass.rt:205:48
-read-command-requires : tie.Need-read-command-requires Inv-loop μ-loop
-read-command-requires c κs = ?
-
--- src/pass.rt:205:30
-enum-known-next : tie.Need-enum-known-next Inv-loop μ-loop
-enum-known-next c = ?
-
--- src/pass.rt:206:13
-enum-told : tie.Need-enum-told Inv-loop μ-loop
-enum-told c = ?
-
--- src/pass.rt:206:13
-same-length : tie.Need-same-length Inv-loop μ-loop
-same-length c = ?
-
--- src/pass.rt:206:13
 returns : tie.Need-returns Inv-loop μ-loop
-returns c = ?
+returns c = running-read (c .before .before .before .before .before .loop .inv) (c .before .before .before .if1 .taken) (sym (c .before .before .read-command .ensures) ∙ ap readingOf (c .enum-told .given .1))
 
--- src/pass.rt:208:9
 note-requires : tie.Need-note-requires Inv-loop μ-loop
-note-requires c κs = ?
+note-requires c κs = (c .before .before .before .before .before .before .before .before .before .before .before .before .before .pre .0, running-notable (c .before .before .before .before .before .before .before .loop .inv) (λ i h. omega (arith, c .before .before .before .before .before .before .before .before .before .before .before .before .shared-slice-known .given i)) (sym (c .before .before .before .before .read-command .ensures) ∙ ap readingOf (c .before .before .next .given .1)))
 
--- src/pass.rt:204:5
 loop-less : tie.Need-loop-less Inv-loop μ-loop
-loop-less c = ?
+loop-less c = running-less (c .before .before .before .before .before .before .before .before .before .before .loop .inv) (λ i h. omega (arith, c .before .before .before .before .before .before .before .before .before .before .before .before .before .before .before .shared-slice-known .given i)) (sym (c .before .before .before .before .before .before .before .read-command .ensures) ∙ ap readingOf (c .before .before .before .before .before .next .given .1)) (c .before .before .before .before .before .before .before .before .if1 .taken) (c .before .before .note .ensures)
 
--- src/pass.rt:204:5
 loop-again : tie.Need-loop-again Inv-loop μ-loop
-loop-again c = ?
+loop-again c = running-turn (c .before .before .before .before .before .before .before .before .before .before .loop .inv) (λ i h. omega (arith, c .before .before .before .before .before .before .before .before .before .before .before .before .before .before .before .shared-slice-known .given i)) (sym (c .before .before .before .before .before .before .before .read-command .ensures) ∙ ap readingOf (c .before .before .before .before .before .next .given .1)) (c .before .before .note .ensures)
 
--- src/pass.rt:193:1
+same-length : tie.Need-same-length Inv-loop μ-loop
+same-length c = c .before .before .before .before .before .loop .inv .long ∙ sym (c .before .before .before .before .before .before .before .before .before .before .before .pre .1 .long)
+
 same-length-2 : tie.Need-same-length-2 Inv-loop μ-loop
-same-length-2 c = ?
+same-length-2 c = c .before .before .loop .inv .long ∙ sym (c .before .before .before .before .before .before .before .before .pre .1 .long)
 
--- src/pass.rt:193:1
 returns-2 : tie.Need-returns-2 Inv-loop μ-loop
-returns-2 c = ?
+returns-2 c = running-end (c .before .before .loop .inv) (c .if1 .left)
 
 pub list-intervals-spec : {M : Type 1} → statement M
 list-intervals-spec =
@@ -66,11 +47,11 @@ list-intervals-spec =
     (tie.spec
     Inv-loop
     μ-loop
-    begin-requires
+    (λ c κs. tt)
     loop-holds
-    read-command-requires
-    enum-known-next
-    enum-told
+    (λ c κs. tt)
+    (λ c. search needs)
+    (λ c. search needs)
     same-length
     returns
     note-requires

@@ -1,3 +1,5 @@
+-- `rows::pass::note` meets its contract. Assumes nothing.
+use Rattle.rows.proofs.NoteCases.{end-ends, barrier-ends, cut-ends, noted-member, noted-region, noted-acquire, noted-release, noted-access, noted-end, noted-barrier, noted-cut}
 use borrow.Author.Needs.{needs}
 use Rattle.rows.proofs.pass.note.Statement.{statement}
 use Rattle.rows.proofs.pass.note.Tie as tie
@@ -27,7 +29,7 @@ enum-told c = search needs
 
 -- src/pass.rt:182:25
 close-requires : tie.Need-close-requires
-close-requires c κs = ?
+close-requires c κs = (c .before .before .before .before .before .before .pre .1 .closable (end-ends (c .before .enum-told .given .1)), c .before .before .before .before .before .before .pre .1 .long)
 
 -- src/pass.rt:183:49
 enum-told-2 : tie.Need-enum-told-2
@@ -43,7 +45,7 @@ enum-told-3 c = search needs
 
 -- src/pass.rt:184:29
 close-requires-2 : tie.Need-close-requires-2
-close-requires-2 c κs = ?
+close-requires-2 c κs = (c .before .before .before .before .before .before .pre .1 .closable (barrier-ends (c .before .enum-told3 .given .1)), c .before .before .before .before .before .before .pre .1 .long)
 
 -- src/pass.rt:185:32
 enum-told-4 : tie.Need-enum-told-4
@@ -75,11 +77,11 @@ enum-told-7 c = search needs
 
 -- src/pass.rt:188:25
 close-requires-3 : tie.Need-close-requires-3
-close-requires-3 c κs = ?
+close-requires-3 c κs = (c .before .before .before .before .before .before .pre .1 .closable (cut-ends (c .before .enum-told7 .given .1)), c .before .before .before .before .before .before .pre .1 .long)
 
 -- src/pass.rt:163:1
 returns : tie.Need-returns
-returns c = ?
+returns c = noted-member _ _ _ _ _ _ (c .before .before .before .command .given .1) (c .before .team-row .ensures) (c .enter .ensures)
 
 -- src/pass.rt:163:1
 same-length : tie.Need-same-length
@@ -87,11 +89,11 @@ same-length c = search needs
 
 -- src/pass.rt:163:1
 returns-2 : tie.Need-returns-2
-returns-2 c = ?
+returns-2 c = noted-end _ _ _ _ _ _ (c .before .before .close .ensures .0) (c .before .before .close .ensures .1) (c .before .before .before .before .enum-told .given .1)
 
 -- src/pass.rt:163:1
 returns-3 : tie.Need-returns-3
-returns-3 c = ?
+returns-3 c = noted-region _ _ _ _ _ _ (c .before .enum-told2 .given .1) (c .join .ensures)
 
 -- src/pass.rt:163:1
 same-length-2 : tie.Need-same-length-2
@@ -99,19 +101,19 @@ same-length-2 c = search needs
 
 -- src/pass.rt:163:1
 returns-4 : tie.Need-returns-4
-returns-4 c = ?
+returns-4 c = noted-barrier _ _ _ _ _ _ (c .before .before .close2 .ensures .0) (c .before .before .close2 .ensures .1) (c .before .before .before .before .enum-told3 .given .1)
 
 -- src/pass.rt:163:1
 returns-5 : tie.Need-returns-5
-returns-5 c = ?
+returns-5 c = noted-acquire _ _ _ _ _ _ (c .before .enum-told4 .given .1) (c .move-on .ensures)
 
 -- src/pass.rt:163:1
 returns-6 : tie.Need-returns-6
-returns-6 c = ?
+returns-6 c = noted-release _ _ _ _ _ _ (c .before .enum-told5 .given .1) (c .move-on2 .ensures)
 
 -- src/pass.rt:163:1
 returns-7 : tie.Need-returns-7
-returns-7 c = ?
+returns-7 c = noted-access _ _ _ _ _ _ (c .before .enum-told6 .given .1) (c .move-on3 .ensures)
 
 -- src/pass.rt:163:1
 same-length-3 : tie.Need-same-length-3
@@ -119,7 +121,7 @@ same-length-3 c = search needs
 
 -- src/pass.rt:163:1
 returns-8 : tie.Need-returns-8
-returns-8 c = ?
+returns-8 c = noted-cut _ _ _ _ _ _ (c .before .before .close3 .ensures .0) (c .before .before .close3 .ensures .1) (c .before .before .before .before .enum-told7 .given .1)
 
 pub note-spec : {M : Type 1} → statement M
 note-spec =

@@ -1,3 +1,5 @@
+-- `rows::pass::span_here` meets its contract. Assumes nothing.
+use Rattle.rows.specs.Passing.{spanHere}
 use borrow.Author.Needs.{needs}
 use Rattle.rows.proofs.pass.span_here.Statement.{statement}
 use Rattle.rows.proofs.pass.span_here.Tie as tie
@@ -26,7 +28,8 @@ cast-t7 c = search needs
 
 -- src/pass.rt:131:1
 returns : tie.Need-returns
-returns c = ?
+unfolding spanHere
+returns c = search needs
 
 pub span-here-spec : {M : Type 1} → statement M
 span-here-spec = tie.close (tie.spec cast-t3 cast-t4 cast-t5 sub-t6 cast-t7 returns)

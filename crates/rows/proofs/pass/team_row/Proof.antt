@@ -1,3 +1,5 @@
+-- `rows::pass::team_row` meets its contract. Assumes nothing.
+use Rattle.rows.proofs.TeamRows.{at-slot, team-made}
 use borrow.Author.Needs.{needs}
 use Rattle.rows.proofs.pass.team_row.Statement.{statement}
 use Rattle.rows.proofs.pass.team_row.Tie as tie
@@ -14,11 +16,11 @@ slot-of-requires c κs = search needs
 
 -- src/pass.rt:70:17
 parent-of-requires : tie.Need-parent-of-requires
-parent-of-requires c κs = ?
+parent-of-requires c κs = at-slot _ _ _ 0 _ (c .before .before .before .pre) (c .slot-of .ensures)
 
 -- src/pass.rt:71:15
 size-of-requires : tie.Need-size-of-requires
-size-of-requires c κs = ?
+size-of-requires c κs = at-slot _ _ _ 0 _ (c .before .before .before .before .pre) (c .before .slot-of .ensures)
 
 -- src/pass.rt:72:16
 level-of-requires : tie.Need-level-of-requires
@@ -26,7 +28,7 @@ level-of-requires c κs = search needs
 
 -- src/pass.rt:63:1
 returns : tie.Need-returns
-returns c = ?
+returns c = team-made _ _ (c .before .before .parent-of .ensures) (c .before .size-of .ensures) (c .level-of .ensures .0)
 
 pub team-row-spec : {M : Type 1} → statement M
 team-row-spec =

@@ -1,3 +1,6 @@
+-- `rows::plan::lay_accepted` meets its contract. Assumes nothing.
+use mathlib.Core.Path.{sym}
+use Rattle.bundle.proofs.TeamOrder.{front-is}
 use borrow.Author.Needs.{needs}
 use Rattle.rows.proofs.plan.lay_accepted.Statement.{statement}
 use Rattle.rows.proofs.plan.lay_accepted.Tie as tie
@@ -11,11 +14,11 @@ array-borrow-prefix-order c = search needs
 
 -- src/plan.rt:56:42
 slice-aggregate-lay-intervals : tie.Need-slice-aggregate-lay-intervals
-slice-aggregate-lay-intervals c = ?
+slice-aggregate-lay-intervals c = front-is 512 _ (c .before .before .before .before .pre .1)
 
 -- src/plan.rt:56:5
 lay-intervals-requires : tie.Need-lay-intervals-requires
-lay-intervals-requires c κs = ?
+lay-intervals-requires c κs = (c .before .before .before .before .before .pre .0, sym (front-is 512 _ (c .before .before .before .before .before .pre .1)), c .before .before .before .before .before .pre .1)
 
 -- src/plan.rt:51:1
 same-length : tie.Need-same-length

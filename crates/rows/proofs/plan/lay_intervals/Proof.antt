@@ -1,3 +1,5 @@
+-- `rows::plan::lay_intervals` meets its contract. Assumes nothing.
+use Rattle.rows.proofs.Layouts.{teams-for, rows-held}
 use borrow.Author.Needs.{needs}
 use Rattle.rows.proofs.plan.lay_intervals.Statement.{statement}
 use Rattle.rows.proofs.plan.lay_intervals.Tie as tie
@@ -13,7 +15,7 @@ order-teams-requires c κs = search needs
 
 -- src/plan.rt:46:9
 list-intervals-requires : tie.Need-list-intervals-requires
-list-intervals-requires c κs = ?
+list-intervals-requires c κs = (teams-for _ _ _ (c .before .before .before .before .before .before .before .before .before .before .pre .1) (c .before .before .before .before .order-teams .ensures), c .before .before .before .before .before .before .before .before .before .before .pre .0)
 
 -- src/plan.rt:47:5
 order-rows-requires : tie.Need-order-rows-requires
@@ -33,7 +35,7 @@ same-length-2 c = search needs
 
 -- src/plan.rt:35:1
 returns : tie.Need-returns
-returns c = ?
+returns c = rows-held _ _ _ (c .before .before .before .before .before .before .before .before .before .before .before .before .before .before .before .before .before .pre .0 .accepted) (c .before .before .before .before .before .before .list-intervals .ensures) (c .before .before .order-rows .ensures)
 
 pub lay-intervals-spec : {M : Type 1} → statement M
 lay-intervals-spec =

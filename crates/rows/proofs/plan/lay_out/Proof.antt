@@ -1,3 +1,7 @@
+-- `rows::plan::lay_out` meets its contract. Assumes nothing.
+use mathlib.Core.Path.{sym}
+use Rattle.bundle.proofs.CheckCases.{indexed-accepted, indexed-refused}
+use Rattle.rows.proofs.Layouts.{listable, few-regions, laid-out, laid-none}
 use borrow.Author.Needs.{needs}
 use Rattle.rows.proofs.plan.lay_out.Statement.{statement}
 use Rattle.rows.proofs.plan.lay_out.Tie as tie
@@ -16,11 +20,11 @@ enum-known-regions c = search needs
 
 -- src/plan.rt:70:40
 slice-aggregate-lay-accepted : tie.Need-slice-aggregate-lay-accepted
-slice-aggregate-lay-accepted c = ?
+slice-aggregate-lay-accepted c = sym ((indexed-accepted _ _ _ (c .before .before .before .before .index-bundle .ensures) (c .before .before .regions .given .1)) .fork-table)
 
 -- src/plan.rt:70:20
 lay-accepted-requires : tie.Need-lay-accepted-requires
-lay-accepted-requires c κs = ?
+lay-accepted-requires c κs = (listable (indexed-accepted _ _ _ (c .before .before .before .before .before .index-bundle .ensures) (c .before .before .before .regions .given .1)) _ (search needs), few-regions (indexed-accepted _ _ _ (c .before .before .before .before .before .index-bundle .ensures) (c .before .before .before .regions .given .1)))
 
 -- src/plan.rt:73:29
 enum-known-place : tie.Need-enum-known-place
@@ -28,11 +32,11 @@ enum-known-place c = search needs
 
 -- src/plan.rt:60:1
 returns : tie.Need-returns
-returns c = ?
+returns c = laid-out (indexed-accepted _ _ _ (c .before .before .before .before .before .before .index-bundle .ensures) (c .before .before .before .before .regions .given .1)) _ _ (c .lay-accepted .ensures)
 
 -- src/plan.rt:60:1
 returns-2 : tie.Need-returns-2
-returns-2 c = ?
+returns-2 c = laid-none _ _ _ _ (indexed-refused _ _ _ (c .before .before .before .index-bundle .ensures) (c .before .place .given .1))
 
 pub lay-out-spec : {M : Type 1} → statement M
 lay-out-spec =

@@ -1,3 +1,7 @@
+-- `rows::row::add_row` meets its contract. Assumes nothing.
+use native.Mathlib.Omega.{arith}
+use lib.ListN.{length-set}
+use Rattle.rows.proofs.SlotLaws.{row-added}
 use borrow.Author.Needs.{needs}
 use Rattle.rows.proofs.row.add_row.Statement.{statement}
 use Rattle.rows.proofs.row.add_row.Tie as tie
@@ -33,7 +37,7 @@ mul-words-2 c = search needs
 
 -- src/row.rt:100:5
 slice-write-words-2 : tie.Need-slice-write-words-2
-slice-write-words-2 c = ?
+slice-write-words-2 c = simp length-set (omega (arith, c .before .before .before .pre .0, c .before .before .before .pre .1))
 
 -- src/row.rt:101:24
 second-word-requires : tie.Need-second-word-requires
@@ -49,7 +53,7 @@ mul-words-3 c = search needs
 
 -- src/row.rt:101:5
 slice-write-words-3 : tie.Need-slice-write-words-3
-slice-write-words-3 c = ?
+slice-write-words-3 c = simp length-set (omega (arith, c .before .before .before .before .pre .0, c .before .before .before .before .pre .1))
 
 -- src/row.rt:93:1
 same-length : tie.Need-same-length
@@ -57,7 +61,7 @@ same-length c = search needs
 
 -- src/row.rt:93:1
 returns : tie.Need-returns
-returns c = ?
+returns c = row-added _ _ _ _ _ (c .before .before .before .before .pre .0) (c .before .before .before .before .pre .1) _ _ (c .before .before .name-word .ensures) (c .before .first-word .ensures) (c .second-word .ensures)
 
 pub add-row-spec : {M : Type 1} → statement M
 add-row-spec =

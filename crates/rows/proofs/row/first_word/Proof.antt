@@ -1,3 +1,5 @@
+-- `rows::row::first_word` meets its contract. Assumes nothing.
+use Rattle.rows.specs.Slots.{firstParts}
 use borrow.Author.Needs.{needs}
 use Rattle.rows.proofs.row.first_word.Statement.{statement}
 use Rattle.rows.proofs.row.first_word.Tie as tie
@@ -11,7 +13,8 @@ pack-requires c κs = search needs
 
 -- src/row.rt:67:1
 returns : tie.Need-returns
-returns c = ?
+unfolding firstParts
+returns c = search needs
 
 pub first-word-spec : {M : Type 1} → statement M
 first-word-spec = tie.close (tie.spec pack-requires returns)

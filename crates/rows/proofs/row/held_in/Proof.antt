@@ -1,3 +1,8 @@
+-- `rows::row::held_in` meets its contract. Assumes nothing.
+use Rattle.order.proofs.Climbs.{span-fits}
+use native.Mathlib.Nat.{mul-le-mul}
+use native.Mathlib.Omega.{arith}
+use Rattle.rows.specs.Slots.{heldIn, rowMade}
 use borrow.Author.Needs.{needs}
 use Rattle.rows.proofs.row.held_in.Statement.{statement}
 use Rattle.rows.proofs.row.held_in.Tie as tie
@@ -30,11 +35,11 @@ cast-t8 c = search needs
 
 -- src/row.rt:113:38
 mul-t9 : tie.Need-mul-t9
-mul-t9 c = ?
+mul-t9 c = record { fits = omega (arith, span-fits (c .before .before .before .before .before .before .args .one .third) (c .before .before .before .before .before .before .args .other .fifth) (search needs) (search needs)) }
 
 -- src/row.rt:113:17
 add-t10 : tie.Need-add-t10
-add-t10 c = ?
+add-t10 c = record { fits = omega (arith, span-fits (c .before .before .before .before .before .before .args .one .third) (c .before .before .before .before .before .before .args .other .fifth) (search needs) (search needs)) }
 
 -- src/row.rt:115:16
 cast-t11 : tie.Need-cast-t11
@@ -62,7 +67,8 @@ add-t16 c = search needs
 
 -- src/row.rt:105:1
 returns : tie.Need-returns
-returns c = ?
+unfolding heldIn rowMade
+returns c = search needs
 
 pub held-in-spec : {M : Type 1} → statement M
 held-in-spec =

@@ -1,3 +1,5 @@
+-- `rows::row::name_word` meets its contract. Assumes nothing.
+use Rattle.rows.specs.Slots.{nameWord}
 use borrow.Author.Needs.{needs}
 use Rattle.rows.proofs.row.name_word.Statement.{statement}
 use Rattle.rows.proofs.row.name_word.Tie as tie
@@ -30,7 +32,8 @@ add-result-2 c = search needs
 
 -- src/row.rt:59:1
 returns : tie.Need-returns
-returns c = ?
+unfolding nameWord
+returns c = search needs
 
 pub name-word-spec : {M : Type 1} → statement M
 name-word-spec =

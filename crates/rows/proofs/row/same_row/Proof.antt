@@ -1,3 +1,6 @@
+-- `rows::row::same_row` meets its contract. Assumes nothing.
+use borrow.Author.Needs.{needs}
+use Rattle.rows.specs.Rows.{sameRow}
 use Rattle.rows.proofs.row.same_row.Statement.{statement}
 use Rattle.rows.proofs.row.same_row.Tie as tie
 use Rattle.rows.proofs.row.same_row.Reads as reads
@@ -5,7 +8,8 @@ use Rattle.rows.proofs.row.same_row.Lts as lts
 
 -- src/row.rt:47:1
 returns : tie.Need-returns
-returns c = ?
+unfolding sameRow
+returns c = search needs
 
 pub same-row-spec : {M : Type 1} → statement M
 same-row-spec = tie.close (tie.spec returns)

@@ -1,3 +1,5 @@
+-- `rows::row::second_word` meets its contract. Assumes nothing.
+use Rattle.rows.specs.Slots.{secondParts}
 use borrow.Author.Needs.{needs}
 use Rattle.rows.proofs.row.second_word.Statement.{statement}
 use Rattle.rows.proofs.row.second_word.Tie as tie
@@ -19,7 +21,8 @@ pack-requires c κs = search needs
 
 -- src/row.rt:79:1
 returns : tie.Need-returns
-returns c = ?
+unfolding secondParts
+returns c = search needs
 
 pub second-word-spec : {M : Type 1} → statement M
 second-word-spec = tie.close (tie.spec cast-t3 cast-t5 pack-requires returns)
