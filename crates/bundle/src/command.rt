@@ -140,7 +140,7 @@ fn two_bytes(bytes: &[u8], at: usize) -> u16
 }
 
 // The number of four bytes at a position, low byte first.
-fn four_bytes(bytes: &[u8], at: usize) -> u32
+pub fn four_bytes(bytes: &[u8], at: usize) -> u32
     requires { ⌜ at + 4 ≤ length (now bytes) ⌝ }
     ensures { λ r. ⌜ r ≡ numberAt 4 (now (bytes .entry)) at ⌝ }
 {

@@ -44,7 +44,7 @@ pub rows-held :
     → Listed s n words
     → Sorted words after n
     → RowsHeld s n after
-rows-held s words after {n} a x y = record { rows = rows-laid s words n a x after y }
+rows-held s words after {n} a x y = record { few = x .few; rows = rows-laid s words n a x after y }
 
 -- by the index of an accepted bundle
 module _ {s chunks forks : List ℕ} {n m : ℕ} (k : Indexed s n m chunks forks) where
@@ -55,11 +55,11 @@ module _ {s chunks forks : List ℕ} {n m : ℕ} (k : Indexed s n m chunks forks
   few-regions = omega (arith, k .few)
 
   pub laid-out : (words : List ℕ) (count : ℕ) → RowsHeld s count words → LaidOut s (record { count = count; checking = Checks.Accepted }) words
-  laid-out words count h = record { checked = sym (k .accepted); rows = λ a. h .rows }
+  laid-out words count h = record { checked = sym (k .accepted); few = h .few; rows = λ a. h .rows }
 
 -- nothing is laid out of a bundle that is refused
 not-both : (s : List ℕ) {n p : ℕ} → checkOf s ≡ refuses n p → checkOf s ≡ gives tt → ⊥
 not-both s e a = let z : _≡_ {A = ℕ} 0 1 = cc in omega (arith, z)
 
 pub laid-none : (s words : List ℕ) (place : ℕ) (cause : Cause) → checkOf s ≡ refuses (numberOf cause) place → LaidOut s (record { count = 0; checking = Checks.Refused place cause }) words
-laid-none s words place cause e = record { checked = sym e; rows = λ a. absurd (not-both s e a) }
+laid-none s words place cause e = record { checked = sym e; few = omega arith; rows = λ a. absurd (not-both s e a) }

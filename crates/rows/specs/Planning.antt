@@ -21,11 +21,13 @@ use Rattle.rows.specs.declared.checker.RowChecking.the-variants as Check
 
 -- the words hold the records of an accepted bundle, in order
 pub record RowsHeld (s : List ℕ) (n : ℕ) (words : List ℕ) : Type 0 where
+  pub few : n ≤ 512
   pub rows : table (rowIn words) n ≡ rowsOf s
 
 -- the same of any bundle
 pub record LaidOut (s : List ℕ) (l : Layout) (words : List ℕ) : Type 0 where
   pub checked : checkingOf (l .checking) ≡ checkOf s
+  pub few : l .count ≤ 512
   pub rows : Accepted s → table (rowIn words) (l .count) ≡ rowsOf s
 
 -- the first n records of a lent list are those that the words hold

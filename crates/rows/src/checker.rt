@@ -22,7 +22,7 @@ pub enum RowChecking {
 }
 
 // How many records can be compared with so many given ones.
-fn least_of(layout: Layout, given: usize) -> usize
+pub(crate) fn least_of(layout: Layout, given: usize) -> usize
     ensures { λ r. ⌜ r ≡ comparable layout given ⌝ }
 {
     let count = layout.count;
@@ -33,7 +33,7 @@ fn least_of(layout: Layout, given: usize) -> usize
 }
 
 // How many records are the same from the front, after one more at index i.
-fn same_after(same: usize, i: usize, mine: Row, given: Row) -> usize
+pub(crate) fn same_after(same: usize, i: usize, mine: Row, given: Row) -> usize
     requires { ⌜ i + 1 < 2 ^ 64 ⌝ }
     ensures { λ r. ⌜ r ≡ sameAfter same i mine given ⌝ }
 {
@@ -43,7 +43,7 @@ fn same_after(same: usize, i: usize, mine: Row, given: Row) -> usize
     same
 }
 
-fn told_of(layout: Layout, same: usize, given: usize) -> RowChecking
+pub(crate) fn told_of(layout: Layout, same: usize, given: usize) -> RowChecking
     ensures { λ r. ⌜ r ≡ toldOf (layout .checking) (layout .count) same given ⌝ }
 {
     let count = layout.count;

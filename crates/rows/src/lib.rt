@@ -3,4 +3,5 @@ pub mod checker;
 pub mod export;
 mod pass;
 pub mod plan;
+pub mod records;
 pub mod row;

@@ -1,5 +1,5 @@
 // The text of the program racelist: each line put into a lent buffer.
 mod digits;
 pub mod lines;
-mod pieces;
+pub mod pieces;
 pub mod sides;

@@ -55,6 +55,25 @@ fn put_site(site: u32, line: &mut [u8; 96], at: usize) -> usize
     put_count(b" ", site as u64, line, at)
 }
 
+// A number of 32 bits in decimal, by way of an array of its own: no more room is asked than its 10 digits.
+pub fn put_number(number: u32, line: &mut [u8; 96], at: usize) -> usize
+    requires { ⌜ (at ≤ 86) × (length (now line) ≡ 96) ⌝ }
+    ensures { λ r. ⌜ Extended (now (line .entry)) (now (line .exit)) at r 10 (decimal number) ⌝ }
+{
+    let mut piece = [0u8; 96];
+    let size = digits::put_decimal(number as u64, &mut piece, 0);
+    put_word(&piece[..size], line, at)
+}
+
+// The same with a comma before it.
+pub fn put_column(number: u32, line: &mut [u8; 96], at: usize) -> usize
+    requires { ⌜ (at ≤ 85) × (length (now line) ≡ 96) ⌝ }
+    ensures { λ r. ⌜ Extended (now (line .entry)) (now (line .exit)) at r 11 (0x2c ∷ decimal number) ⌝ }
+{
+    line[at] = b',';
+    put_number(number, line, at + 1)
+}
+
 // A name and a site, each with a space before it.
 pub fn put_access(name: Name, site: u32, line: &mut [u8; 96], at: usize) -> usize
     requires { ⌜ (at ≤ 57) × (length (now line) ≡ 96) ⌝ }

@@ -1,10 +1,10 @@
--- `canon::print_refused` meets its contract. Assumes nothing.
+-- `telling::refusals::print_refused` meets its contract. Assumes nothing.
 use borrow.Author.Needs.{needs}
 use mathlib.Core.Path.{sym}
 use lib.Seq.{length-take-le}
 use Rattle.text.proofs.LineFits.{line-fits}
-use Rattle.canon.proofs.print_refused.Statement.{statement}
-use Rattle.canon.proofs.print_refused.Tie as tie
+use Rattle.telling.proofs.refusals.print_refused.Statement.{statement}
+use Rattle.telling.proofs.refusals.print_refused.Tie as tie
 
 array-share-prefix-line : tie.Need-array-share-prefix-line
 array-share-prefix-line c = line-fits _ _ _ (c .before .before .before .before .put-refused .ensures) (c .before .size .given .1)

@@ -1,11 +1,11 @@
--- `convert::same_word` meets its contract. The invariant: the bytes so far are the same. The measure: the bytes left. Assumes nothing.
+-- `telling::arguments::same_word` meets its contract. The invariant: the bytes so far are the same. The measure: the bytes left. Assumes nothing.
 use Prim.Native.Nat.{_-_}
 use native.Mathlib.Omega.{arith}
 use lib.ListN.{length}
 use borrow.Author.Needs.{needs}
-use Rattle.convert.proofs.SameWords.{unlike-lengths, SameTo, same-start, second-within, same-turn, same-differs, same-end}
-use Rattle.convert.proofs.same_word.Statement.{statement}
-use Rattle.convert.proofs.same_word.Tie as tie
+use Rattle.telling.proofs.SameWords.{unlike-lengths, SameTo, same-start, second-within, same-turn, same-differs, same-end}
+use Rattle.telling.proofs.arguments.same_word.Statement.{statement}
+use Rattle.telling.proofs.arguments.same_word.Tie as tie
 
 abbrev Inv-loop : tie.InvT-loop
 Inv-loop one other i₀ i = SameTo one other i

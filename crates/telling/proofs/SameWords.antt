@@ -8,7 +8,7 @@ use native.Mathlib.Numerals.{add-one}
 use lib.ListN.{length, getD, drop, drop-of-length-le}
 use lib.Dec.{eqb}
 use borrow.Author.Tests.{eq-eqb, ne-eqb}
-use Rattle.convert.specs.Words.{same}
+use Rattle.telling.specs.Words.{same}
 
 false-right : (t : Bool) → (t && false) ≡ false
 false-right true = refl
