@@ -82,7 +82,9 @@ typedef enum dezhakom_refusal {
     DEZHAKOM_PAST_END = 18,            /* the position is at or past the end; the position */
     DEZHAKOM_CUT_AHEAD = 19,           /* a cut chunk has more barriers than a complete member of its team; its offset */
     DEZHAKOM_OTHER_GROUP = 20,         /* an access is wide and the bundle's first narrow, or the other way round; its offset */
-    DEZHAKOM_SITE_TOO_LARGE = 21       /* a site over 65,535 where narrow ones are wanted; the access's offset; by no function here */
+    DEZHAKOM_SITE_TOO_LARGE = 21,      /* a site over 65,535 where narrow ones are wanted; the access's offset; by no function here */
+    DEZHAKOM_TOO_FEW_RECORDS = 22,     /* fewer records lent than a bundle has interval rows; 0; by no function here */
+    DEZHAKOM_WRONG_RECORD = 23         /* a missing, extra or differing interval row; its index; by no function here */
 } dezhakom_refusal;
 
 /* What comparing two labels answers: the first segment against the second. */

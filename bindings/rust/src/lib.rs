@@ -59,10 +59,14 @@ pub enum Cause {
     OtherGroup,
     /// Where a bundle is converted to narrow accesses; no function of this crate does so.
     SiteTooLarge,
+    /// Where interval rows are exported; no function of this crate does so.
+    TooFewRecords,
+    /// Where interval rows are checked; no function of this crate does so.
+    WrongRecord,
 }
 
 impl Cause {
-    const ALL: [Cause; 21] = [
+    const ALL: [Cause; 23] = [
         Cause::BundleTooLong,
         Cause::UnknownCommand,
         Cause::OperandsCutOff,
@@ -84,15 +88,17 @@ impl Cause {
         Cause::CutAhead,
         Cause::OtherGroup,
         Cause::SiteTooLarge,
+        Cause::TooFewRecords,
+        Cause::WrongRecord,
     ];
 
-    /// 1 to 21.
+    /// 1 to 23.
     pub fn number(self) -> u32 {
         self as u32
     }
 
     fn of(number: u32) -> Cause {
-        *Self::ALL.get((number as usize).wrapping_sub(1)).expect("a refusal from 1 to 21")
+        *Self::ALL.get((number as usize).wrapping_sub(1)).expect("a refusal from 1 to 23")
     }
 
     fn text(self) -> &'static str {
@@ -118,6 +124,8 @@ impl Cause {
             Cause::CutAhead => "a cut chunk has more barriers than a complete member of its team",
             Cause::OtherGroup => "an access is wide and the bundle's first narrow, or the other way round",
             Cause::SiteTooLarge => "a site over 65,535, which no narrow access has",
+            Cause::TooFewRecords => "too few records are lent",
+            Cause::WrongRecord => "a record is missing, extra or differing",
         }
     }
 }

@@ -1,15 +1,15 @@
 -- How long the lines are, by the widths of the numbers that they show. Assumes nothing.
-use mathlib.Core.Path.{_≡_, refl}
+use mathlib.Core.Path.{_≡_, refl, sym, subst}
 use mathlib.Core.List.{List, _++_}
 use Prim.Native.Nat.{ℕ, _+_, _≤_, _<_}
 use Prim.Native.String.{String}
 use native.Mathlib.Omega.{arith}
-use lib.ListN.{length, length-append}
+use lib.ListN.{length, take, length-append}
 use Rattle.verdict.specs.declared.race.Name.{Name}
 use Rattle.verdict.specs.declared.race.Race.{Race}
 use Rattle.text.specs.Digits.{ascii, decimal, hexadecimal, widthOf}
 use Rattle.text.specs.Lines.{lineEnd, nameText, countsLine, raceLine, pairsLine}
-use Rattle.text.specs.Inner.{accessText}
+use Rattle.text.specs.Inner.{Extended, accessText}
 use Rattle.text.proofs.Widths.{two, width-most}
 use Rattle.text.proofs.Reading.{length-digits}
 
@@ -82,3 +82,11 @@ counts-length chunks segments accesses c s a =
 pub pairs-length : (n : ℕ) → n < 4294967296 → Within 17 (pairsLine n)
 unfolding pairsLine
 pairs-length n h = word "pairs " 6 refl then long n h then end
+
+-- a number of 32 bits in an array of its own
+module _ {s t : List ℕ} {r most n : ℕ} (e : Extended s t 0 r most (decimal n)) (few : n < 4294967296) where
+  pub piece-text : take r t ≡ decimal n
+  piece-text = e .text
+
+  pub piece-short : length (take r t) ≤ 10
+  piece-short = subst (λ (xs : List ℕ). length xs ≤ 10) (sym piece-text) (long n few .most)
