@@ -12,3 +12,4 @@ pub mod Layouts
 pub mod Answers
 pub mod Filling
 pub mod Words
+pub mod Comparing
