@@ -13,3 +13,4 @@ pub mod Answers
 pub mod Filling
 pub mod Words
 pub mod Comparing
+pub mod IntervalSizes
