@@ -14,3 +14,4 @@ pub mod Filling
 pub mod Words
 pub mod Comparing
 pub mod IntervalSizes
+pub mod IntervalNumbers
