@@ -15,3 +15,4 @@ pub mod Words
 pub mod Comparing
 pub mod IntervalSizes
 pub mod IntervalNumbers
+pub mod IntervalStarts
