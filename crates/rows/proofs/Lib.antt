@@ -16,3 +16,4 @@ pub mod Comparing
 pub mod IntervalSizes
 pub mod IntervalNumbers
 pub mod IntervalStarts
+pub mod RowTheorem
