@@ -24,7 +24,8 @@ use Rattle.bundle.proofs.WalkLaws.{accepted-room}
 use Rattle.rows.specs.Rows.{pastOf, endsInterval, intervalsFrom, intervalsIn}
 use Rattle.rows.specs.Passing.{listed}
 
-abbrev bare : List Placed → List Command
+-- the commands alone
+abbrev pub bare : List Placed → List Command
 bare ps = map (λ (p : Placed). p .command) ps
 
 module _ (t m : ℕ) where

@@ -16,3 +16,8 @@ pub mod Counting
 pub mod MakesRow
 pub mod Words
 pub mod Laying
+pub mod Comparing
+pub mod IntervalSizes
+pub mod IntervalNumbers
+pub mod IntervalStarts
+pub mod RowTheorem
