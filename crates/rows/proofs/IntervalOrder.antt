@@ -105,7 +105,7 @@ from-at f i zero j d h = absurd (omega arith)
 from-at f i (suc k) zero d h = ap f (omega arith)
 from-at f i (suc k) (suc j) d h = from-at f (suc i) k j d (omega arith) ∙ ap f (omega arith)
 
-table-at : {A : Type 0} (f : ℕ → A) (n i : ℕ) (d : A) → i < n → getD (table f n) i d ≡ f i
+pub table-at : {A : Type 0} (f : ℕ → A) (n i : ℕ) (d : A) → i < n → getD (table f n) i d ≡ f i
 unfolding table
 table-at f n i d h = from-at f 0 n i d h ∙ ap f (omega arith)
 

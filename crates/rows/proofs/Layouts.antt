@@ -5,8 +5,9 @@ use mathlib.Core.Bool.{Bool}
 use mathlib.Core.List.{List, _++_}
 use native.Mathlib.Omega.{arith}
 use lib.ListN.{length, take, drop}
-use lib.Seq.{length-take-le}
+use lib.Seq.{length-take-le, length-front}
 use Rattle.sorting.specs.Order.{sorted, sorting}
+use Rattle.sorting.proofs.Insertion.{sorted-length}
 use Rattle.bundle.specs.Answer.{gives, refuses, numberOf}
 use Rattle.bundle.specs.Chunks.{chunksOf}
 use Rattle.bundle.specs.Walk.{forksOf}
@@ -44,7 +45,12 @@ pub rows-held :
     → Listed s n words
     → Sorted words after n
     → RowsHeld s n after
-rows-held s words after {n} a x y = record { few = x .few; rows = rows-laid s words n a x after y }
+rows-held s words after {n} a x y =
+    record {
+      few = x .few;
+      long = ap (λ (ws : List ℕ). length ws) (y .is) ∙ length-front words (sorted (take n words)) n (sorted-length (take n words)) ∙ x .long;
+      rows = rows-laid s words n a x after y;
+    }
 
 -- by the index of an accepted bundle
 module _ {s chunks forks : List ℕ} {n m : ℕ} (k : Indexed s n m chunks forks) where
@@ -55,11 +61,11 @@ module _ {s chunks forks : List ℕ} {n m : ℕ} (k : Indexed s n m chunks forks
   few-regions = omega (arith, k .few)
 
   pub laid-out : (words : List ℕ) (count : ℕ) → RowsHeld s count words → LaidOut s (record { count = count; checking = Checks.Accepted }) words
-  laid-out words count h = record { checked = sym (k .accepted); few = h .few; rows = λ a. h .rows }
+  laid-out words count h = record { checked = sym (k .accepted); few = h .few; long = λ a. h .long; rows = λ a. h .rows }
 
 -- nothing is laid out of a bundle that is refused
 not-both : (s : List ℕ) {n p : ℕ} → checkOf s ≡ refuses n p → checkOf s ≡ gives tt → ⊥
 not-both s e a = let z : _≡_ {A = ℕ} 0 1 = cc in omega (arith, z)
 
 pub laid-none : (s words : List ℕ) (place : ℕ) (cause : Cause) → checkOf s ≡ refuses (numberOf cause) place → LaidOut s (record { count = 0; checking = Checks.Refused place cause }) words
-laid-none s words place cause e = record { checked = sym e; few = omega arith; rows = λ a. absurd (not-both s e a) }
+laid-none s words place cause e = record { checked = sym e; few = omega arith; long = λ a. absurd (not-both s e a); rows = λ a. absurd (not-both s e a) }

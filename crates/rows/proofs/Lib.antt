@@ -15,6 +15,7 @@ pub mod Called
 pub mod Counting
 pub mod MakesRow
 pub mod Words
+pub mod RecordLaws
 pub mod Laying
 pub mod Comparing
 pub mod IntervalSizes

@@ -3,7 +3,7 @@ use Prim.Native.Nat.{ℕ, _+_, _≤_}
 use mathlib.Core.Path.{_≡_}
 use mathlib.Core.Bool.{Bool, cond, _&&_}
 use mathlib.Core.List.{List, _++_}
-use lib.ListN.{drop}
+use lib.ListN.{length, drop}
 use lib.Dec.{eqb, ltb}
 use Rattle.bundle.specs.Check.{checkOf, checkingOf, Accepted}
 use Rattle.bundle.specs.Index.{table}
@@ -22,12 +22,14 @@ use Rattle.rows.specs.declared.checker.RowChecking.the-variants as Check
 -- the words hold the records of an accepted bundle, in order
 pub record RowsHeld (s : List ℕ) (n : ℕ) (words : List ℕ) : Type 0 where
   pub few : n ≤ 512
+  pub long : length words ≡ 1536
   pub rows : table (rowIn words) n ≡ rowsOf s
 
 -- the same of any bundle
 pub record LaidOut (s : List ℕ) (l : Layout) (words : List ℕ) : Type 0 where
   pub checked : checkingOf (l .checking) ≡ checkOf s
   pub few : l .count ≤ 512
+  pub long : Accepted s → length words ≡ 1536
   pub rows : Accepted s → table (rowIn words) (l .count) ≡ rowsOf s
 
 -- the first n records of a lent list are those that the words hold

@@ -7,6 +7,7 @@ use crate::plan::lay_out;
 use crate::row::ROW_WORDS;
 use crate::row::Row;
 use crate::row::row_at;
+use bundle::answer::Checking;
 use bundle::command::four_bytes;
 ghost use mathlib.Core.Path.{_≡_};
 ghost use Prim.Native.Nat.{_+_, _*_, _≤_};
@@ -56,7 +57,13 @@ pub fn check_records(bytes: &[u8], given: &[u8]) -> RowChecking
 {
     let mut words = [0u64; ROW_WORDS];
     let layout = lay_out(bytes, &mut words);
-    let records = given.len() / RECORD_BYTES;
-    let same = count_given(&words, least_of(layout, records), given);
-    told_of(layout, same, records)
+    let checking = layout.checking;
+    match checking {
+        Checking::Accepted => {
+            let records = given.len() / RECORD_BYTES;
+            let same = count_given(&words, least_of(layout, records), given);
+            told_of(layout, same, records)
+        }
+        Checking::Refused { place, cause } => RowChecking::Refused { place, cause },
+    }
 }
