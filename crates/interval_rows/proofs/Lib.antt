@@ -1,0 +1,2 @@
+-- Laws over the definitions.
+pub mod Texts

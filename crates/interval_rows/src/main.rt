@@ -47,26 +47,36 @@ fn print_checked(bytes: &[u8], given: &[u8]) {
     }
 }
 
-// Whether so many bytes are the length of a bundle, that bundle, and whole records.
-fn is_whole(size: usize, length: usize) -> bool {
-    if size < 4 {
-        return false;
+fn print_unlike() {
+    io::write_all(
+        STDERR_FILENO,
+        b"interval_rows: not a bundle and records\n",
+    );
+}
+
+// The length of a bundle, that bundle, and whole records; or something else.
+fn check_bytes(input: &[u8]) {
+    if input.len() < 4 {
+        print_unlike();
+        return;
     }
-    if (MOST_BYTES + 1 < length) | (size - 4 < length) {
-        return false;
+    let length = four_bytes(input, 0) as usize;
+    let rest = input.len() - 4;
+    if rest < length {
+        print_unlike();
+        return;
     }
-    (size - 4 - length) % RECORD_BYTES == 0
+    if (MOST_BYTES + 1 < length) | ((rest - length) % RECORD_BYTES != 0) {
+        print_unlike();
+        return;
+    }
+    print_checked(&input[4..4 + length], &input[4 + length..]);
 }
 
 fn check_input() {
     let mut input = [0u8; CHECK_BYTES];
     let size = io::read_full(STDIN_FILENO, &mut input);
-    let length = four_bytes(&input, 0) as usize;
-    if is_whole(size, length) {
-        print_checked(&input[4..4 + length], &input[4 + length..size]);
-        return;
-    }
-    io::write_all(STDERR_FILENO, b"interval_rows: not a bundle and records\n");
+    check_bytes(&input[..size]);
 }
 
 fn main() {
