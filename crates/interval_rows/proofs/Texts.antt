@@ -21,9 +21,11 @@ use Rattle.rows.specs.Slots.{rowIn}
 use Rattle.rows.specs.Planning.{LaidOut}
 use Rattle.rows.specs.declared.row.Row.{Row}
 use Rattle.rows.specs.declared.plan.Layout.{Layout}
+use Rattle.rows.specs.declared.export.Exporting.{Exporting}
+use Rattle.rows.specs.declared.export.Exporting.the-variants as Exportings
 use Rattle.rows.proofs.RecordLaws.{accepted-by}
 use Rattle.interval_rows.specs.Lines.{headingLine, rowLine, csvText}
-use Rattle.interval_rows.specs.Printing.{AsText}
+use Rattle.interval_rows.specs.Printing.{AsText, Printed}
 
 -- a line that was made in an array, copied behind what is there
 module _ {s t : List ℕ} {size : ℕ} {line : List ℕ} (made : Extended s t 0 size 88 line) (long : length s ≡ 96) where
@@ -97,3 +99,7 @@ as-text s words l before buffer size x e long p =
 
 pub refused-as : (s words : List ℕ) (l : Layout) {place : ℕ} {cause : Cause} → LaidOut s l words → l .checking ≡ Checks.Refused place cause → checkOf s ≡ refuses (numberOf cause) place
 refused-as s words l x e = sym (x .checked) ∙ ap checkingOf e
+
+-- what was written lies in the buffer
+pub printed-fits : (s buffer : List ℕ) (r : Exporting) {size : ℕ} → Printed s r buffer → r ≡ Exportings.Written size → size ≤ length buffer
+printed-fits s buffer r p e = subst (λ (x : Exporting). Printed s x buffer) e p .fits

@@ -1,47 +1,30 @@
+-- `interval_rows::csv::fill_csv` meets its contract. Assumes nothing.
+use mathlib.Core.Path.{sym}
 use borrow.Author.Needs.{needs}
+use Rattle.rows.proofs.RecordLaws.{accepted-by}
+use Rattle.interval_rows.proofs.Texts.{as-text, refused-as}
 use Rattle.interval_rows.proofs.csv.fill_csv.Statement.{statement}
 use Rattle.interval_rows.proofs.csv.fill_csv.Tie as tie
-use Rattle.interval_rows.proofs.csv.fill_csv.Reads as reads
-use Rattle.interval_rows.proofs.csv.fill_csv.Lts as lts
-use Rattle.interval_rows.proofs.csv.put_csv.Reads as put-csv-reads
-use Rattle.rows.proofs.plan.lay_out.Reads as lay-out-reads
 
--- src/csv.rt:39:9
-lay-out-requires : tie.Need-lay-out-requires
-lay-out-requires c κs = search needs
-
--- src/csv.rt:43:28
-enum-told : tie.Need-enum-told
-enum-told c = search needs
-
--- src/csv.rt:43:28
 slice-aggregate-put-csv : tie.Need-slice-aggregate-put-csv
-slice-aggregate-put-csv c = ?
+slice-aggregate-put-csv c =
+    let laid = c .before .before .before .lay-out in
+    sym (laid .ensures .long (accepted-by _ _ _ (laid .ensures) (c .before .enum-told .given .1)))
 
--- src/csv.rt:43:20
-put-csv-requires : tie.Need-put-csv-requires
-put-csv-requires c κs = search needs
-
--- src/csv.rt:45:29
-enum-known-checking : tie.Need-enum-known-checking
-enum-known-checking c = search needs
-
--- src/csv.rt:35:1
 returns : tie.Need-returns
-returns c = ?
+returns c = as-text _ _ _ _ _ _ (c .before .before .before .before .before .lay-out .ensures) (c .before .before .before .enum-told .given .1) (search needs) (c .put-csv .ensures)
 
--- src/csv.rt:35:1
 returns-2 : tie.Need-returns-2
-returns-2 c = ?
+returns-2 c = refused-as _ _ _ (c .before .before .before .lay-out .ensures) (c .before .checking .given .1)
 
 pub fill-csv-spec : {M : Type 1} → statement M
 fill-csv-spec =
     tie.close
     (tie.spec
-    lay-out-requires
-    enum-told
+    (λ c κs. search needs)
+    (λ c. search needs)
     slice-aggregate-put-csv
-    put-csv-requires
-    enum-known-checking
+    (λ c κs. search needs)
+    (λ c. search needs)
     returns
     returns-2)
