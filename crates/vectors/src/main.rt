@@ -3,6 +3,7 @@
 // A frame is an operation (1 byte), the length of the body (4 bytes, low byte first), and the body.
 mod bundles;
 mod commands;
+mod intervals;
 mod judgements;
 mod numbers;
 mod orders;
@@ -24,6 +25,8 @@ fn answer(operation: u8, body: &mut [u8]) -> bool {
         8 => judgements::judge(body),
         9 => judgements::next(body),
         12..=14 => rewriting::fill(operation, body),
+        15 => intervals::export(body),
+        16 => intervals::check(body),
         _ => false,
     }
 }

@@ -25,6 +25,12 @@ pub fn put_dotted(number: u64) {
     io::print_decimal(STDOUT_FILENO, number);
 }
 
+// A comma, and the number.
+pub fn put_after_comma(number: u64) {
+    put_text(b",");
+    io::print_decimal(STDOUT_FILENO, number);
+}
+
 fn put_hex_byte(byte: u8) {
     io::print_hex(STDOUT_FILENO, byte as u64, 2);
 }
