@@ -24,7 +24,7 @@
 extern "C" {
 #endif
 
-#define DEZHAKOM_VERSION "0.4.0"
+#define DEZHAKOM_VERSION "0.5.0"
 
 /* The bytes of the commands. */
 #define DEZHAKOM_MEMBER 0x01       /* team, member: opens a chunk, the whole log of one member of a team */

@@ -48,10 +48,7 @@ fn print_checked(bytes: &[u8], given: &[u8]) {
 }
 
 fn print_unlike() {
-    io::write_all(
-        STDERR_FILENO,
-        b"interval_rows: not a bundle and records\n",
-    );
+    io::write_all(STDERR_FILENO, b"interval_rows: not a bundle and records\n");
 }
 
 // The length of a bundle, that bundle, and whole records; or something else.

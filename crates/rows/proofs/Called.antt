@@ -1,4 +1,5 @@
 -- What a walk by hand has once a callee has returned the machine value v.
+
 --     Answer           by the callee's contract: its tokens, a result r with what it owns, and last values us of which `last us` is said, with φ r us
 --     answered         it is taken apart, with r's relation in hand.        answered-plain       the same of a callee with no lifetime and no last value
 -- Assumes `Given`.

@@ -1,4 +1,5 @@
 -- A loop that counts from 0 up to n, by `Sound/Loop.antt`'s `loop-rule`: `At i` is what is had before the turn with i.
+
 --     counts-up    a turn below n goes from `At i` to `At (i + 1)`, and the turn at n leaves the loop: so the loop runs from `At 0`
 -- Assumes `Given`.
 use mathlib.Core.Path.{_≡_, subst}

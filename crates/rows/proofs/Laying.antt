@@ -1,4 +1,5 @@
 -- The call of `lay_out` in a walk by hand.
+
 --     lays-out     from n zeros in a local, the bytes and their token: the local is lent for a new lifetime, and taken back once the call has returned a layout. It then holds the words that `lay_out` left
 --     with-number  what a function of a layout and a number asks
 -- Assumes `Given`, and that the table's entry meets `lay_out`'s contract.

@@ -22,3 +22,4 @@ pub mod IntervalSizes
 pub mod IntervalNumbers
 pub mod IntervalStarts
 pub mod RowTheorem
+pub mod RowExamples

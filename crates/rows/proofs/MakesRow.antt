@@ -1,4 +1,5 @@
 -- The call of `row_at` in a walk by hand.
+
 --     makes-row    from the words and their token: the record r of place i is returned, and the words and the token are there again
 -- Assumes `Given`, and that the table's entry meets `row_at`'s contract.
 use mathlib.Core.Path.{_≡_, refl}

@@ -1,4 +1,5 @@
 -- The words that hold records, an array in a local: made, lent whole, taken back, lent as a slice, and freed.
+
 --     zeros-val, zeros-typed, zeros-own    the machine value of n zeros, its type, and what the array owns
 --     laid         the local's cell, with what the array owns, is the array in memory
 --     as-slice     the words are lent as a slice for a new lifetime β.        words-back      β is ended, and what was lent is room for the array again

@@ -25,11 +25,11 @@ pub enum RowChecking {
 pub(crate) fn least_of(layout: Layout, given: usize) -> usize
     ensures { λ r. ⌜ r ≡ comparable layout given ⌝ }
 {
-    let count = layout.count;
-    if given < count {
+    let all = layout.count;
+    if given < all {
         return given;
     }
-    count
+    all
 }
 
 // How many records are the same from the front, after one more at index i.

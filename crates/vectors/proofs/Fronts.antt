@@ -1,4 +1,5 @@
 -- The first k of the elements xs of an array in a local l, lent as a slice, and taken back.
+
 --     front-out        the array's cell, with what it owns, is the first k elements in memory and the rest.        front-in        as many others, with the rest, are the array again
 --     lends-front      the elements ys are lent as a `&mut` slice for a new lifetime.        front-back      it is ended, and the elements are back at the slice's last ones
 --     shares-front     the same as a `&` slice.        shared-back      it is ended, and the elements are back as they were

@@ -1,4 +1,5 @@
 -- The lists of 520 records that the walks by hand pass by value.
+
 --     list-val, list-tells     the machine value of a list.        list-long, list-typed      its length, and the value's type
 --     front-long, front-room   a list's first k records are k, and they have room as a slice
 -- `list-typed` assumes `Given`, the rest nothing.
