@@ -189,6 +189,7 @@ module _ {s : List ℕ} {fs : List Fork} {c : Course} {words : List ℕ} (x : Ru
               record {
                 few = room q;
                 interval = omega (arith, x .near .interval, x .short, more .0, more .1);
+                regions = omega (arith, x .near .regions, x .short, more .0, more .1);
                 joined = omega (arith, x .near .joined, x .short, more .0, more .1);
                 begin = omega (arith, x .near .begin, x .short, more .0, more .1);
                 ordered = omega (arith, x .near .begin, more .0);

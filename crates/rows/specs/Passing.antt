@@ -104,6 +104,7 @@ slotsHere c command next = cond (endsInterval command) (slotMade (c .team) (span
 pub record Closable (c : Course) (next : ℕ) : Type 0 where
   pub few : c .count < 512
   pub interval : c .interval < 65536
+  pub regions : c .regions < 65536
   pub joined : c .joined < 65536
   pub begin : c .begin < 65536
   pub ordered : c .begin ≤ next
