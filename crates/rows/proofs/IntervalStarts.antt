@@ -5,7 +5,7 @@ use mathlib.Core.Logic.{⊎-elim}
 use mathlib.Core.Bool.{true}
 use mathlib.Core.List.{List, [], _∷_, List·Memᴰ, List·Memᴰ·head, List·Memᴰ·tail, List·Memᴰ·not-nil, List·Memᴰ·cases-cons}
 use native.Mathlib.Omega.{arith}
-use lib.ListN.{length}
+use lib.ListN.{length, getD}
 use Rattle.bundle.specs.Lists.{concatMap}
 use Rattle.bundle.specs.Commands.{bytesOf}
 use Rattle.bundle.specs.Chunks.{Placed, Chunk, fresh, afterBarrier, afterJoin, afterAcquire, afterRelease, afterCommand}
@@ -16,8 +16,9 @@ use Rattle.bundle.specs.declared.command.Command.the-variants as Com
 use Rattle.bundle.proofs.Tests.{false-is-true}
 use Rattle.bundle.proofs.Delimiters.{plain, closes}
 use Rattle.bundle.proofs.Gathering.{Body, ends, goes, Formed}
-use Rattle.rows.specs.Rows.{Interval, pastOf, endsInterval, intervalsFrom, intervalsIn}
+use Rattle.rows.specs.Rows.{Interval, pastOf, endsInterval, intervalsFrom, intervalsIn, intervalName}
 use Rattle.rows.specs.RowLaws.{StartsAs}
+use Rattle.rows.proofs.IntervalNames.{chunk-runs, run-names}
 
 -- every opening opens a segment
 record Opens (o : Opening) (ss : List Segment) : Type 0 where
@@ -135,7 +136,10 @@ starts-segment c f i l =
     (λ o h. List·Memᴰ·tail h) i l
     in
     let r = opens-one (c .team) (c .member) 0 first os (s .opening) (s .present) in
+    let name = run-names (chunk-runs c f) (unfold intervalsIn entriesOf fresh in l) .key in
     record {
+      team = unfold intervalName in (ap (λ (ns : List ℕ). getD ns 0 0) name);
+      member = unfold intervalName in (ap (λ (ns : List ℕ). getD ns 1 0) name);
       segment = r .segment;
       present = r .present;
       state = r .state ∙ s .state;

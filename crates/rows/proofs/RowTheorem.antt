@@ -14,7 +14,7 @@ use Rattle.rows.specs.RowLaws.{RowLaws}
 use Rattle.rows.specs.Passing.{listed}
 use Rattle.rows.specs.declared.row.Row.{Row}
 use Rattle.rows.proofs.IntervalNames.{names-distinct}
-use Rattle.rows.proofs.IntervalSizes.{sizes-add-up}
+use Rattle.rows.proofs.IntervalSizes.{sizes-add-up, chunks-tiled}
 use Rattle.rows.proofs.IntervalNumbers.{name-of-chunk, name-in-bundle}
 use Rattle.rows.proofs.IntervalStarts.{starts-segment}
 use Rattle.rows.proofs.Comparing.{first-other, compared-other, compared-gives, compared-itself}
@@ -43,6 +43,7 @@ pub row-laws : RowLaws
 row-laws b bytes a =
     record {
       sizes = sizes-add-up b bytes a;
+      tiles = chunks-tiled b bytes a;
       by-name = in-order b a;
       each-interval = λ name. (name-of-chunk b a name, name-in-bundle b a name);
       starts = λ c m. starts-segment c (legible b a .formed c m);

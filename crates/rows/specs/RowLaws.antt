@@ -15,6 +15,11 @@ use Rattle.rewrite.specs.FixedOrder.{Ascending}
 use Rattle.rows.specs.Rows.{Interval, intervalsIn, intervalName, intervalsOf, rowsOf, exportOf, checkRowsOf, sameRow, agreeing}
 use Rattle.rows.specs.declared.row.Row.{Row}
 
+-- intervals whose data follow each other without a gap, from an offset to another, none of them empty
+pub data Tiling : ℕ → ℕ → List Interval → Type 0 where
+  tiling-none : {at : ℕ} → Tiling at at []
+  tiling-more : {to : ℕ} {i : Interval} {is : List Interval} → i .begin < i .past → Tiling (i .past) to is → Tiling (i .begin) to (i ∷ is)
+
 -- an interval of a chunk, by its number
 pub record OfChunk (b : List ℕ) (name : List ℕ) : Type 0 where
   pub chunk : Chunk
@@ -25,6 +30,8 @@ pub record OfChunk (b : List ℕ) (name : List ℕ) : Type 0 where
 
 -- the segment that MEMBER or BARRIER opens where an interval starts
 pub record StartsAs (c : Chunk) (i : Interval) : Type 0 where
+  pub team : i .team ≡ c .team
+  pub member : i .member ≡ c .member
   pub segment : Segment
   pub present : List·Memᴰ segment (segmentsIn c)
   pub state : segment .state ≡ i .state
@@ -41,6 +48,8 @@ pub record FirstOther (rows given : List Row) (n : ℕ) : Type 0 where
 pub record Rows (b : List ℕ) : Type 0 where
   -- "All sizes add up to the bundle's length less 4 times its chunks"
   pub sizes : total (λ (r : Row). r .size) (rowsOf b) + 4 * length (chunksOf b) ≡ length b
+  -- data: behind its MEMBER, of 4 bytes, a chunk is the data of its intervals
+  pub tiles : (c : Chunk) → List·Memᴰ c (chunksOf b) → Tiling (c .place + 4) (c .past) (intervalsIn c)
   -- "Records go by team, member, interval", "one record for each barrier interval"
   pub by-name : Ascending (map intervalName (intervalsOf b))
   pub each-interval : (name : List ℕ) → List·Memᴰ name (map intervalName (intervalsOf b)) ↔ OfChunk b name
