@@ -3,15 +3,11 @@ use borrow.Author.Tests.{lt-ltb, le-ltb}
 use Rattle.rows.specs.Planning.{comparable}
 use Rattle.rows.proofs.checker.least_of.Statement.{statement}
 use Rattle.rows.proofs.checker.least_of.Tie as tie
-use Rattle.rows.proofs.checker.least_of.Reads as reads
-use Rattle.rows.proofs.checker.least_of.Lts as lts
 
--- src/checker.rt:30:9
 returns : tie.Need-returns
 unfolding comparable
 returns c = simp (lt-ltb _ _ (c .if1 .taken))
 
--- src/checker.rt:25:1
 returns-2 : tie.Need-returns-2
 unfolding comparable
 returns-2 c = simp (le-ltb _ _ (c .if1 .left))

@@ -3,10 +3,7 @@ use borrow.Author.Needs.{needs}
 use Rattle.rows.specs.Passing.{beginning}
 use Rattle.rows.proofs.pass.begin.Statement.{statement}
 use Rattle.rows.proofs.pass.begin.Tie as tie
-use Rattle.rows.proofs.pass.begin.Reads as reads
-use Rattle.rows.proofs.pass.begin.Lts as lts
 
--- src/pass.rt:75:1
 returns : tie.Need-returns
 unfolding beginning
 returns c = search needs

@@ -3,10 +3,7 @@ use borrow.Author.Needs.{needs}
 use Rattle.rows.specs.Passing.{movedOn}
 use Rattle.rows.proofs.pass.move_on.Statement.{statement}
 use Rattle.rows.proofs.pass.move_on.Tie as tie
-use Rattle.rows.proofs.pass.move_on.Reads as reads
-use Rattle.rows.proofs.pass.move_on.Lts as lts
 
--- src/pass.rt:122:1
 returns : tie.Need-returns
 unfolding movedOn
 returns c = search needs

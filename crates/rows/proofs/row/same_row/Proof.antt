@@ -3,10 +3,7 @@ use borrow.Author.Needs.{needs}
 use Rattle.rows.specs.Rows.{sameRow}
 use Rattle.rows.proofs.row.same_row.Statement.{statement}
 use Rattle.rows.proofs.row.same_row.Tie as tie
-use Rattle.rows.proofs.row.same_row.Reads as reads
-use Rattle.rows.proofs.row.same_row.Lts as lts
 
--- src/row.rt:47:1
 returns : tie.Need-returns
 unfolding sameRow
 returns c = search needs
