@@ -8,8 +8,8 @@ fn stored(name: &str) -> Vec<u8> {
     std::fs::read(&path).unwrap_or_else(|error| panic!("{}: {error}", path.display()))
 }
 
-/// The operations of frames that are not for the library: REWRITE, TO_WIDE, TO_NARROW.
-const REWRITING: std::ops::RangeInclusive<u64> = 12..=14;
+/// The operations of frames that are not for the library: REWRITE, TO_WIDE, TO_NARROW, ROWS, CHECK ROWS.
+const NOT_IN_LIBRARY: std::ops::RangeInclusive<u64> = 12..=16;
 
 /// Takes fields off the front of a frame's body.
 struct Body<'a>(&'a [u8]);
@@ -196,7 +196,7 @@ fn stored_frames() {
     for wanted in wanted.lines() {
         let (operation, length) = (frames.number(1), frames.number(4) as usize);
         let body = frames.take(length);
-        if REWRITING.contains(&operation) {
+        if NOT_IN_LIBRARY.contains(&operation) {
             continue;
         }
         let given = answer(operation, Body(body)).unwrap_or_else(refusal_text);
