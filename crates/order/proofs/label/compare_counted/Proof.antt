@@ -22,7 +22,7 @@ loop-holds : tie.Need-loop-holds Inv-loop μ-loop
 loop-holds c = (search needs, refl)
 
 returns : tie.Need-returns Inv-loop μ-loop
-unfolding counted
+unfolding counted compareFrom
 returns c =
     let start = c .before .before .before .before .before .before .before in
     let turn = c .before .before .loop in
@@ -63,14 +63,14 @@ loop-again c =
     )
 
 returns-3 : tie.Need-returns-3 Inv-loop μ-loop
-unfolding counted
+unfolding counted compareFrom
 returns-3 c =
     let start = c .before .before .before .before .before .before .before in
     let turn = c .before .before .loop in
     sym (first-ends (turn .number) (start .args .first) (start .args .second) (search needs) (search needs) (room (start .args .second) (start .pre .1) _ (start .good .1 .0))) ∙ turn .inv .1
 
 returns-4 : tie.Need-returns-4 Inv-loop μ-loop
-unfolding counted
+unfolding counted compareFrom
 returns-4 c =
     let start = c .before .before .before .before .before .before .before in
     let turn = c .before .before .loop in
