@@ -40,6 +40,14 @@ member 1 0; write 10 4096 8 2 4; cut
 member 1 1; barrier; read 20 4106 0 1 4; cut
 """
 
+# Member 0 of a team of two forks a team of one. Its two segments are concurrent with member 1's, and the first is before the second.
+NESTED_PAIR = """
+member 0 0; region 1 2; end
+member 1 0; region 2 1; end
+member 1 1; end
+member 2 0; end
+"""
+
 ACCESS = "read 1 0 0 1 1"
 FULL_BYTES = "member 0 0; times 3 barrier; times 16382 acquire 1, release 1"  # 65,535 bytes
 CHAIN_4 = """

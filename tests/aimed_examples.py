@@ -27,6 +27,8 @@ use Rattle.order.specs.declared.label.Order.{Order}
 use Rattle.order.specs.declared.label.Order.the-variants as Ord
 use Rattle.order.specs.declared.range.Overlap.{Overlap}
 use Rattle.verdict.specs.Accesses.{keyOf}
+use Rattle.verdict.specs.Graph.{Node}
+use Rattle.verdict.specs.SegmentOrder.{orderIn}
 use Rattle.verdict.specs.Judge.{judgeOf, raceAbove, nextOf}
 use Rattle.verdict.specs.Table.{triple, range}
 use Rattle.verdict.specs.declared.race.Name.{Name}
@@ -46,6 +48,9 @@ row g w = record { given = g; wanted = w }
 
 unfoldable pub name : ℕ → ℕ → ℕ → Name
 name t m n = record { team = t; member = m; number = n }
+
+unfoldable pub node : ℕ → ℕ → ℕ → Node
+node t m n = record { team = t; member = m; number = n }
 
 unfoldable pub label : ℕ → List Triple → Label
 label count triples = record { count = count; triples = triples }
@@ -118,6 +123,18 @@ def comparison_rows():
         yield f"(compareOf {label_term(first)} {label_term(second)})", wanted
 
 
+def order(data, first, second):
+    """The order of two segments: their labels, compared."""
+    return sr.compare_labels(*((len(triples), triples) for triples in (sr.label_of(data, *segment) for segment in (first, second))))
+
+
+def order_rows():
+    for data, *segments in example_cases.ORDERED:
+        wanted = answer_term(lambda order: f"Ord.{order.capitalize()}", order, data, *segments)
+        nodes = " ".join(f"(node {' '.join(map(str, segment))})" for segment in segments)
+        yield f"(orderIn {bytes_term(data)} {nodes})", wanted
+
+
 def share_rows():
     for first, second in example_cases.SHARED:
         wanted = answer_term(overlap_term, sr.lowest_shared_byte, sr.Range(*first), sr.Range(*second))
@@ -169,6 +186,7 @@ def text():
         table("the same with cut chunks", "cut-checks", "Answer (Unit {0})", check_rows(True)),
         table("labels of segments", "labels", "Answer (List Triple)", label_rows()),
         table("comparisons of labels, both ways", "comparisons", "Answer Order", comparison_rows()),
+        table("segments compared by their labels: concurrent is not transitive; cut chunks", "orders", "Answer Order", order_rows(), "node "),
         table("the lowest shared byte of two ranges, and the lowest element of each that covers it", "shares",
               "Answer (Option Overlap)", share_rows(), "overlap "),
         "-- the races of five bundles; small-bundles has the bundles\n" + "".join(race_lists())

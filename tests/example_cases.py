@@ -129,6 +129,16 @@ COMPARED = [
     (label(ROOT, (0, 2, 0), (0, 65, 0)), label(ROOT, (0, 3, 0))),
 ]
 
+# ----------------------------------------------- comparisons of segments (A.8)
+
+# Of NESTED_PAIR: concurrent is not transitive; a proper prefix. Of STOPPED: barriers that cut chunks lack. The last one is not there.
+PAIR, STOPPED = bundle(aimed_cases.NESTED_PAIR), bundle(aimed_cases.STOPPED)
+ORDERED = [
+    *[(PAIR, *pair) for pair in (((1, 0, 0), (1, 1, 0)), ((1, 1, 0), (1, 0, 1)), ((1, 0, 0), (1, 0, 1)), ((0, 0, 0), (2, 0, 0)))],
+    *[(STOPPED, *pair) for pair in (((1, 1, 0), (1, 0, 1)), ((2, 1, 0), (2, 0, 1)), ((1, 1, 0), (1, 0, 0)))],
+    (PAIR, (1, 0, 0), (1, 0, 2)),
+]
+
 # ------------------------------------------------------------ shared bytes
 
 GOOD_RANGE = (0, 0, 1, 1)

@@ -18,6 +18,8 @@ use Rattle.order.specs.declared.label.Order.{Order}
 use Rattle.order.specs.declared.label.Order.the-variants as Ord
 use Rattle.order.specs.declared.range.Overlap.{Overlap}
 use Rattle.verdict.specs.Accesses.{keyOf}
+use Rattle.verdict.specs.Graph.{Node}
+use Rattle.verdict.specs.SegmentOrder.{orderIn}
 use Rattle.verdict.specs.Judge.{judgeOf, raceAbove, nextOf}
 use Rattle.verdict.specs.Table.{triple, range}
 use Rattle.verdict.specs.declared.race.Name.{Name}
@@ -37,6 +39,9 @@ row g w = record { given = g; wanted = w }
 
 unfoldable pub name : ℕ → ℕ → ℕ → Name
 name t m n = record { team = t; member = m; number = n }
+
+unfoldable pub node : ℕ → ℕ → ℕ → Node
+node t m n = record { team = t; member = m; number = n }
 
 unfoldable pub label : ℕ → List Triple → Label
 label count triples = record { count = count; triples = triples }
@@ -413,6 +418,23 @@ comparisons =
 pub comparisons-agree : map (λ (r : AimedExample (Answer Order)). r .given) comparisons ≡ map (λ (r : AimedExample (Answer Order)). r .wanted) comparisons
 unfolding verdict-computes bytes race row name label comparisons
 comparisons-agree = refl
+
+-- segments compared by their labels: concurrent is not transitive; cut chunks
+unfoldable pub orders : List (AimedExample (Answer Order))
+orders =
+    row (orderIn (bytes 28 0x01000000100100020201010000100200010201010001020102000002) (node 1 0 0) (node 1 1 0)) (gives Ord.Concurrent) ∷
+    row (orderIn (bytes 28 0x01000000100100020201010000100200010201010001020102000002) (node 1 1 0) (node 1 0 1)) (gives Ord.Concurrent) ∷
+    row (orderIn (bytes 28 0x01000000100100020201010000100200010201010001020102000002) (node 1 0 0) (node 1 0 1)) (gives Ord.Before) ∷
+    row (orderIn (bytes 28 0x01000000100100020201010000100200010201010001020102000002) (node 0 0 0) (node 2 0 0)) (gives Ord.Before) ∷
+    row (orderIn (bytes 46 0x01000000100100020301010000111004000110020002030101000103010400000201020000110301020001200303) (node 1 1 0) (node 1 0 1)) (gives Ord.Before) ∷
+    row (orderIn (bytes 46 0x01000000100100020301010000111004000110020002030101000103010400000201020000110301020001200303) (node 2 1 0) (node 2 0 1)) (gives Ord.Before) ∷
+    row (orderIn (bytes 46 0x01000000100100020301010000111004000110020002030101000103010400000201020000110301020001200303) (node 1 1 0) (node 1 0 0)) (gives Ord.Concurrent) ∷
+    row (orderIn (bytes 28 0x01000000100100020201010000100200010201010001020102000002) (node 1 0 0) (node 1 0 2)) (refuses 14 0) ∷
+    []
+
+pub orders-agree : map (λ (r : AimedExample (Answer Order)). r .given) orders ≡ map (λ (r : AimedExample (Answer Order)). r .wanted) orders
+unfolding verdict-computes bytes race row name label node orders
+orders-agree = refl
 
 -- the lowest shared byte of two ranges, and the lowest element of each that covers it
 unfoldable pub shares : List (AimedExample (Answer (Option Overlap)))

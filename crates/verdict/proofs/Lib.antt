@@ -43,6 +43,7 @@ pub mod SegmentChains
 pub mod BundleForkJoin
 pub mod LabelPaths
 pub mod LabelsAgree
+pub mod OrderedSegments
 pub mod LineageTails
 pub mod AccessSegments
 pub mod Partings

@@ -17,5 +17,6 @@ pub mod Tallying
 pub mod Census
 pub mod Promise
 pub mod Agreement
+pub mod SegmentOrder
 pub mod Parting
 pub mod Cutting
