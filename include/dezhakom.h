@@ -184,7 +184,7 @@ uint32_t dezhakom_find_chunk(const uint8_t *bytes, size_t length, uint16_t team,
 uint32_t dezhakom_label_of_segment(const uint8_t *bytes, size_t length, uint16_t team, uint8_t member, uint32_t segment,
                                    dezhakom_label *label, size_t *place);
 
-/* How the segment of the first label lies to that of the second (dezhakom_order); both labels are of one bundle.
+/* How the segment of the first label lies to that of the second (dezhakom_order), both of one bundle; docs/SORTING.md sorts by labels.
  * Refused with 15 at 1 or 2 for a label that no segment can have, then with 16. */
 uint32_t dezhakom_compare_labels(const dezhakom_label *first, const dezhakom_label *second, uint32_t *order, size_t *place);
 

@@ -178,7 +178,7 @@ def label_of_segment(data, team, member, segment):
 
 
 def compare_labels(first, second):
-    """How the segment of the first label lies to that of the second: one of ORDERS."""
+    """How the segment of the first label lies to that of the second: one of ORDERS. Not for a sort: see docs/SORTING.md."""
     order = c_uint32()
     _ask("compare_labels", *(byref(_label(label)) for label in (first, second)), byref(order))
     return ORDERS[order.value]

@@ -384,7 +384,7 @@ impl PartialEq for Label {
 
 impl Eq for Label {}
 
-/// How a segment lies to another.
+/// How a segment lies to another. `Concurrent` is not transitive, so there is no `Ord`: docs/SORTING.md has a key to sort by.
 #[derive(Clone, Copy, Debug, PartialEq, Eq, Hash)]
 pub enum Order {
     Same,
