@@ -13,13 +13,12 @@ use mir.Val.{Val}
 use denote.Laws.{Is}
 use denote.Struct.Declared.{row}
 use borrow.Author.Tests.{leb-true, le-leb}
-use Rattle.bundle.specs.Answer.{Answer, gives}
+use Rattle.bundle.specs.Answer.{Answer}
 use Rattle.bundle.specs.Lists.{all}
 use Rattle.bundle.proofs.Tests.{and-left, and-right}
 use Rattle.order.specs.declared.label.Triple.{Triple}
 use Rattle.order.specs.declared.label.Label.{Label}
 use Rattle.order.specs.declared.label.Order.{Order}
-use Rattle.order.specs.declared.label.Order.the-variants as Ord
 use Rattle.order.specs.Labels.{counted, spanOk, rootSpan, labelOk, sameTriple, compareTriples, compareFrom}
 use Rattle.order.proofs.label.Label.{the-type}
 

@@ -8,5 +8,7 @@ pub mod Euclid
 pub mod PairBytes
 pub mod SegmentRows
 pub mod Climbs
+pub mod TripleOrder
+pub mod ComparedBothWays
 pub mod LabelOrder
-pub mod ComparisonLaws
+pub mod ComposedLabels

@@ -1,5 +1,4 @@
 -- Swapping two labels (A.8): the comparison of the second with the first, from that of the first with the second.
-use Prim.Native.Nat.{ℕ}
 use mathlib.Core.Path.{_≡_}
 use mathlib.Core.Bool.{Bool, cond}
 use lib.Dec.{eqb}

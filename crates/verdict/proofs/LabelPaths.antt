@@ -15,7 +15,8 @@ use Rattle.bundle.specs.declared.index.Fork.{Fork}
 use Rattle.order.specs.Labels.{lastTriple, forkLabel, segmentLabel, spanOk, rootSpan}
 use Rattle.order.specs.declared.label.Triple.{Triple}
 use Rattle.verdict.specs.Graph.{Node, ofChunk, ofBarrier, ofRegion, Segment, Joined, GraphPath, here, step}
-use Rattle.order.proofs.LabelOrder.{Earlier, by-interval, by-offset, LabelBefore, shorter, deeper, parted, Apart, apart-deeper, apart-here, before-trans, before-behind, before-longer}
+use Rattle.order.proofs.TripleOrder.{Earlier, by-interval, by-offset}
+use Rattle.order.proofs.LabelOrder.{LabelBefore, shorter, deeper, parted, Apart, apart-deeper, apart-here, before-trans, before-behind, before-longer}
 use Rattle.verdict.proofs.ForkJoin.{
   OneChunk,
   Onward,

@@ -2,18 +2,18 @@
 use Prim.Native.Nat.{ℕ, _%_}
 use mathlib.Core.Path.{_≡_, refl, sym, _∙_, ap, subst}
 use mathlib.Core.Bool.{true}
-use mathlib.Core.List.{List, [], _∷_}
+use mathlib.Core.List.{List, _∷_}
 use Rattle.bundle.specs.Answer.{gives}
 use Rattle.bundle.specs.Chunks.{chunksOf}
 use Rattle.bundle.specs.Walk.{forksOf}
 use Rattle.bundle.specs.Check.{Accepted}
 use Rattle.order.specs.Labels.{segmentLabel, counted, holding, compareOf}
 use Rattle.order.specs.declared.label.Triple.{Triple}
-use Rattle.order.specs.declared.label.Order.{Order}
 use Rattle.order.specs.declared.label.Order.the-variants as Ord
 use Rattle.order.proofs.Climbs.{holding-counted}
-use Rattle.order.proofs.LabelOrder.{by-interval, by-offset, LabelBefore, shorter, deeper, parted, Apart, apart-deeper, apart-here}
-use Rattle.order.proofs.ComparisonLaws.{given, meaning, composes}
+use Rattle.order.proofs.TripleOrder.{by-interval, by-offset}
+use Rattle.order.proofs.LabelOrder.{LabelBefore, shorter, deeper, parted, Apart, apart-deeper, apart-here}
+use Rattle.order.proofs.ComposedLabels.{given, meaning, composes}
 use Rattle.verdict.specs.Accesses.{lexLess}
 use Rattle.verdict.specs.Agreement.{Agrees}
 use Rattle.verdict.specs.Graph.{Segment}
