@@ -48,6 +48,13 @@ member 1 1; end
 member 2 0; end
 """
 
+# Of a team of two, member 0 was cut before the barrier that member 1 has passed.
+CUT_PAIR = """
+member 0 0; region 1 2; cut
+member 1 0; cut
+member 1 1; barrier; cut
+"""
+
 ACCESS = "read 1 0 0 1 1"
 FULL_BYTES = "member 0 0; times 3 barrier; times 16382 acquire 1, release 1"  # 65,535 bytes
 CHAIN_4 = """

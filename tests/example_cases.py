@@ -131,12 +131,11 @@ COMPARED = [
 
 # ----------------------------------------------- comparisons of segments (A.8)
 
-# Of NESTED_PAIR: concurrent is not transitive; a proper prefix. Of STOPPED: barriers that cut chunks lack. The last one is not there.
-PAIR, STOPPED = bundle(aimed_cases.NESTED_PAIR), bundle(aimed_cases.STOPPED)
+# Of NESTED_PAIR: concurrent is not transitive. Of CUT_PAIR: a barrier that a cut chunk lacks.
+PAIR, CUT_PAIR = bundle(aimed_cases.NESTED_PAIR), bundle(aimed_cases.CUT_PAIR)
 ORDERED = [
-    *[(PAIR, *pair) for pair in (((1, 0, 0), (1, 1, 0)), ((1, 1, 0), (1, 0, 1)), ((1, 0, 0), (1, 0, 1)), ((0, 0, 0), (2, 0, 0)))],
-    *[(STOPPED, *pair) for pair in (((1, 1, 0), (1, 0, 1)), ((2, 1, 0), (2, 0, 1)), ((1, 1, 0), (1, 0, 0)))],
-    (PAIR, (1, 0, 0), (1, 0, 2)),
+    *[(PAIR, *pair) for pair in (((1, 0, 0), (1, 1, 0)), ((1, 1, 0), (1, 0, 1)), ((1, 0, 0), (1, 0, 1)))],
+    *[(CUT_PAIR, *pair) for pair in (((1, 0, 0), (1, 1, 0)), ((1, 0, 0), (1, 1, 1)))],
 ]
 
 # ------------------------------------------------------------ shared bytes
