@@ -2,7 +2,6 @@
 pub mod Computing
 pub mod Examples
 pub mod SmallBundles
-pub mod AimedExamples
 pub mod Reachability
 pub mod Lexical
 pub mod Sorting

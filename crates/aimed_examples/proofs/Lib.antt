@@ -1,0 +1,2 @@
+-- Examples by computation.
+pub mod AimedExamples
