@@ -166,6 +166,8 @@ def concurrent_by_key(first, second):
 
 # Told by swapping labels; by before or same among the segments of a bundle; by their keys.
 BY_SWAPPING = (prefix_concurrent, lower_offset_only, bad_always_at_1, bad_second_first, unequal_from_the_end)
-BY_SEGMENTS = ((equal_concurrent, same_itself), (same_residue_same, same_itself), (last_difference_decides, composing), (later_interval_first, by_key))
+BY_SEGMENTS = (
+    (equal_concurrent, same_itself), (same_residue_same, same_itself), (last_difference_decides, composing), (later_interval_first, by_key),
+)  # fmt: skip
 # These keep all the laws: they are orders too, but not that of the graph.
 BY_GRAPH_ALONE = (prefix_concurrent_both_ways, concurrent_by_key)

@@ -42,6 +42,11 @@ unfolding sortKey
 key-apart (apart-deeper {as′ = as′} {bs = bs} e r) q = let w : sortKey as′ ≡ sortKey bs = cc in key-apart r w
 key-apart (apart-here {a = a} {b = b} s i m) q = let w : a .offset ≡ b .offset = cc in m (ap (λ (n : ℕ). n % a .span) w)
 
+-- what is told of two segments is the order on which labels and graph agree
+agreed : {s : List ℕ} {g h : Segment} (a : Agrees s g h) → orderIn s (g .node) (h .node) ≡ gives (a .order)
+unfolding orderIn labelAt
+agreed a = rw (a .first-label, a .second-label) (a .compared)
+
 module _ (s : List ℕ) (ok : Accepted s) where
   abbrev label : Segment → List Triple
   label g = segmentLabel (forksOf (chunksOf s)) (g .node .team) (g .node .member) (g .state)
@@ -54,10 +59,6 @@ module _ (s : List ℕ) (ok : Accepted s) where
   told : {g h : Segment} → SegmentIn s g → SegmentIn s h → orderIn s (g .node) (h .node) ≡ compareOf (holding (label g)) (holding (label h))
   unfolding orderIn
   told m n = rw (labelled m, labelled n)
-
-  told-agreed : {g h : Segment} → SegmentIn s g → SegmentIn s h → (a : Agrees s g h) → orderIn s (g .node) (h .node) ≡ gives (a .order)
-  unfolding orderIn labelAt
-  told-agreed m n a = rw (a .first-label, a .second-label) (a .compared)
 
   label-before : {g h : Segment} → SegmentIn s g → SegmentIn s h → orderIn s (g .node) (h .node) ≡ gives Ord.Before → LabelBefore (label g) (label h)
   label-before {g} {h} m n e =
@@ -83,7 +84,7 @@ before-composes s ok g h i m n o e f =
 pub same-is-itself : SameIsItself
 same-is-itself s ok g h m n =
     let a = labels-agree s ok g h m n in
-    let t = told-agreed s ok m n a in
+    let t = agreed a in
     (λ e. fork-join s ok .one m n (a .exactly Ord.Same .0 (cc)), λ e. t ∙ ap gives (a .exactly Ord.Same .1 (ap (λ (x : Segment). x .node) e)))
 
 pub sorted-by-key : SortedByKey
