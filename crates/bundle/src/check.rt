@@ -13,14 +13,14 @@ use crate::shape::shape;
 use crate::survey::{Survey, survey_all};
 
 // What indexing a bundle gives: the number of its chunks and of its REGIONs, whose rows are in the tables.
-#[derive(Drop)]
+#[derive(Clone, Copy)]
 pub enum Indexing {
     Accepted { chunks: u32, forks: u32 },
     Refused { place: usize, cause: Cause },
 }
 
 // What finding a chunk gives.
-#[derive(Drop)]
+#[derive(Clone, Copy)]
 pub enum Found {
     // The offset of its MEMBER, and the offset after its END or CUT.
     At { start: usize, end: usize },

@@ -4,7 +4,7 @@ ghost use Rattle.bundle.specs.Locks.{holds};
 ghost use Rattle.bundle.specs.Chunks.{fresh, after_barrier, after_join, after_acquire, after_release};
 
 // The barriers passed, the regions joined and the locks held (lock l is held where bit l is set).
-#[derive(Drop)]
+#[derive(Clone, Copy)]
 pub struct ChunkState {
     pub barriers: u32,
     pub regions: u32,

@@ -8,7 +8,7 @@ use crate::copy::copy_in;
 use crate::refusal::Cause;
 
 // What an access does: the commands 0x30 to 0x33, and 0x38 to 0x3b, in this order.
-#[derive(Drop)]
+#[derive(Clone, Copy)]
 pub enum AccessKind {
     Read,
     Write,
@@ -17,7 +17,7 @@ pub enum AccessKind {
 }
 
 // The bytes base + k * stride + j, with k below count and j below size.
-#[derive(Drop)]
+#[derive(Clone, Copy)]
 pub struct Range {
     pub base: u32,
     pub stride: u16,
@@ -26,7 +26,7 @@ pub struct Range {
 }
 
 // An access of the narrow group, 0x30 to 0x33, or of the wide one, 0x38 to 0x3b, whose site has 4 bytes.
-#[derive(Drop)]
+#[derive(Clone, Copy)]
 pub struct Access {
     pub kind: AccessKind,
     pub wide: bool,
@@ -34,7 +34,7 @@ pub struct Access {
     pub range: Range,
 }
 
-#[derive(Drop)]
+#[derive(Clone, Copy)]
 pub enum Command {
     Member { team: u16, member: u8 },
     End,
@@ -47,7 +47,7 @@ pub enum Command {
 }
 
 // What reading a command at a position gives.
-#[derive(Drop)]
+#[derive(Clone, Copy)]
 pub enum Reading {
     // The position after the command, and the command.
     Taken { next: usize, command: Command },
@@ -55,7 +55,7 @@ pub enum Reading {
 }
 
 // What putting a command at a position gives.
-#[derive(Drop)]
+#[derive(Clone, Copy)]
 pub enum Putting {
     // The position after the command.
     Written(usize),
@@ -382,7 +382,7 @@ pub fn read_command(bytes: &[u8], position: usize) -> Reading
 }
 
 // A command's bytes: the first ones of `bytes`, as many as `length` says.
-#[derive(Drop)]
+#[derive(Clone, Copy)]
 struct Encoded {
     bytes: [u8; 14],
     length: usize,

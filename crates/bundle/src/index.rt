@@ -6,7 +6,7 @@ use crate::chunk::ChunkState;
 
 // A chunk: the offset of its MEMBER and the offset after its END or CUT, its team and member, the barriers that it passes, whether END
 // closes it, and how many segments and accesses of the bundle stand before it.
-#[derive(Drop)]
+#[derive(Clone, Copy)]
 pub struct ChunkRow {
     pub place: usize,
     pub past: usize,
@@ -19,7 +19,7 @@ pub struct ChunkRow {
 }
 
 // A REGION: its offset, the team that it forks and that team's size, the team and member that fork it, and their chunk's state before it.
-#[derive(Drop)]
+#[derive(Clone, Copy)]
 pub struct Fork {
     pub place: usize,
     pub team: u16,
@@ -30,7 +30,7 @@ pub struct Fork {
 }
 
 // The numbers that a word holds, from the low bits up.
-#[derive(Drop)]
+#[derive(Clone, Copy)]
 pub struct Parts {
     pub first: u16,
     pub second: u16,

@@ -3,7 +3,7 @@ ghost use Rattle.std.specs.Prelude.{◌≡◌};
 ghost use Rattle.bundle.specs.Answer.{number_of};
 
 // Each cause with its number (docs/FORMAT.md).
-#[derive(Drop)]
+#[derive(Clone, Copy)]
 pub enum Cause {
     BundleTooLong, // 1
     UnknownCommand, // 2

@@ -13,7 +13,7 @@ use crate::refusal::Cause;
 
 // Whether a chunk is open, and whether the accesses so far are of the wide group; the open chunk's team and state, and the segments and accesses of the
 // bundle so far.
-#[derive(Drop)]
+#[derive(Clone, Copy)]
 pub struct Scan {
     pub inside: bool,
     pub wide: bool,
@@ -24,7 +24,7 @@ pub struct Scan {
 }
 
 // What the scan says to a command.
-#[derive(Drop)]
+#[derive(Clone, Copy)]
 pub enum Step {
     // The position after the command, the scan after it, and the command.
     Onward {

@@ -12,7 +12,7 @@ use crate::refusal::Cause;
 use crate::teams::{order_teams, size_of, slot_of};
 
 // The tests of a row by tables that are complete.
-#[derive(Drop)]
+#[derive(Clone, Copy)]
 pub enum Test {
     ForkedBefore, // 8, of a REGION
     LacksChunk, // 10, of a REGION

@@ -10,7 +10,7 @@ use crate::refusal::Cause;
 use crate::scan::{Scan, Step, step_at};
 
 // The open chunk: the offset of its MEMBER, its member, and the segments and accesses of the bundle before it.
-#[derive(Drop)]
+#[derive(Clone, Copy)]
 pub struct Open {
     pub place: u16,
     pub member: u8,
@@ -19,7 +19,7 @@ pub struct Open {
 }
 
 // How far the pass is: the position and the scan there, the open chunk, and the rows so far.
-#[derive(Drop)]
+#[derive(Clone, Copy)]
 pub struct Progress {
     pub at: usize,
     pub scan: Scan,
@@ -29,7 +29,7 @@ pub struct Progress {
 }
 
 // What the pass gives: the number of chunks and of REGIONs, whose rows are in the tables.
-#[derive(Drop)]
+#[derive(Clone, Copy)]
 pub enum Survey {
     Complete { chunks: u32, forks: u32 },
     Refused { place: usize, cause: Cause },

@@ -1,5 +1,7 @@
 // Writes the bundle on standard input to standard output with its chunks by team, then member. A bundle that is refused leaves standard
 // output empty; the refusal is a line on standard error.
+#![tactic(auto)]
+
 use bundle::limits::MOST_BYTES;
 use libc::{STDIN_FILENO, STDOUT_FILENO};
 use rewrite::rewrite::{Rewriting, rewrite};

@@ -1,5 +1,7 @@
 // Writes the bundle on standard input to standard output with its accesses in the group that the argument names, `wide` or `narrow`. A bundle
 // that is refused leaves standard output empty; the refusal is a line on standard error.
+#![tactic(auto)]
+
 ghost use Rattle.std.specs.Prelude.{◌≡◌};
 ghost use Rattle.rewrite.specs.Rewriting.{rewriting_of};
 ghost use Rattle.rewrite.specs.Converting.{convert_of};

@@ -14,7 +14,7 @@ use bundle::command::{
 use bundle::refusal::{Cause, number};
 
 // What the words of a command stand for.
-#[derive(Drop)]
+#[derive(Clone, Copy)]
 pub enum Made {
     Command(Command),
     // The first word is no command byte.

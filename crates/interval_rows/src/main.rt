@@ -1,6 +1,8 @@
 // Writes the interval rows of the bundle on standard input to standard output, as CSV. With the argument `check` standard input has the
 // bundle's length in 4 bytes, the bundle, and given records of 32 bytes each, and what is written is whether they are the bundle's. A
 // refusal is a line on standard error, and leaves standard output empty.
+#![tactic(auto)]
+
 mod csv;
 mod line;
 

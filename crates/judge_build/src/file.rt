@@ -11,14 +11,14 @@ use tray::tell::{Told, tell_bundle, tell_unreadable};
 use tray::word::Word;
 
 // The build's word so far, and whether to go on: not after a read of the names or a write has failed.
-#[derive(Drop)]
+#[derive(Clone, Copy)]
 pub struct Going {
     pub word: Word,
     pub on: bool,
 }
 
 // How much of a file was read.
-#[derive(Drop)]
+#[derive(Clone, Copy)]
 enum Reading {
     Read(usize),
     Failed,

@@ -1,5 +1,7 @@
 // Judges the bundles of one build and prints a line for each file, and then the build's word. The files are named by the arguments; where
 // there are none, on standard input, each name ended by a 0 byte.
+#![tactic(auto)]
+
 mod file;
 mod kind;
 mod names;

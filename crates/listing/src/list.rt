@@ -21,7 +21,7 @@ use verdict::judge::{MATRIX_WORDS, WORK_WORDS, clear, fill_area};
 pub const MOST_NAME_WORDS: usize = 2048;
 
 // The counts of a bundle's chunks, segments, accesses and races.
-#[derive(Drop)]
+#[derive(Clone, Copy)]
 pub struct Totals {
     pub chunks: u32,
     pub segments: u32,
@@ -29,7 +29,7 @@ pub struct Totals {
     pub races: u32,
 }
 
-#[derive(Drop)]
+#[derive(Clone, Copy)]
 pub enum Listed {
     // All races stand in the lent memory.
     Whole(Totals),
@@ -39,7 +39,7 @@ pub enum Listed {
 }
 
 // What stands in the lent memory: so many segments, accesses and races, and whether all of them.
-#[derive(Drop)]
+#[derive(Clone, Copy)]
 pub struct Found {
     pub segments: u32,
     pub accesses: u32,

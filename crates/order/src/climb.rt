@@ -13,14 +13,14 @@ use bundle::limits::{CHUNK_WORDS, FORK_WORDS};
 use bundle::refusal::Cause;
 
 // What is answered for a segment's label: that it is found, and stands beside this, or a refusal.
-#[derive(Drop)]
+#[derive(Clone, Copy)]
 pub enum LabelAnswer {
     Found,
     Refused { place: usize, cause: Cause },
 }
 
 // An answer and the label beside it, whose triples past its count are 0; refused, the label has no triples.
-#[derive(Drop)]
+#[derive(Clone, Copy)]
 pub struct Labelling {
     pub answer: LabelAnswer,
     pub label: Label,
@@ -28,7 +28,7 @@ pub struct Labelling {
 
 // What the labels of a chunk's segments have in common: the label of the segment that forked the team, empty for the root,
 // and the team's size.
-#[derive(Drop)]
+#[derive(Clone, Copy)]
 struct ChunkLabel {
     label: Label,
     size: u8,

@@ -6,7 +6,7 @@ ghost use Rattle.order.specs.Labels.{counted, span_ok, label_ok, same_triple, co
 use bundle::refusal::Cause;
 
 // One level of a label.
-#[derive(Drop)]
+#[derive(Clone, Copy)]
 pub struct Triple {
     pub offset: u32,
     pub span: u32,
@@ -14,14 +14,14 @@ pub struct Triple {
 }
 
 // The first `count` triples are the label, the root's first; those past the count are not looked at.
-#[derive(Drop)]
+#[derive(Clone, Copy)]
 pub struct Label {
     pub count: u32,
     pub triples: [Triple; 5],
 }
 
 // How the first of two labels stands to the second.
-#[derive(Drop)]
+#[derive(Clone, Copy)]
 pub enum Order {
     Same,
     Before,
@@ -30,7 +30,7 @@ pub enum Order {
 }
 
 // What comparing two labels gives.
-#[derive(Drop)]
+#[derive(Clone, Copy)]
 pub enum Comparison {
     Compared(Order),
     Refused { place: usize, cause: Cause },

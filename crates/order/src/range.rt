@@ -25,7 +25,7 @@ use bundle::command::{Range, range_ok};
 use bundle::refusal::Cause;
 
 // The lowest byte that two ranges share, and the lowest element of each that covers it.
-#[derive(Drop)]
+#[derive(Clone, Copy)]
 pub struct Overlap {
     pub byte: u32,
     pub first_element: u32,
@@ -33,7 +33,7 @@ pub struct Overlap {
 }
 
 // What the lowest shared byte of two ranges is.
-#[derive(Drop)]
+#[derive(Clone, Copy)]
 pub enum Shared {
     Byte(Overlap),
     Nothing,
@@ -41,21 +41,21 @@ pub enum Shared {
 }
 
 // The lowest byte that two ranges of any field values share.
-#[derive(Drop)]
+#[derive(Clone, Copy)]
 pub enum Lowest {
     Byte(u64),
     Nothing,
 }
 
 // The lowest byte that two ranges share, and the lowest element of each that covers it.
-#[derive(Drop)]
+#[derive(Clone, Copy)]
 enum Meeting {
     At { byte: u64, one: u32, other: u32 },
     Nothing,
 }
 
 // An element of each of two ranges. Element numbers have 32 bits in the search; positions and products have 64.
-#[derive(Drop)]
+#[derive(Clone, Copy)]
 enum ElementPair {
     Elements { one: u32, other: u32 },
     Nothing,

@@ -9,7 +9,7 @@ use bundle::command::Putting;
 use listing::list::Totals;
 
 // What a page holds: the lines before `next`, in so many bytes.
-#[derive(Drop)]
+#[derive(Clone, Copy)]
 pub struct Page {
     pub next: usize,
     pub size: usize,

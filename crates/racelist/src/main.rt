@@ -1,4 +1,6 @@
 // Prints the listing of the bundle on standard input: the counts, each race, and the last line; or the refusal.
+#![tactic(auto)]
+
 mod print;
 
 use libc::STDIN_FILENO;

@@ -16,7 +16,7 @@ use bundle::refusal::Cause;
 
 // What is known of the result after some commands: its bytes so far, and the offset of the first command with a site over 65,535, if there
 // was one.
-#[derive(Drop)]
+#[derive(Clone, Copy)]
 pub struct Measured {
     pub size: usize,
     pub over: bool,

@@ -16,7 +16,7 @@ use bundle::refusal::Cause;
 use sorting::sort::sort;
 
 // What rewriting gives.
-#[derive(Drop)]
+#[derive(Clone, Copy)]
 pub enum Rewriting {
     // The number of bytes written.
     Written { size: usize },

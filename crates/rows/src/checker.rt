@@ -11,7 +11,7 @@ use bundle::answer::Checking;
 use bundle::refusal::Cause;
 
 // What is answered for given records: that they are those of the bundle, or a refusal.
-#[derive(Drop)]
+#[derive(Clone, Copy)]
 pub enum RowChecking {
     TheRows,
     Refused { place: usize, cause: Cause },

@@ -9,7 +9,7 @@ use bundle::answer::Checking;
 use bundle::refusal::Cause;
 
 // What exporting gives.
-#[derive(Drop)]
+#[derive(Clone, Copy)]
 pub enum Exporting {
     // The number of records written.
     Written { count: usize },

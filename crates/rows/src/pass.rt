@@ -13,7 +13,7 @@ use bundle::teams::{size_of, slot_of};
 
 // How far the pass is: the position; the open chunk's team and member; the barriers passed and the regions joined in it; the regions joined
 // where the open interval began, and where its data begins; and the intervals so far.
-#[derive(Drop)]
+#[derive(Clone, Copy)]
 pub struct Course {
     pub at: usize,
     pub team: TeamRow,

@@ -13,7 +13,7 @@ use bundle::teams::order_teams;
 use sorting::sort::sort;
 
 // How many records there are, and whether the bundle is accepted; refused, none.
-#[derive(Drop)]
+#[derive(Clone, Copy)]
 pub struct Layout {
     pub count: usize,
     pub checking: Checking,

@@ -8,7 +8,7 @@ use bundle::index::{Parts, pack, unpack, word_at};
 
 // The columns of Table 4.1: the team, the team that forked it (0 for the root), the interval, offset and span of the last triple of the
 // label at the interval's start, the level (0 for the root), where the data begins in the bundle, and its size.
-#[derive(Drop)]
+#[derive(Clone, Copy)]
 pub struct Row {
     pub pid: u32,
     pub ppid: u32,
@@ -21,7 +21,7 @@ pub struct Row {
 }
 
 // What the records of a team's intervals have in common: the team, the team that forked it, its size and its level.
-#[derive(Drop)]
+#[derive(Clone, Copy)]
 pub struct TeamRow {
     pub team: u16,
     pub parent: u16,
@@ -30,7 +30,7 @@ pub struct TeamRow {
 }
 
 // What they have not: the member, the interval, the regions joined before it, where its data begins, and its size.
-#[derive(Drop)]
+#[derive(Clone, Copy)]
 pub struct Span {
     pub member: u8,
     pub interval: u16,

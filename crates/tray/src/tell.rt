@@ -10,7 +10,7 @@ use bundle::command::Putting;
 use verdict::judge::judge;
 
 // The build's word so far, and where the line ends.
-#[derive(Drop)]
+#[derive(Clone, Copy)]
 pub struct Told {
     pub word: Word,
     pub line: Putting,

@@ -6,7 +6,7 @@ ghost use Rattle.tray.specs.Words.{outcome_of, verdict_outcome, after_outcome, a
 use verdict::race::{Judging, Verdict};
 
 // Of one bundle. One that is turned away or could not be read is refused.
-#[derive(Drop)]
+#[derive(Clone, Copy)]
 pub enum Outcome {
     Race,
     RaceFree,
@@ -14,7 +14,7 @@ pub enum Outcome {
 }
 
 // Of a build: of the bundles that were judged so far.
-#[derive(Drop)]
+#[derive(Clone, Copy)]
 pub enum Word {
     Missing,
     RaceFree,

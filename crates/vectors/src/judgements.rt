@@ -116,7 +116,7 @@ pub fn judge(body: &[u8]) -> bool {
     judge_in(body, &mut work)
 }
 
-#[derive(Drop)]
+#[derive(Clone, Copy)]
 struct Key {
     witness: u32,
     first: Name,

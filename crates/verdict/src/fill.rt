@@ -11,7 +11,7 @@ use bundle::chunk::ChunkState;
 use bundle::command::{Access, AccessKind, Command, Range, Reading, read_command};
 
 // How many segments and accesses a bundle has.
-#[derive(Drop)]
+#[derive(Clone, Copy)]
 pub struct Counts {
     pub segments: u32,
     pub accesses: u32,
@@ -19,7 +19,7 @@ pub struct Counts {
 
 // How far the pass is: the position; the open chunk's team, member and state; the place of the open segment among all (of the next to be
 // opened where no chunk is open) and its number in the chunk; the accesses so far in the chunk, and in all.
-#[derive(Drop)]
+#[derive(Clone, Copy)]
 pub struct Cursor {
     pub at: usize,
     pub team: u16,

@@ -24,7 +24,7 @@ pub const WORK_WORDS: usize = 16384;
 pub const MATRIX_WORDS: usize = 8192;
 
 // The counts of a bundle's segments and accesses, and its races.
-#[derive(Drop)]
+#[derive(Clone, Copy)]
 pub struct Census {
     pub segments: u32,
     pub accesses: u32,

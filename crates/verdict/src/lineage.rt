@@ -26,7 +26,7 @@ use bundle::index::{fork_at, fork_of};
 use order::lock::common;
 
 // A side of a pair on its way up: the chunk that it stands in, the index of the REGION that forks its team, and the locks counted so far.
-#[derive(Drop)]
+#[derive(Clone, Copy)]
 pub struct Side {
     pub fork: u32,
     pub team: u16,

@@ -56,7 +56,7 @@ use bundle::command::Range;
 use order::range::{Lowest, element_at, shared_byte};
 
 // What the race that is looked for lies above: a witness and two names, where they are given.
-#[derive(Drop)]
+#[derive(Clone, Copy)]
 pub struct Key {
     pub given: bool,
     pub witness: u32,
@@ -65,7 +65,7 @@ pub struct Key {
 }
 
 // The races met so far: how many, and the least above the key, if one was found.
-#[derive(Drop)]
+#[derive(Clone, Copy)]
 pub struct Tally {
     pub count: u32,
     pub found: bool,
@@ -73,7 +73,7 @@ pub struct Tally {
 }
 
 // A key with its names as numbers.
-#[derive(Drop)]
+#[derive(Clone, Copy)]
 pub struct Packed {
     pub witness: u32,
     pub first: u64,
@@ -82,7 +82,7 @@ pub struct Packed {
 
 // A tally in five numbers, which stay in registers: of each access of its race the name and the place of its row are one number. What else a
 // race carries is read from the rows at the end.
-#[derive(Drop)]
+#[derive(Clone, Copy)]
 struct Sum {
     count: u32,
     found: bool,

@@ -6,7 +6,7 @@ ghost use Rattle.verdict.specs.Working.{access_row_at, RowIn, Slim};
 
 // An access: its range and last byte, its name and site, the place of its segment among all, its kind (1 added where it writes, 2 where
 // it is atomic) and the locks that it holds.
-#[derive(Drop)]
+#[derive(Clone, Copy)]
 pub struct AccessRow {
     pub base: u32,
     pub stride: u16,
