@@ -1,0 +1,9 @@
+-- `bundle::scan::open_chunk` meets its contract. Assumes nothing.
+use borrow.Author.Rules.{rules}
+use Rattle.bundle.proofs.scan.open_chunk.Goals as goal
+
+pub fresh-requires : goal.fresh-requires
+fresh-requires c = tt
+
+pub returns : goal.returns
+returns c = rw c.fresh.ensures
