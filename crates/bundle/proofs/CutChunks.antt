@@ -147,7 +147,7 @@ unfolding entries_from
 no-forks t m k g n [] h = refl
 no-forks t m k g n (p ∷ ps) h =
     rw (no-fork t m (record { at = p.at; command = p.command; state = k; segment = g; accesses = n }) (h p.command (Memᴰ.head refl)))
-    (no-forks t m _ _ _ ps (λ c l. h c (Memᴰ.tail l)))
+    (no-forks t m (after_command k p.command) (g + opens_segment p.command) (n + adds_access p.command) ps (λ c l. h c (Memᴰ.tail l)))
 
 left-forks :
     {ps qs : List Placed} (t m : ℕ) (k : ChunkState) (g n : ℕ)

@@ -69,7 +69,7 @@ any-map g p q same [] = refl
 any-map g p q same (x ∷ xs) = rw (same x, any-map g p q same xs)
 
 pub distinct-key :
-    {A K : Type 0} (key : A → K) {xs : List A} {x y : A}
+    {A K : Type 0} (key : A → K) {x y : A} {xs : List A}
     → Distinct (map key xs)
     → Memᴰ x xs
     → Memᴰ y xs

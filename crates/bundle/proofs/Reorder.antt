@@ -13,13 +13,13 @@ use Rattle.bundle.specs.Answer.{Answer, gives, refuses, when_given}
 use Rattle.bundle.specs.Lists.{all, back_to_back, concat_map}
 use Rattle.bundle.specs.Commands.{Bytes, bytes_of, in_range}
 use Rattle.bundle.specs.Chunks.{Placed, Chunk, Front, front_of, gather, chunks_of, part_of}
-use Rattle.bundle.specs.Scan.{opens_segment, adds_access, start, scan_of, walk}
+use Rattle.bundle.specs.Scan.{opens_segment, adds_access, start, scanned, scan_of, walk}
 use Rattle.bundle.specs.Check.{shape_of, check_of, Accepted, Reordered}
 use Rattle.bundle.specs.declared.scan.Scan.{Scan}
 use Rattle.bundle.specs.declared.command.Command.{Command}
 use Rattle.bundle.proofs.ListLaws.{all-elim, all-intro, perm-mem, perm-map, perm-length, perm-concat_map, concat_map-append, Distinct}
 use Rattle.bundle.proofs.Places.{unplaced, member_key}
-use Rattle.bundle.proofs.Scanning.{total, perm-total, orderly, orderly-head, orderly-tail, no-group, Room, Passed, walk-elim, walk-intro}
+use Rattle.bundle.proofs.Scanning.{total, perm-total, uncounted, orderly, orderly-head, orderly-tail, no-group, Room, Passed, walk-elim, walk-intro}
 use Rattle.bundle.proofs.Gathering.{Formed, placed_of, log_of, all-in-chunks}
 use Rattle.bundle.proofs.ScanChunks.{scan-chunks, commands-of-chunks}
 use Rattle.bundle.proofs.Printing.{printed, placed_from, commands-placed, prints-front, front-of-printed}
@@ -57,7 +57,7 @@ orderly-range k [] o c m = absurd (Memᴰ.not-nil m)
 orderly-range k (d ∷ cs) o c m =
     ⊎_elim
     (λ q. ap in_range q ∙ (orderly-head k d cs o).in-range)
-    (orderly-range _ cs (orderly-tail k d cs o) c)
+    (orderly-range (uncounted (scanned k d)) cs (orderly-tail k d cs o) c)
     (Memᴰ.cases_cons m)
 
 -- chunks that make a bundle which is accepted

@@ -145,23 +145,33 @@ module _ (t m : ℕ) where
       → Bordered s
   bordered-first n o b h l e = rw e record { opened = h; ended = l }
 
+  segment-bordered-at :
+      (n : ℕ) (o : Opening) (os : List Opening) {s : Segment} {next : ℕ}
+      → Begins n o.border
+      → Openings next os
+      → next ≡ n + 1
+      → Memᴰ s (segments_from t m n o os)
+      → Bordered s
+  unfolding segments_from
+  segment-bordered-at n o os b opens_no_more q l =
+      ⊎_elim
+      (bordered-first n o of_chunk b (no-barrier n))
+      (λ k. absurd (Memᴰ.not-nil k))
+      (Memᴰ.cases_cons l)
+  segment-bordered-at n o os b (opens_next {o = p} {os = ps} c r) q l =
+      let c' : Begins (n + 1) p.border = subst (λ (x : ℕ). Begins x p.border) q c in
+      ⊎_elim
+      (bordered-first n o p.border b (next-barrier c'))
+      (λ k. segment-bordered-at (n + 1) p ps c' r (ap (λ (x : ℕ). x + 1) q) k)
+      (Memᴰ.cases_cons l)
+
   pub segment-bordered :
       (n : ℕ) (o : Opening) (os : List Opening) {s : Segment}
       → Begins n o.border
       → Openings (n + 1) os
       → Memᴰ s (segments_from t m n o os)
       → Bordered s
-  unfolding segments_from
-  segment-bordered n o os b opens_no_more l =
-      ⊎_elim
-      (bordered-first n o of_chunk b (no-barrier n))
-      (λ k. absurd (Memᴰ.not-nil k))
-      (Memᴰ.cases_cons l)
-  segment-bordered n o os b (opens_next {o = p} {os = ps} c r) l =
-      ⊎_elim
-      (bordered-first n o p.border b (next-barrier c))
-      (λ k. segment-bordered (n + 1) p ps c r k)
-      (Memᴰ.cases_cons l)
+  segment-bordered n o os b r l = segment-bordered-at n o os b r refl l
 
 -- a chunk's segments
 abbrev opens_as : Opening

@@ -146,5 +146,5 @@ part-settle p (c ∷ cs) = go (part-settle (p ++ printed (log_of c)) cs)
         → map (part_of (p ++ printed (concat_map log_of (c ∷ cs)))) (settled (length p) c ∷ settle (length p + length x) cs)
         ≡ x ∷ map (λ (d : Chunk). printed (log_of d)) cs
     go ih =
-        rw (split, one)
-        (ap (λ (l : List (List ℕ)). x ∷ l) (rw (append_assoc p x y, length-append p x) at ih))
+        ap (λ (z : List ℕ). map (part_of z) (settled (length p) c ∷ settle (length p + length x) cs)) split
+        ∙ rw one (ap (λ (l : List (List ℕ)). x ∷ l) (rw (append_assoc p x y, length-append p x) at ih))

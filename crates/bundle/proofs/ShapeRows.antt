@@ -1,14 +1,14 @@
 -- The tests 8 to 12 and 19 over the rows of a bundle's chunks are those over the chunks.
-use Prim.Native.Nat.{ℕ}
+use Prim.Native.Nat.{ℕ, ◌+◌}
 use mathlib.Core.Path.{◌≡◌, refl, ap}
 use mathlib.Core.Bool.{Bool, not, ◌&&◌}
 use mathlib.Core.List.{List, [], ◌∷◌}
 use lib.Dec.{eqb, ltb}
 use Rattle.bundle.specs.Lists.{up_to, any}
 use Rattle.bundle.specs.Chunks.{Chunk, complete, is_of}
-use Rattle.bundle.specs.Walk.{barriers_of, forks_of}
+use Rattle.bundle.specs.Walk.{opens_segment, adds_access, barriers_of, forks_of}
 use Rattle.bundle.specs.Check.{Fork, failing, stray, lacks_chunk, complete_in, lowest_complete, unlike_lowest, beyond_complete, shape_of}
-use Rattle.bundle.specs.Index.{is_row, chunk_row, rows_from, chunk_rows}
+use Rattle.bundle.specs.Index.{total, log_of, is_row, chunk_row, rows_from, chunk_rows}
 use Rattle.bundle.specs.Shape.{stray_row, lacks_row, complete_row, lowest_row, unlike_row, beyond_row, barriers_by_rows, settled_by_rows, shape_by_rows}
 use Rattle.bundle.specs.declared.index.ChunkRow.{ChunkRow}
 use Rattle.bundle.proofs.Keys.{all_same}
@@ -21,7 +21,8 @@ data RowsOf : List ChunkRow → List Chunk → Type 0 where
 rows_of : (g n : ℕ) (cs : List Chunk) → RowsOf (rows_from g n cs) cs
 unfolding rows_from
 rows_of g n [] = no_rows
-rows_of g n (c ∷ cs) = one_more g n c (rows_of _ _ cs)
+rows_of g n (c ∷ cs) =
+    one_more g n c (rows_of (g + total opens_segment (log_of c)) (n + total adds_access (log_of c)) cs)
 
 any-by :
     (p : ChunkRow → Bool) (q : Chunk → Bool)
@@ -45,7 +46,8 @@ failing-rows :
     → failing (λ (r : ChunkRow). r.place) test before rs ≡ failing (λ (c : Chunk). c.place) test' before' cs
 unfolding failing chunk_row
 failing-rows test test' same b no_rows = refl
-failing-rows test test' same b (one_more g n c r) = rw (same g n c _ _ b, failing-rows test test' same (one_more g n c b) r)
+failing-rows test test' same {before = before} {before' = before'} b (one_more {rs = rs} {cs = cs} g n c r) =
+    rw (same g n c _ _ b, failing-rows test test' same {before = chunk_row g n c ∷ before} {before' = c ∷ before'} (one_more g n c b) r)
 
 module _ {rs : List ChunkRow} {cs : List Chunk} (r : RowsOf rs cs) where
   lacks-rows : (t size : ℕ) → lacks_row rs t size ≡ lacks_chunk cs t size

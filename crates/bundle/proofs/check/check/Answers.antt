@@ -4,11 +4,8 @@ use Rattle.bundle.proofs.CheckCases.{indexed-accepted, indexed-refused}
 use borrow.Author.Rules.{rules}
 use Rattle.bundle.proofs.check.check.Goals as goal
 
-pub index_bundle-requires : goal.index_bundle-requires
-index_bundle-requires c = tt
-
 pub returns-in-Accepted : goal.returns-in-Accepted
-returns-in-Accepted c = sym (indexed-accepted _ _ _ c.index_bundle.ensures c.enum_told-1.given.1).accepted
+returns-in-Accepted c = sym (indexed-accepted _ _ _ c.index_bundle.ensures c.in-Accepted.is).accepted
 
 pub returns-in-Refused : goal.returns-in-Refused
-returns-in-Refused c = sym (indexed-refused _ _ _ c.index_bundle.ensures c.place-1.given.1)
+returns-in-Refused c = sym (indexed-refused _ _ _ c.index_bundle.ensures c.in-Refused.is)

@@ -5,11 +5,8 @@ use Rattle.bundle.proofs.Arms.{accept-beyond, accept-within}
 use borrow.Author.Rules.{rules}
 use Rattle.bundle.proofs.command.accept.Goals as goal
 
-pub in_range-requires : goal.in_range-requires
-in_range-requires c = tt
-
 pub returns-then-not-in_range : goal.returns-then-not-in_range
-returns-then-not-in_range c = accept-beyond _ c.reading-1.given.1 (sym c.in_range.ensures ∙ not-true _ c.if-not-in_range.true)
+returns-then-not-in_range c = accept-beyond _ c.in-Taken.is (sym c.in_range.ensures ∙ c.if-not-in_range.true)
 
 pub returns : goal.returns
-returns c = accept-within _ c.reading-1.given.1 (sym c.in_range.ensures ∙ not-false _ c.if-not-in_range.false)
+returns c = accept-within _ c.in-Taken.is (sym c.in_range.ensures ∙ c.if-not-in_range.false)

@@ -4,9 +4,6 @@ use Rattle.bundle.specs.Commands.{access_byte}
 use Rattle.bundle.proofs.Forms.{kind-byte-low}
 use Rattle.bundle.proofs.command.access_byte.Goals as goal
 
-pub kind_byte-byte-requires : goal.kind_byte-byte-requires
-kind_byte-byte-requires c = tt
-
 pub overflow_add-result : goal.overflow_add-result
 overflow_add-result c = omega (arith, c.kind_byte-byte.ensures, kind-byte-low c.args.kind)
 

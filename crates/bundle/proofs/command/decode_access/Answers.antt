@@ -6,9 +6,6 @@ use Rattle.bundle.proofs.Arms.{access-cut, wide_at, narrow_at, wide-to, narrow-t
 use borrow.Author.Rules.{rules}
 use Rattle.bundle.proofs.command.decode_access.Goals as goal
 
-pub cut_off-requires : goal.cut_off-requires
-cut_off-requires c = tt
-
 pub returns-then-bytes-position-lt14 : goal.returns-then-bytes-position-lt14
 unfolding sum
 returns-then-bytes-position-lt14 c =
@@ -20,9 +17,6 @@ decode_operands-requires c = wide-to _ _ c.requires c.if-bytes-position-ge56.tru
 
 pub returns-then-bytes-position-ge56 : goal.returns-then-bytes-position-ge56
 returns-then-bytes-position-ge56 c = c.decode_operands.ensures
-
-pub cut_off-requires-then-bytes-position-lt12 : goal.cut_off-requires-then-bytes-position-lt12
-cut_off-requires-then-bytes-position-lt12 c = tt
 
 pub returns-then-bytes-position-lt12 : goal.returns-then-bytes-position-lt12
 unfolding sum

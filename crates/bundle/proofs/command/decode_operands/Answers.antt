@@ -3,9 +3,6 @@ use Rattle.bundle.proofs.Arms.{access-decoded}
 use borrow.Author.Rules.{rules}
 use Rattle.bundle.proofs.command.decode_operands.Goals as goal
 
-pub kind_of-kind-requires : goal.kind_of-kind-requires
-kind_of-kind-requires c = tt
-
 pub returns : goal.returns
 returns c =
     access-decoded _ _ _ _

@@ -8,9 +8,6 @@ use native.Mathlib.Omega.{arith}
 use borrow.Author.Rules.{rules}
 use Rattle.bundle.proofs.command.decode_region.Goals as goal
 
-pub cut_off-requires : goal.cut_off-requires
-cut_off-requires c = tt
-
 pub returns-then-bytes-position-lt4 : goal.returns-then-bytes-position-lt4
 unfolding form_of sum width_of
 returns-then-bytes-position-lt4 c = c.cut_off.ensures ∙ decode-cut _ _ c.requires c.if-bytes-position-lt4.true

@@ -3,9 +3,6 @@ use Rattle.bundle.specs.Commands.{low_first, operand_bytes}
 use borrow.Author.Rules.{rules}
 use Rattle.bundle.proofs.command.encode_lock.Goals as goal
 
-pub low-lock-requires : goal.low-lock-requires
-low-lock-requires c = tt
-
 pub returns : goal.returns
 unfolding low_first operand_bytes
 returns c = search rules

@@ -6,16 +6,16 @@ use Rattle.bundle.proofs.command.kind_byte.Goals as goal
 
 pub returns-in-Read : goal.returns-in-Read
 unfolding kind_byte
-returns-in-Read c = sym (ap kind_byte c.enum_told-1.given.1)
+returns-in-Read c = sym (ap kind_byte c.in-Read.is)
 
 pub returns-in-Write : goal.returns-in-Write
 unfolding kind_byte
-returns-in-Write c = sym (ap kind_byte c.enum_told-in-Write-1.given.1)
+returns-in-Write c = sym (ap kind_byte c.in-Write.is)
 
 pub returns-in-AtomicRead : goal.returns-in-AtomicRead
 unfolding kind_byte
-returns-in-AtomicRead c = sym (ap kind_byte c.enum_told-in-AtomicRead-1.given.1)
+returns-in-AtomicRead c = sym (ap kind_byte c.in-AtomicRead.is)
 
 pub returns-in-AtomicWrite : goal.returns-in-AtomicWrite
 unfolding kind_byte
-returns-in-AtomicWrite c = sym (ap kind_byte c.enum_told-in-AtomicWrite-1.given.1)
+returns-in-AtomicWrite c = sym (ap kind_byte c.in-AtomicWrite.is)

@@ -9,29 +9,23 @@ pub returns-then-count-lt1 : goal.returns-then-count-lt1
 unfolding range_ok
 returns-then-count-lt1 c = simp (lt-leb _ _ c.if-count-lt1.true)
 
-pub stride_ok-requires : goal.stride_ok-requires
-stride_ok-requires c = tt
-
 pub returns-then-not-stride_ok : goal.returns-then-not-stride_ok
 unfolding range_ok
 returns-then-not-stride_ok c =
-    simp (le-leb _ _ c.if-count-lt1.false, sym c.stride_ok.ensures ∙ not-true _ c.if-not-stride_ok.true)
-
-pub size_ok-requires : goal.size_ok-requires
-size_ok-requires c = tt
+    simp (le-leb _ _ c.if-count-lt1.false, sym c.stride_ok.ensures ∙ c.if-not-stride_ok.true)
 
 pub returns-then-not-size_ok : goal.returns-then-not-size_ok
 unfolding range_ok
 returns-then-not-size_ok c =
     simp (
       le-leb _ _ c.if-count-lt1.false,
-      sym c.stride_ok.ensures ∙ not-false _ c.if-not-stride_ok.false,
-      sym c.before.Size-ok.ensures ∙ not-true _ c.if-not-size_ok.true,
+      sym c.stride_ok.ensures ∙ c.if-not-stride_ok.false,
+      sym c.size_ok.ensures ∙ c.if-not-size_ok.true,
     )
 
 pub last_ok-requires : goal.last_ok-requires
 last_ok-requires c =
-    (c.if-count-lt1.false, (size-within _ (sym c.before.Size-ok.ensures ∙ not-false _ c.if-not-size_ok.false)).0)
+    (c.if-count-lt1.false, (size-within _ (sym c.size_ok.ensures ∙ c.if-not-size_ok.false)).0)
 
 pub returns : goal.returns
 unfolding range_ok
@@ -39,6 +33,6 @@ returns c =
     c.last_ok.ensures
     ∙ sym (simp (
       le-leb _ _ c.if-count-lt1.false,
-      sym c.stride_ok.ensures ∙ not-false _ c.if-not-stride_ok.false,
-      sym c.before.before.Size-ok.ensures ∙ not-false _ c.if-not-size_ok.false,
+      sym c.stride_ok.ensures ∙ c.if-not-stride_ok.false,
+      sym c.size_ok.ensures ∙ c.if-not-size_ok.false,
     ))

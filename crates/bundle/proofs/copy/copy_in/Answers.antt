@@ -11,26 +11,8 @@ use Rattle.bundle.proofs.copy.copy_in.Goals as goal
 pub loop-i-init : goal.loop-i-init
 loop-i-init c = (search rules, search rules, paste-zero c.args.buffer.now c.args.position c.args.bytes.now)
 
-pub bounds-bytes-i : goal.bounds-bytes-i
-bounds-bytes-i c = search rules
-
-pub overflow_add-buffer : goal.overflow_add-buffer
-overflow_add-buffer c = search rules
-
-pub bounds-buffer-position : goal.bounds-buffer-position
-bounds-buffer-position c = search rules
-
-pub overflow_add-i : goal.overflow_add-i
-overflow_add-i c = search rules
-
-pub loop-i-smaller : goal.loop-i-smaller
-loop-i-smaller c = search rules
-
 pub loop-i-preserved : goal.loop-i-preserved
 loop-i-preserved c = (search rules, search rules, copy_more _ _ _ _ _ c.requires c.loop-i-test.true c.loop-i.invariant.2)
-
-pub shape_of-buffer : goal.shape_of-buffer
-shape_of-buffer c = search rules
 
 pub returns : goal.returns
 returns c = copy-all _ _ _ _ _ c.loop-i.invariant.0 c.loop-i-test.false c.loop-i.invariant.2

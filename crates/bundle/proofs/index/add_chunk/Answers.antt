@@ -3,11 +3,5 @@ use Rattle.bundle.proofs.Tables.{chunk-added, stored_past}
 use borrow.Author.Rules.{rules}
 use Rattle.bundle.proofs.index.add_chunk.Goals as goal
 
-pub pack-requires : goal.pack-requires
-pack-requires c = tt
-
-pub pack-requires-2 : goal.pack-requires-2
-pack-requires-2 c = tt
-
 pub returns : goal.returns
 returns c = chunk-added _ _ _ _ _ c.requires.0 (stored_past _ _ _ _ _ _ _ _ _ _ c.requires.1.past_some c.pack.ensures c.pack-2.ensures)

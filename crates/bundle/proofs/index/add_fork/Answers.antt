@@ -5,12 +5,6 @@ use Rattle.bundle.proofs.Tables.{fork-added, stored-fork}
 use borrow.Author.Rules.{rules}
 use Rattle.bundle.proofs.index.add_fork.Goals as goal
 
-pub pack-requires : goal.pack-requires
-pack-requires c = tt
-
-pub pack-requires-2 : goal.pack-requires-2
-pack-requires-2 c = tt
-
 pub bounds-forks-at-2 : goal.bounds-forks-at-2
 bounds-forks-at-2 c = simp length-set (omega (arith, c.requires.0))
 

@@ -3,18 +3,6 @@ use Rattle.bundle.specs.Index.{chunk_row_at, chunk_row_of}
 use borrow.Author.Rules.{rules}
 use Rattle.bundle.proofs.index.chunk_at.Goals as goal
 
-pub word_at-requires : goal.word_at-requires
-word_at-requires c = tt
-
-pub unpack-one-requires : goal.unpack-one-requires
-unpack-one-requires c = tt
-
-pub word_at-requires-2 : goal.word_at-requires-2
-word_at-requires-2 c = tt
-
-pub unpack-other-requires : goal.unpack-other-requires
-unpack-other-requires c = tt
-
 pub returns : goal.returns
 unfolding chunk_row_at chunk_row_of
 returns c = rw (c.unpack-other.ensures, c.word_at-2.ensures, c.unpack-one.ensures, c.word_at.ensures)

@@ -12,17 +12,8 @@ use Rattle.bundle.proofs.index.chunk_of.Goals as goal
 pub loop-i-init : goal.loop-i-init
 loop-i-init c = (search rules, λ l h. absurd (omega arith))
 
-pub is_row-requires : goal.is_row-requires
-is_row-requires c = search rules
-
 pub returns-then-is_row : goal.returns-then-is_row
 returns-then-is_row c = sym (index-found _ _ _ _ c.loop-i.invariant.1 c.loop-i-test.true (sym c.is_row.ensures ∙ c.if-is_row.true)).0
-
-pub overflow_add-i : goal.overflow_add-i
-overflow_add-i c = search rules
-
-pub loop-i-smaller : goal.loop-i-smaller
-loop-i-smaller c = search rules
 
 pub loop-i-preserved : goal.loop-i-preserved
 loop-i-preserved c = (search rules, below_more _ _ c.loop-i.invariant.1 (sym c.is_row.ensures ∙ c.if-is_row.false))

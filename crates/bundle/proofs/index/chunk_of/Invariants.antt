@@ -10,7 +10,7 @@ use Rattle.bundle.proofs.Tables.{index-found, all-missed}
 use Rattle.bundle.proofs.index.chunk_of.Given as goal
 
 abbrev pub invariant-loop-i : goal.invariant-loop-i
-invariant-loop-i l = (l.i ≤ l.count) × ((l : ℕ) → l < l.i → is_row l.team l.member (chunk_row_at l.chunks l) ≡ false)
+invariant-loop-i s = (s.i ≤ s.count) × ((l : ℕ) → l < s.i → is_row s.team s.member (chunk_row_at s.chunks l) ≡ false)
 
 abbrev pub decreases-loop-i : goal.decreases-loop-i
 decreases-loop-i l = l.count - l.i

@@ -14,9 +14,6 @@ use Rattle.bundle.proofs.index.fork_of.Goals as goal
 pub loop-i-init : goal.loop-i-init
 loop-i-init c = (search rules, λ l h. absurd (omega arith))
 
-pub fork_at-fork-requires : goal.fork_at-fork-requires
-fork_at-fork-requires c = tt
-
 pub returns-then-fork-team : goal.returns-then-fork-team
 returns-then-fork-team c =
     sym

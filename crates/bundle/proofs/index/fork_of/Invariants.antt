@@ -12,7 +12,7 @@ use Rattle.bundle.proofs.Tables.{index-found, all-missed}
 use Rattle.bundle.proofs.index.fork_of.Given as goal
 
 abbrev pub invariant-loop-i : goal.invariant-loop-i
-invariant-loop-i l = (l.i ≤ l.count) × ((l : ℕ) → l < l.i → eqb (fork_row_at l.forks l).team l.team ≡ false)
+invariant-loop-i s = (s.i ≤ s.count) × ((l : ℕ) → l < s.i → eqb (fork_row_at s.forks l).team s.team ≡ false)
 
 abbrev pub decreases-loop-i : goal.decreases-loop-i
 decreases-loop-i l = l.count - l.i

@@ -2,9 +2,6 @@
 use Rattle.bundle.specs.Index.{is_row}
 use Rattle.bundle.proofs.index.is_row.Goals as goal
 
-pub chunk_at-row-requires : goal.chunk_at-row-requires
-chunk_at-row-requires c = tt
-
 pub returns : goal.returns
 unfolding is_row
 returns c = rw c.chunk_at-row.ensures

@@ -2,32 +2,17 @@
 
 use Rattle.bundle.proofs.scan.decide.Goals as goal
 
-pub refuse-requires : goal.refuse-requires
-refuse-requires c = tt
-
 pub returns-then-misplaced : goal.returns-then-misplaced
 returns-then-misplaced c = rw c.if-misplaced.true c.refuse.ensures
-
-pub refuse-requires-then-foreign : goal.refuse-requires-then-foreign
-refuse-requires-then-foreign c = tt
 
 pub returns-then-foreign : goal.returns-then-foreign
 returns-then-foreign c = rw (c.if-misplaced.false, c.if-foreign.true) c.refuse-then-foreign.ensures
 
-pub refuse-requires-then-beyond : goal.refuse-requires-then-beyond
-refuse-requires-then-beyond c = tt
-
 pub returns-then-beyond : goal.returns-then-beyond
 returns-then-beyond c = rw (c.if-misplaced.false, c.if-foreign.false, c.if-beyond.true) c.refuse-then-beyond.ensures
 
-pub refuse-requires-then-misused : goal.refuse-requires-then-misused
-refuse-requires-then-misused c = tt
-
 pub returns-then-misused : goal.returns-then-misused
 returns-then-misused c = rw (c.if-misplaced.false, c.if-foreign.false, c.if-beyond.false, c.if-misused.true) c.refuse-then-misused.ensures
-
-pub refuse-requires-then-many : goal.refuse-requires-then-many
-refuse-requires-then-many c = tt
 
 pub returns-then-many : goal.returns-then-many
 returns-then-many c = rw (c.if-misplaced.false, c.if-foreign.false, c.if-beyond.false, c.if-misused.false, c.if-many.true) c.refuse-then-many.ensures

@@ -2,8 +2,5 @@
 use borrow.Author.Rules.{rules}
 use Rattle.bundle.proofs.scan.open_chunk.Goals as goal
 
-pub fresh-requires : goal.fresh-requires
-fresh-requires c = tt
-
 pub returns : goal.returns
 returns c = rw c.fresh.ensures

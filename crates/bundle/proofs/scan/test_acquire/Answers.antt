@@ -5,18 +5,6 @@ use Rattle.bundle.specs.Scan.{is_member, misplaced, of_other_group, above_own_te
 use Rattle.bundle.proofs.Stepping.{tested, beyond-range, many-none, after-acquire}
 use Rattle.bundle.proofs.scan.test_acquire.Goals as goal
 
-pub after_acquire-requires : goal.after_acquire-requires
-after_acquire-requires c = tt
-
-pub in_range-requires : goal.in_range-requires
-in_range-requires c = tt
-
-pub holds_lock-requires : goal.holds_lock-requires
-holds_lock-requires c = tt
-
-pub decide-requires : goal.decide-requires
-decide-requires c = tt
-
 pub returns : goal.returns
 unfolding misplaced is_member of_other_group above_own_team misuses_lock opens_segment adds_access
 returns c =

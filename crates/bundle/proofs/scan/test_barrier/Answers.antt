@@ -6,12 +6,6 @@ use Rattle.bundle.specs.Scan.{is_member, misplaced, of_other_group, above_own_te
 use Rattle.bundle.proofs.Stepping.{tested, many-segments, after-barrier}
 use Rattle.bundle.proofs.scan.test_barrier.Goals as goal
 
-pub after_barrier-requires : goal.after_barrier-requires
-after_barrier-requires c = tt
-
-pub decide-requires : goal.decide-requires
-decide-requires c = tt
-
 pub returns : goal.returns
 unfolding form_of code_of widths_of operands_ok fit_widths in_range misplaced is_member of_other_group above_own_team misuses_lock opens_segment adds_access
 returns c =

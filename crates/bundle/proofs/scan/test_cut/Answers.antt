@@ -6,12 +6,6 @@ use Rattle.bundle.specs.Scan.{is_member, misplaced, of_other_group, above_own_te
 use Rattle.bundle.proofs.Stepping.{tested, many-none}
 use Rattle.bundle.proofs.scan.test_cut.Goals as goal
 
-pub close_chunk-requires : goal.close_chunk-requires
-close_chunk-requires c = tt
-
-pub decide-requires : goal.decide-requires
-decide-requires c = tt
-
 pub returns : goal.returns
 unfolding form_of code_of widths_of operands_ok fit_widths in_range misplaced is_member of_other_group above_own_team misuses_lock opens_segment adds_access scanned
 returns c =

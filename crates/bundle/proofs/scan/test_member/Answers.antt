@@ -6,12 +6,6 @@ use Rattle.bundle.specs.Scan.{is_member, misplaced, of_other_group, above_own_te
 use Rattle.bundle.proofs.Stepping.{tested, beyond-range, many-segments}
 use Rattle.bundle.proofs.scan.test_member.Goals as goal
 
-pub in_range-requires : goal.in_range-requires
-in_range-requires c = tt
-
-pub decide-requires : goal.decide-requires
-decide-requires c = tt
-
 pub returns : goal.returns
 unfolding misplaced is_member of_other_group above_own_team misuses_lock opens_segment adds_access scanned
 returns c =

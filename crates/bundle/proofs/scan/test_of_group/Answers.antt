@@ -5,12 +5,6 @@ use Rattle.bundle.specs.Scan.{is_member, misplaced, above_own_team, misuses_lock
 use Rattle.bundle.proofs.Stepping.{tested, other-group, beyond-range, many-accesses, after-access}
 use Rattle.bundle.proofs.scan.test_of_group.Goals as goal
 
-pub in_range-requires : goal.in_range-requires
-in_range-requires c = tt
-
-pub decide-requires : goal.decide-requires
-decide-requires c = tt
-
 pub returns : goal.returns
 unfolding misplaced is_member above_own_team misuses_lock opens_segment adds_access
 returns c =

@@ -6,18 +6,6 @@ use Rattle.bundle.proofs.Stepping.{tested, beyond-range, many-none, after-releas
 use mathlib.Core.Bool.{not}
 use Rattle.bundle.proofs.scan.test_release.Goals as goal
 
-pub after_release-requires : goal.after_release-requires
-after_release-requires c = tt
-
-pub in_range-requires : goal.in_range-requires
-in_range-requires c = tt
-
-pub holds_lock-requires : goal.holds_lock-requires
-holds_lock-requires c = tt
-
-pub decide-requires : goal.decide-requires
-decide-requires c = tt
-
 pub returns : goal.returns
 unfolding misplaced is_member of_other_group above_own_team misuses_lock opens_segment adds_access
 returns c =

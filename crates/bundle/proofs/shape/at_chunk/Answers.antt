@@ -2,8 +2,5 @@
 
 use Rattle.bundle.proofs.shape.at_chunk.Goals as goal
 
-pub chunk_at-row-requires : goal.chunk_at-row-requires
-chunk_at-row-requires c = tt
-
 pub returns : goal.returns
 returns c = rw c.chunk_at-row.ensures

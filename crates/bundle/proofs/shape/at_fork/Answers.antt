@@ -2,8 +2,5 @@
 
 use Rattle.bundle.proofs.shape.at_fork.Goals as goal
 
-pub fork_at-row-requires : goal.fork_at-row-requires
-fork_at-row-requires c = tt
-
 pub returns : goal.returns
 returns c = rw c.fork_at-row.ensures

@@ -11,17 +11,8 @@ use Rattle.bundle.proofs.shape.first_failing.Goals as goal
 pub loop-row-init : goal.loop-row-init
 loop-row-init c = (search rules, λ j h. absurd (omega arith))
 
-pub fails-requires : goal.fails-requires
-fails-requires c = search rules
-
 pub returns-then-fails : goal.returns-then-fails
 returns-then-fails c = record { within = search rules; before = c.loop-row.invariant.1; here = λ h. sym c.fails.ensures ∙ c.if-fails.true }
-
-pub overflow_add-row : goal.overflow_add-row
-overflow_add-row c = search rules
-
-pub loop-row-smaller : goal.loop-row-smaller
-loop-row-smaller c = search rules
 
 pub loop-row-preserved : goal.loop-row-preserved
 loop-row-preserved c = (search rules, below_more _ _ c.loop-row.invariant.1 (sym c.fails.ensures ∙ c.if-fails.false))

@@ -14,9 +14,6 @@ use Rattle.bundle.proofs.shape.first_stray.Goals as goal
 pub loop-i-init : goal.loop-i-init
 loop-i-init c = (search rules, refl, refl, λ j h. absurd (omega arith), c.requires.met)
 
-pub chunk_at-row-requires : goal.chunk_at-row-requires
-chunk_at-row-requires c = search rules
-
 pub slot_of-slot-requires : goal.slot_of-slot-requires
 slot_of-slot-requires c = c.requires.by_team.few
 
@@ -45,12 +42,6 @@ returns-then-is_stray c =
 
 pub note-requires : goal.note-requires
 note-requires c = slot-room _ _ _ _ c.requires.by_team _ c.loop-i.invariant.4 c.chunk_at-row.ensures c.slot_of-slot.ensures
-
-pub overflow_add-i : goal.overflow_add-i
-overflow_add-i c = search rules
-
-pub loop-i-smaller : goal.loop-i-smaller
-loop-i-smaller c = search rules
 
 pub loop-i-preserved : goal.loop-i-preserved
 loop-i-preserved c =

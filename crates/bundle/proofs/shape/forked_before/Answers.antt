@@ -2,8 +2,5 @@
 use borrow.Author.Rules.{rules}
 use Rattle.bundle.proofs.shape.forked_before.Goals as goal
 
-pub fork_at-row-requires : goal.fork_at-row-requires
-fork_at-row-requires c = tt
-
 pub returns : goal.returns
 returns c = rw (c.slot_of.ensures, c.fork_at-row.ensures)

@@ -2,8 +2,5 @@
 use borrow.Author.Rules.{rules}
 use Rattle.bundle.proofs.shape.is_stray.Goals as goal
 
-pub met-requires : goal.met-requires
-met-requires c = tt
-
 pub returns : goal.returns
 returns c = rw (c.met.ensures, c.size_of.ensures)

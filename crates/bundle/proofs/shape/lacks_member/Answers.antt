@@ -13,20 +13,11 @@ use Rattle.bundle.proofs.shape.lacks_member.Goals as goal
 pub loop-member-init : goal.loop-member-init
 loop-member-init c = (search rules, λ m h. absurd (omega arith))
 
-pub met-requires : goal.met-requires
-met-requires c = search rules
-
 pub returns-then-not-met : goal.returns-then-not-met
-returns-then-not-met c = lacks-one _ _ _ _ c.loop-member-test.true (sym c.met.ensures ∙ not-true _ c.if-not-met.true)
-
-pub overflow_add-member : goal.overflow_add-member
-overflow_add-member c = search rules
-
-pub loop-member-smaller : goal.loop-member-smaller
-loop-member-smaller c = search rules
+returns-then-not-met c = lacks-one _ _ _ _ c.loop-member-test.true (sym c.met.ensures ∙ c.if-not-met.true)
 
 pub loop-member-preserved : goal.loop-member-preserved
-loop-member-preserved c = (search rules, below_more _ _ c.loop-member.invariant.1 (sym c.met.ensures ∙ not-false _ c.if-not-met.false))
+loop-member-preserved c = (search rules, below_more _ _ c.loop-member.invariant.1 (sym c.met.ensures ∙ c.if-not-met.false))
 
 pub returns : goal.returns
 returns c = lacks-none _ _ _ (λ m h. c.loop-member.invariant.1 m (omega (arith, c.loop-member-test.false)))

@@ -7,23 +7,11 @@ use Rattle.bundle.proofs.shape.test_all.Goals as goal
 pub first_failing-i-requires : goal.first_failing-i-requires
 first_failing-i-requires c = c.requires.by_team.few
 
-pub at_fork-requires : goal.at_fork-requires
-at_fork-requires c = tt
-
-pub shape_of-masks-then-i-regions : goal.shape_of-masks-then-i-regions
-shape_of-masks-then-i-regions c = refl
-
-pub shape_of-leads-then-i-regions : goal.shape_of-leads-then-i-regions
-shape_of-leads-then-i-regions c = refl
-
 pub returns-then-i-regions : goal.returns-then-i-regions
-returns-then-i-regions c = ap checking_of c.at_Fork.ensures ∙ forked-twice _ _ _ _ _ _ _ c.requires.by_team c.first_failing-i.ensures c.if-i-regions.true
+returns-then-i-regions c = ap checking_of c.at_fork.ensures ∙ forked-twice _ _ _ _ _ _ _ c.requires.by_team c.first_failing-i.ensures c.if-i-regions.true
 
 pub first_stray-i-requires : goal.first_stray-i-requires
 first_stray-i-requires c = c.requires
-
-pub at_chunk-requires : goal.at_chunk-requires
-at_chunk-requires c = tt
 
 pub shape_of-masks-then-i-count : goal.shape_of-masks-then-i-count
 shape_of-masks-then-i-count c = c.masks-1.given

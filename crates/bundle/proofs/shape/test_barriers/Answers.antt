@@ -10,12 +10,6 @@ first_failing-i-requires c = c.requires.by_team.few
 pub returns-then-count-i : goal.returns-then-count-i
 returns-then-count-i c = none-uneven _ _ _ _ _ _ _ c.requires c.first_failing-i.ensures c.if-count-i.true
 
-pub chunk_at-row-requires : goal.chunk_at-row-requires
-chunk_at-row-requires c = tt
-
-pub at_chunk-requires : goal.at_chunk-requires
-at_chunk-requires c = tt
-
 pub returns-then-row : goal.returns-then-row
 returns-then-row c =
     ap checking_of c.at_chunk.ensures
@@ -24,14 +18,8 @@ returns-then-row c =
 pub first_failing-k-requires : goal.first_failing-k-requires
 first_failing-k-requires c = c.requires.by_team.few
 
-pub at_chunk-requires-then-k-count : goal.at_chunk-requires-then-k-count
-at_chunk-requires-then-k-count c = tt
-
 pub returns-then-k-count : goal.returns-then-k-count
 returns-then-k-count c = ap checking_of c.at_chunk-then-k-count.ensures ∙ one-unlike _ _ _ _ _ _ _ c.requires c.first_failing-k.ensures c.if-k-count.true
-
-pub at_chunk-requires-2 : goal.at_chunk-requires-2
-at_chunk-requires-2 c = tt
 
 pub returns : goal.returns
 returns c =

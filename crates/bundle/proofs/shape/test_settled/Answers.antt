@@ -6,26 +6,17 @@ use mathlib.Core.Path.{ap, ◌∙◌}
 use borrow.Author.Rules.{rules}
 use Rattle.bundle.proofs.shape.test_settled.Goals as goal
 
-pub met-requires : goal.met-requires
-met-requires c = tt
-
 pub returns-then-not-met : goal.returns-then-not-met
-returns-then-not-met c = root-missing _ _ _ _ _ _ _ c.requires c.slot_of.ensures c.met.ensures (not-true _ c.if-not-met.true)
-
-pub at_fork-requires : goal.at_fork-requires
-at_fork-requires c = tt
+returns-then-not-met c = root-missing _ _ _ _ _ _ _ c.requires c.slot_of.ensures c.met.ensures c.if-not-met.true
 
 pub returns-then-i-regions : goal.returns-then-i-regions
-returns-then-i-regions c = ap checking_of c.at_Fork.ensures ∙ chunk-missing _ _ _ _ _ _ _ c.requires c.slot_of.ensures c.met.ensures (not-false _ c.if-not-met.false) c.first_failing-i.ensures c.if-i-regions.true
-
-pub at_fork-requires-then-i-regions-2 : goal.at_fork-requires-then-i-regions-2
-at_fork-requires-then-i-regions-2 c = tt
+returns-then-i-regions c = ap checking_of c.at_fork.ensures ∙ chunk-missing _ _ _ _ _ _ _ c.requires c.slot_of.ensures c.met.ensures c.if-not-met.false c.first_failing-i.ensures c.if-i-regions.true
 
 pub returns-then-i-regions-2 : goal.returns-then-i-regions-2
-returns-then-i-regions-2 c = ap checking_of c.at_fork-then-i-regions-2.ensures ∙ one-deep _ _ _ _ _ _ _ c.requires c.slot_of.ensures c.met.ensures (not-false _ c.if-not-met.false) c.first_failing-i.ensures c.if-i-regions.false c.first_failing-i-2.ensures c.if-i-regions-2.true
+returns-then-i-regions-2 c = ap checking_of c.at_fork-then-i-regions-2.ensures ∙ one-deep _ _ _ _ _ _ _ c.requires c.slot_of.ensures c.met.ensures c.if-not-met.false c.first_failing-i.ensures c.if-i-regions.false c.first_failing-i-2.ensures c.if-i-regions-2.true
 
 pub test_barriers-requires : goal.test_barriers-requires
 test_barriers-requires c = c.requires
 
 pub returns : goal.returns
-returns c = c.test_barriers.ensures ∙ none_deep _ _ _ _ _ _ _ c.requires c.slot_of.ensures c.met.ensures (not-false _ c.if-not-met.false) c.first_failing-i.ensures c.if-i-regions.false c.first_failing-i-2.ensures c.if-i-regions-2.false
+returns c = c.test_barriers.ensures ∙ none_deep _ _ _ _ _ _ _ c.requires c.slot_of.ensures c.met.ensures c.if-not-met.false c.first_failing-i.ensures c.if-i-regions.false c.first_failing-i-2.ensures c.if-i-regions-2.false

@@ -5,9 +5,6 @@ use mathlib.Core.Path.{sym}
 use borrow.Author.Rules.{rules}
 use Rattle.bundle.proofs.shape.too_deep.Goals as goal
 
-pub fork_at-row-requires : goal.fork_at-row-requires
-fork_at-row-requires c = tt
-
 pub returns-then-team-lt4 : goal.returns-then-team-lt4
 unfolding deep_by
 returns-then-team-lt4 c = simp (sym c.fork_at-row.ensures, lt-ltb _ _ c.if-team-lt4.true)

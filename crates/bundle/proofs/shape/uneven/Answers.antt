@@ -3,12 +3,6 @@ use Rattle.bundle.specs.Shape.{uneven_by}
 use borrow.Author.Rules.{rules}
 use Rattle.bundle.proofs.shape.uneven.Goals as goal
 
-pub chunk_at-row-requires : goal.chunk_at-row-requires
-chunk_at-row-requires c = tt
-
-pub lead_at-lead-requires : goal.lead_at-lead-requires
-lead_at-lead-requires c = tt
-
 pub returns-then-row : goal.returns-then-row
 unfolding uneven_by
 returns-then-row c = rw (← c.chunk_at-row.ensures, c.if-row.true, c.lead_at-lead.ensures, c.slot_of.ensures)

@@ -3,9 +3,6 @@ use Rattle.bundle.specs.Scan.{start}
 use Rattle.bundle.specs.Survey.{beginning}
 use Rattle.bundle.proofs.survey.begin.Goals as goal
 
-pub fresh-requires : goal.fresh-requires
-fresh-requires c = tt
-
 pub returns : goal.returns
 unfolding beginning start
 returns c = rw c.fresh.ensures

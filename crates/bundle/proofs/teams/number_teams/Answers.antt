@@ -11,33 +11,6 @@ use Rattle.bundle.proofs.teams.number_teams.Goals as goal
 pub loop-i-init : goal.loop-i-init
 loop-i-init c = (search rules, refl, sym (table_none _))
 
-pub overflow_cast-i : goal.overflow_cast-i
-overflow_cast-i c = search rules
-
-pub fork_at-row-requires : goal.fork_at-row-requires
-fork_at-row-requires c = search rules
-
-pub overflow_cast-order : goal.overflow_cast-order
-overflow_cast-order c = search rules
-
-pub overflow_mul-order : goal.overflow_mul-order
-overflow_mul-order c = search rules
-
-pub overflow_add-order : goal.overflow_add-order
-overflow_add-order c = search rules
-
-pub offset_bounds-order-i : goal.offset_bounds-order-i
-offset_bounds-order-i c = search rules
-
-pub bounds-order-i : goal.bounds-order-i
-bounds-order-i c = search rules
-
-pub overflow_add-i : goal.overflow_add-i
-overflow_add-i c = search rules
-
-pub loop-i-smaller : goal.loop-i-smaller
-loop-i-smaller c = search rules
-
 pub loop-i-preserved : goal.loop-i-preserved
 loop-i-preserved c = (search rules, search rules, written-more _ _ _ c.loop-i.invariant.2 _ c.loop-i-test.true (rw c.fork_at-row.ensures refl))
 

@@ -8,8 +8,5 @@ returns-then-team-eq0 c = size-root _ _ _ c.if-team-eq0.true
 pub returns-then-regions-slot : goal.returns-then-regions-slot
 returns-then-regions-slot c = size_none _ _ _ _ c.requires c.if-team-eq0.false c.if-regions-slot.true
 
-pub fork_at-row-requires : goal.fork_at-row-requires
-fork_at-row-requires c = tt
-
 pub returns : goal.returns
 returns c = size-some _ _ _ _ c.requires c.if-team-eq0.false c.if-regions-slot.false _ c.fork_at-row.ensures

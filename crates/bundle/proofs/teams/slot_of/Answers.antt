@@ -4,8 +4,5 @@ use Rattle.bundle.proofs.Slots.{key_fits}
 use borrow.Author.Rules.{rules}
 use Rattle.bundle.proofs.teams.slot_of.Goals as goal
 
-pub first_with_key-requires : goal.first_with_key-requires
-first_with_key-requires c = tt
-
 pub overflow_cast-result : goal.overflow_cast-result
 overflow_cast-result c = omega (arith, c.first_with_key.ensures, key_fits c.args.order.now c.args.team c.requires)

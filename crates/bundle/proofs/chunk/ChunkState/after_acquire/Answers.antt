@@ -10,9 +10,6 @@ use Rattle.bundle.proofs.chunk.ChunkState.after_acquire.Goals as goal
 pub returns-then-lock-ge64 : goal.returns-then-lock-ge64
 returns-then-lock-ge64 c = rw (le-ltb _ _ c.if-lock-ge64.true)
 
-pub holds_lock-requires : goal.holds_lock-requires
-holds_lock-requires c = tt
-
 pub returns-then-holds_lock : goal.returns-then-holds_lock
 returns-then-holds_lock c = rw (lt-ltb _ _ c.if-lock-ge64.false, sym c.holds_lock.ensures ∙ c.if-holds_lock.true)
 

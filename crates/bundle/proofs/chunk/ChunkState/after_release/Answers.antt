@@ -9,9 +9,6 @@ use Rattle.bundle.proofs.chunk.ChunkState.after_release.Goals as goal
 pub returns-then-lock-ge64 : goal.returns-then-lock-ge64
 returns-then-lock-ge64 c = rw (← none_above c.args.lock c.args.self.locks (search rules) c.if-lock-ge64.true)
 
-pub holds_lock-requires : goal.holds_lock-requires
-holds_lock-requires c = tt
-
 pub overflow_sub-result : goal.overflow_sub-result
 overflow_sub-result c = rw (one_shifted _ c.if-lock-ge64.false) (released-there _ _ (sym c.holds_lock.ensures ∙ c.if-holds_lock.true))
 
