@@ -28,7 +28,7 @@ past_end = record { offset = 0; span = 0; interval = 0 }
 
 -- what owning a label tells: there is room for five triples
 pub five : (l : Label) (vs : List Val) → Is (row the_type) l vs → length l.triples ≡ 5
-five l vs owned = sym (length-map l.triples _) ∙ owned.1.1.1.0.1.0.1
+five l vs owned = owned.1.1.1.0.1.0.1
 
 -- the counted triples from the k-th on
 abbrev pub rest : ℕ → Label → List Triple
