@@ -27,7 +27,7 @@ fn put_race(race: Race) {
 
 fn put_verdict(verdict: Verdict) {
     match verdict {
-        Verdict::RaceFree => text::put_text(b"race_free"),
+        Verdict::RaceFree => text::put_text(b"race-free"),
         Verdict::Least(race) => put_race(race),
     }
 }
