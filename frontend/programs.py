@@ -174,7 +174,7 @@ class Programs:
                 elif word is None and (found := BUILD_LINE.fullmatch(text)):
                     word = found[1].decode()
                 else:
-                    raise Failed("the program printed a line that has no form of ours after the last bundle")
+                    raise Failed("the program printed a line that has no form of ours behind the last bundle")
             if word is None:
                 raise Failed("the program ended before it had judged the build")
             if not word_agrees(word, lines):
