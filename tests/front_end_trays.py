@@ -319,7 +319,7 @@ class Statuses(Case):
         self.put("b", a=LATE)
         ended = self.run_command("tray", self.tray, programs_at=self.folder)
         self.assertEqual(ended.status, 2)
-        self.assertIn("rt check judge_build racelist", ended.err)
+        self.assertIn("tools/build_programs", ended.err)
         ended = self.run_command("list", "-", programs_at=self.folder)
         self.assertEqual(ended.status, 2)
 
