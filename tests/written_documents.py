@@ -35,14 +35,17 @@ def first_comment(path):
 
 # --------------------------------------------------------------------- laws
 
+# Files of a function's proof, in proofs/MODULE/FUNCTION: its answers and invariants, and Proof in the older Rattle.
+OF_FUNCTIONS = ("Answers", "Invariants", "Proof")
+
 LAWS_BEGIN = """# Laws by file
 
 Every file of laws in `crates/*/proofs/`, with its first comment. `tests/write_documents` writes this page; `tests/check_documents`
 checks that it is up to date.
 
 Each crate has two lists. *Laws and results* build on the definitions and on each other; no proof of a function cites them directly. Laws
-that are *cited by proofs of functions* say, case by case, why the code meets its contract. The proof of a function `f` of module `m` is
-`proofs/m/f/Proof.antt`. [PROVED.md](PROVED.md) has the statements that a user relies on, and [INTERNALS.md](INTERNALS.md), "Laws", the
+that are *cited by proofs of functions* say, case by case, why the code meets its contract. The proof of a function `f` of module `m` is in
+the folder `proofs/m/f`. [PROVED.md](PROVED.md) has the statements that a user relies on, and [INTERNALS.md](INTERNALS.md), "Laws", the
 order in which they build on each other.
 """
 
@@ -52,7 +55,7 @@ def law_files():
     found = {}
     for path in CRATES.glob("*/proofs/**/*.antt"):
         inner = path.relative_to(CRATES / path.relative_to(CRATES).parts[0] / "proofs")
-        if path.stem not in ("Lib", "Proof"):
+        if path.stem != "Lib" and not (path.stem in OF_FUNCTIONS and len(inner.parts) > 2):
             found[path.relative_to(CRATES).parts[0], str(inner.with_suffix(""))] = path
     return found
 
@@ -60,9 +63,10 @@ def law_files():
 def cited_by_functions(crate):
     """The names of the laws of a crate that some function's proof cites, of this crate or of another."""
     cited = set()
-    for path in CRATES.glob("*/proofs/*/*/Proof.antt"):
-        for words in re.findall(rf"Rattle·{crate}(?:·proofs)?\.proofs\.([\w.]+?)(?:\.\{{| |$)", text_of(path), re.MULTILINE):
-            cited.add(words.replace(".", "/"))
+    for path in CRATES.glob("*/proofs/*/*/**/*.antt"):
+        if path.stem in OF_FUNCTIONS:
+            for words in re.findall(rf"Rattle[·.]{crate}(?:·proofs)?\.proofs\.([\w.]+?)(?:\.\{{| |$)", text_of(path), re.MULTILINE):
+                cited.add(words.replace(".", "/"))
     return cited
 
 
