@@ -1,34 +1,35 @@
 -- What is left of a chunk that is cut: its body passes the scan where it stands, counts no more than before, has the same REGIONs and no
 -- more barriers, and is whole where it is complete.
-use Prim.Native.Nat.{ℕ, _+_, _≤_}
-use mathlib.Core.Path.{_≡_, refl, sym, _∙_, ap, subst}
-use mathlib.Core.Logic.{⊎-elim}
+use Prim.Native.Nat.{ℕ, ◌+◌, ◌≤◌}
+use mathlib.Core.Path.{◌≡◌, refl, sym, ◌∙◌, ap, subst}
+use mathlib.Core.Logic.{⊎_elim}
 use mathlib.Core.Bool.{true, false}
-use mathlib.Core.List.{List, [], _∷_, _++_, map, List·Memᴰ, List·Memᴰ·head, List·Memᴰ·tail, List·Memᴰ·eq-of-singleton, tail-eq-of-cons-eq, head-eq-of-cons-eq, append-ne-nil-of-right-ne-nil, List·Memᴰ·cases-cons}
+use mathlib.Core.List.Memᴰ
+use mathlib.Core.List.{List, [], ◌∷◌, ◌++◌, map, Memᴰ, tail-eq_of_cons-eq, head-eq_of_cons-eq, append-ne-nil_of_right_ne-nil}
 use native.Mathlib.Omega.{arith}
-use Rattle·bundle·specs.specs.Lists.{any, concatMap}
-use Rattle·bundle·specs.specs.Commands.{formOf, codeOf, widthsOf, fitWidths, operandsOk, inRange}
-use Rattle·bundle·specs.specs.Chunks.{Placed, Chunk, afterCommand, afterCommands, commandsOf, isEnd, complete}
-use Rattle·bundle·specs.specs.Walk.{opensSegment, addsAccess, Entry, entriesFrom, entriesOf, barriersOf, forkAt, forksIn}
-use Rattle·bundle·specs.specs.Scan.{isMember, misplaced, aboveOwnTeam, misusesLock, start, scanned}
-use Rattle·bundle·specs.specs.Index.{total, logOf}
-use Rattle·bundle·specs.specs.declared.scan.Scan.{Scan}
-use Rattle·bundle·specs.specs.declared.chunk.ChunkState.{ChunkState}
-use Rattle·bundle·specs.specs.declared.index.Fork.{Fork}
-use Rattle·bundle·specs.specs.declared.command.Access.{Access}
-use Rattle·bundle·specs.specs.declared.command.Command.{Command}
-use Rattle·bundle·specs.specs.declared.command.Command.the-variants as Com
-use Rattle·bundle·proofs.proofs.Tests.{false-is-true, both, and-left}
-use Rattle·bundle·proofs.proofs.Delimiters.{accessing, plain, closes, on-plain, forking, on-other, closes-forks-none, plain-not-end, barriers-rise}
-use Rattle·bundle·proofs.proofs.Scanning.{passes, uncounted, orderly, orderly-tail, not-access}
-use Rattle·bundle·proofs.proofs.Gathering.{Body, ends, goes, Formed}
-use Rattle·bundle·proofs.proofs.Shortening.{Shortened}
+use Rattle.bundle.specs.Lists.{any, concat_map}
+use Rattle.bundle.specs.Commands.{form_of, code_of, widths_of, fit_widths, operands_ok, in_range}
+use Rattle.bundle.specs.Chunks.{Placed, Chunk, after_command, after_commands, commands_of, is_end, complete}
+use Rattle.bundle.specs.Walk.{opens_segment, adds_access, Entry, entries_from, entries_of, barriers_of, fork_at, forks_in}
+use Rattle.bundle.specs.Scan.{is_member, misplaced, above_own_team, misuses_lock, start, scanned}
+use Rattle.bundle.specs.Index.{total, log_of}
+use Rattle.bundle.specs.declared.scan.Scan.{Scan}
+use Rattle.bundle.specs.declared.chunk.ChunkState.{ChunkState}
+use Rattle.bundle.specs.declared.index.Fork.{Fork}
+use Rattle.bundle.specs.declared.command.Access.{Access}
+use Rattle.bundle.specs.declared.command.Command.{Command}
+use Rattle.bundle.specs.declared.command.Command.TheVariants as Com
+use Rattle.bundle.proofs.Tests.{false-is-true, both, and_left}
+use Rattle.bundle.proofs.Delimiters.{accessing, plain, closes, on-plain, forking, on-other, closes-forks-none, plain-not-end, barriers-rise}
+use Rattle.bundle.proofs.Scanning.{passes, uncounted, orderly, orderly-tail, not-access}
+use Rattle.bundle.proofs.Gathering.{Body, ends, goes, Formed}
+use Rattle.bundle.proofs.Shortening.{Shortened}
 
 abbrev bare : List Placed → List Command
-bare ps = map (λ (p : Placed). p .command) ps
+bare ps = map (λ (p : Placed). p.command) ps
 
 abbrev NoRegion : List Command → Type 0
-NoRegion cs = (c : Command) → List·Memᴰ c cs → forking c ≡ false
+NoRegion cs = (c : Command) → Memᴰ c cs → forking c ≡ false
 
 -- CUT in place of what is lost; its offset does not matter
 abbrev cutting : Placed
@@ -36,9 +37,9 @@ cutting = record { at = 0; command = Com.Cut }
 
 -- what is left of a body: all of it, or its first commands and CUT
 pub data Left : List Placed → List Placed → Type 0 where
-  stays : {p : Placed} → closes (p .command) ≡ true → Left (p ∷ []) (p ∷ [])
+  stays : {p : Placed} → closes p.command ≡ true → Left (p ∷ []) (p ∷ [])
   cuts : {p : Placed} {ps : List Placed} → NoRegion (bare (p ∷ ps)) → Left (p ∷ ps) (cutting ∷ [])
-  keeps : {p : Placed} {ps qs : List Placed} → plain (p .command) ≡ true → Left ps qs → Left (p ∷ ps) (p ∷ qs)
+  keeps : {p : Placed} {ps qs : List Placed} → plain p.command ≡ true → Left ps qs → Left (p ∷ ps) (p ∷ qs)
 
 pub left-whole : {ps : List Placed} → Body ps → Left ps ps
 left-whole (ends e) = stays e
@@ -50,32 +51,32 @@ pub record LeftAs (ps : List Placed) (cs : List Command) : Type 0 where
   pub commands : bare rest ≡ cs
 
 -- "at command ends": all that is kept stands before the command that closes
-pub left-cut :
+pub left_cut :
     {ps : List Placed} (kept lost : List Command)
     → Body ps
     → bare ps ≡ kept ++ lost
     → (lost ≡ [] → ⊥)
     → NoRegion lost
     → LeftAs ps (kept ++ (Com.Cut ∷ []))
-left-cut [] lost (ends e) q some h = record { rest = cutting ∷ []; left = cuts (subst NoRegion (sym q) h); commands = refl }
-left-cut [] lost (goes e b) q some h = record { rest = cutting ∷ []; left = cuts (subst NoRegion (sym q) h); commands = refl }
-left-cut (c ∷ kept) lost (ends e) q some h = absurd (append-ne-nil-of-right-ne-nil kept some (sym (tail-eq-of-cons-eq q)))
-left-cut (c ∷ kept) lost (goes {p = p} e b) q some h =
-    let r = left-cut kept lost b (tail-eq-of-cons-eq q) some h in
-    record { rest = p ∷ r .rest; left = keeps e (r .left); commands = λ i. head-eq-of-cons-eq q i ∷ r .commands i }
+left_cut [] lost (ends e) q some h = record { rest = cutting ∷ []; left = cuts (subst NoRegion (sym q) h); commands = refl }
+left_cut [] lost (goes e b) q some h = record { rest = cutting ∷ []; left = cuts (subst NoRegion (sym q) h); commands = refl }
+left_cut (c ∷ kept) lost (ends e) q some h = absurd (append-ne-nil_of_right_ne-nil kept some (sym (tail-eq_of_cons-eq q)))
+left_cut (c ∷ kept) lost (goes {p = p} e b) q some h =
+    let r = left_cut kept lost b (tail-eq_of_cons-eq q) some h in
+    record { rest = p ∷ r.rest; left = keeps e r.left; commands = λ i. head-eq_of_cons-eq q i ∷ r.commands i }
 
 pub cut-closes : closes Com.Cut ≡ true
 unfolding closes
 cut-closes = refl
 
-pub left-body : {ps qs : List Placed} → Left ps qs → Body qs
-left-body (stays e) = ends e
-left-body (cuts h) = ends cut-closes
-left-body (keeps e l) = goes e (left-body l)
+pub left_body : {ps qs : List Placed} → Left ps qs → Body qs
+left_body (stays e) = ends e
+left_body (cuts h) = ends cut-closes
+left_body (keeps e l) = goes e (left_body l)
 
 -- inside a chunk CUT passes the tests 4, 5 and 6
-cut-passes : (k : Scan) → k .inside ≡ true → orderly k (Com.Cut ∷ []) ≡ true
-unfolding orderly passes misplaced isMember inRange fitWidths widthsOf formOf codeOf operandsOk aboveOwnTeam misusesLock scanned uncounted
+cut-passes : (k : Scan) → k.inside ≡ true → orderly k (Com.Cut ∷ []) ≡ true
+unfolding orderly passes misplaced is_member in_range fit_widths widths_of form_of code_of operands_ok above_own_team misuses_lock scanned uncounted
 cut-passes k e = rw e
 
 -- other commands that pass behind the first
@@ -85,17 +86,17 @@ orderly-behind :
     → orderly (uncounted (scanned k c)) ds ≡ true
     → orderly k (c ∷ ds) ≡ true
 unfolding orderly
-orderly-behind k c cs ds o h = both (and-left (passes k c) (orderly (uncounted (scanned k c)) cs) o) h
+orderly-behind k c cs ds o h = both (and_left (passes k c) (orderly (uncounted (scanned k c)) cs) o) h
 
-still-inside : (k : Scan) (c : Command) → plain c ≡ true → uncounted (scanned k c) .inside ≡ k .inside
+still-inside : (k : Scan) (c : Command) → plain c ≡ true → (uncounted (scanned k c)).inside ≡ k.inside
 unfolding uncounted scanned
-still-inside k c e = on-plain (k .inside) (λ t m. true) false c e
+still-inside k c e = on-plain k.inside (λ t m. true) false c e
 
-left-orderly : {ps qs : List Placed} (k : Scan) → Left ps qs → k .inside ≡ true → orderly k (bare ps) ≡ true → orderly k (bare qs) ≡ true
+left-orderly : {ps qs : List Placed} (k : Scan) → Left ps qs → k.inside ≡ true → orderly k (bare ps) ≡ true → orderly k (bare qs) ≡ true
 left-orderly k (stays e) i o = o
 left-orderly k (cuts h) i o = cut-passes k i
 left-orderly k (keeps {p = p} {ps = ps} {qs = qs} e l) i o =
-    let c = p .command in
+    let c = p.command in
     orderly-behind k c (bare ps) (bare qs) o
     (left-orderly (uncounted (scanned k c)) l (still-inside k c e ∙ i) (orderly-tail k c (bare ps) o))
 
@@ -104,62 +105,62 @@ left-total :
     (f : Command → ℕ) → ((c : Command) → f Com.Cut ≤ f c) → {ps qs : List Placed} → Left ps qs → total f (bare qs) ≤ total f (bare ps)
 unfolding total
 left-total f least (stays e) = omega arith
-left-total f least (cuts {p = p} h) = let one = least (p .command) in omega arith
+left-total f least (cuts {p = p} h) = let one = least p.command in omega arith
 left-total f least (keeps e l) = let ih = left-total f least l in omega arith
 
 -- an access that is left was there before
-left-access : {ps qs : List Placed} {a : Access} → Left ps qs → List·Memᴰ (Com.Access a) (bare qs) → List·Memᴰ (Com.Access a) (bare ps)
+left-access : {ps qs : List Placed} {a : Access} → Left ps qs → Memᴰ (Com.Access a) (bare qs) → Memᴰ (Com.Access a) (bare ps)
 unfolding accessing
 left-access (stays e) m = m
-left-access (cuts h) m = absurd (not-access {c = Com.Cut} refl (List·Memᴰ·eq-of-singleton m))
-left-access (keeps e l) m = ⊎-elim List·Memᴰ·head (λ n. List·Memᴰ·tail (left-access l n)) (List·Memᴰ·cases-cons m)
+left-access (cuts h) m = absurd (not-access {c = Com.Cut} refl (Memᴰ.eq_of_singleton m))
+left-access (keeps e l) m = ⊎_elim Memᴰ.head (λ n. Memᴰ.tail (left-access l n)) (Memᴰ.cases_cons m)
 
 -- the barriers passed never fall
-barriers-never-fall : (k : ChunkState) (cs : List Command) → k .barriers ≤ afterCommands k cs .barriers
-unfolding afterCommands
+barriers-never-fall : (k : ChunkState) (cs : List Command) → k.barriers ≤ (after_commands k cs).barriers
+unfolding after_commands
 barriers-never-fall k [] = omega arith
 barriers-never-fall k (c ∷ cs) =
     let one = barriers-rise k c in
-    let ih = barriers-never-fall (afterCommand k c) cs in
+    let ih = barriers-never-fall (after_command k c) cs in
     omega arith
 
-left-barriers : {ps qs : List Placed} (k : ChunkState) → Left ps qs → afterCommands k (bare qs) .barriers ≤ afterCommands k (bare ps) .barriers
-unfolding afterCommands
+left-barriers : {ps qs : List Placed} (k : ChunkState) → Left ps qs → (after_commands k (bare qs)).barriers ≤ (after_commands k (bare ps)).barriers
+unfolding after_commands
 left-barriers k (stays e) = omega arith
-left-barriers k (cuts {p = p} {ps = ps} h) = unfold afterCommand in (barriers-never-fall k (bare (p ∷ ps)))
-left-barriers k (keeps {p = p} e l) = left-barriers (afterCommand k (p .command)) l
+left-barriers k (cuts {p = p} {ps = ps} h) = unfold after_command in (barriers-never-fall k (bare (p ∷ ps)))
+left-barriers k (keeps {p = p} e l) = left-barriers (after_command k p.command) l
 
 -- what has END is whole
-left-ended : {ps qs : List Placed} → Left ps qs → any isEnd (bare qs) ≡ true → qs ≡ ps
-left-ended (stays e) f = refl
-left-ended (cuts h) f = false-is-true (unfold isEnd in f)
-left-ended (keeps {p = p} {qs = qs} e l) f =
-    ap (λ (rs : List Placed). p ∷ rs) (left-ended l (rw (plain-not-end (p .command) e) at f))
+left_ended : {ps qs : List Placed} → Left ps qs → any is_end (bare qs) ≡ true → qs ≡ ps
+left_ended (stays e) f = refl
+left_ended (cuts h) f = false-is-true (unfold is_end in f)
+left_ended (keeps {p = p} {qs = qs} e l) f =
+    ap (λ (rs : List Placed). p ∷ rs) (left_ended l (rw (plain-not-end p.command e) at f))
 
 -- no REGION is lost
-pub no-fork : (t m : ℕ) (e : Entry) → forking (e .command) ≡ false → forkAt t m e ≡ []
-unfolding forkAt
-no-fork t m e h = on-other [] _ (e .command) h
+pub no-fork : (t m : ℕ) (e : Entry) → forking e.command ≡ false → fork_at t m e ≡ []
+unfolding fork_at
+no-fork t m e h = on-other [] _ e.command h
 
-no-forks : (t m : ℕ) (k : ChunkState) (g n : ℕ) (ps : List Placed) → NoRegion (bare ps) → concatMap (forkAt t m) (entriesFrom k g n ps) ≡ []
-unfolding entriesFrom
+no-forks : (t m : ℕ) (k : ChunkState) (g n : ℕ) (ps : List Placed) → NoRegion (bare ps) → concat_map (fork_at t m) (entries_from k g n ps) ≡ []
+unfolding entries_from
 no-forks t m k g n [] h = refl
 no-forks t m k g n (p ∷ ps) h =
-    rw (no-fork t m (record { at = p .at; command = p .command; state = k; segment = g; accesses = n }) (h (p .command) (List·Memᴰ·head refl)))
-    (no-forks t m _ _ _ ps (λ c l. h c (List·Memᴰ·tail l)))
+    rw (no-fork t m (record { at = p.at; command = p.command; state = k; segment = g; accesses = n }) (h p.command (Memᴰ.head refl)))
+    (no-forks t m (after_command k p.command) (g + opens_segment p.command) (n + adds_access p.command) ps (λ c l. h c (Memᴰ.tail l)))
 
 left-forks :
     {ps qs : List Placed} (t m : ℕ) (k : ChunkState) (g n : ℕ)
     → Left ps qs
-    → concatMap (forkAt t m) (entriesFrom k g n qs) ≡ concatMap (forkAt t m) (entriesFrom k g n ps)
-unfolding entriesFrom
+    → concat_map (fork_at t m) (entries_from k g n qs) ≡ concat_map (fork_at t m) (entries_from k g n ps)
+unfolding entries_from
 left-forks t m k g n (stays e) = refl
 left-forks t m k g n (cuts {p = p} {ps = ps} h) =
-    no-forks t m k g n (cutting ∷ []) (λ c l. ap forking (List·Memᴰ·eq-of-singleton l) ∙ closes-forks-none Com.Cut cut-closes)
+    no-forks t m k g n (cutting ∷ []) (λ c l. ap forking (Memᴰ.eq_of_singleton l) ∙ closes-forks-none Com.Cut cut-closes)
     ∙ sym (no-forks t m k g n (p ∷ ps) h)
 left-forks t m k g n (keeps {p = p} e l) =
-    ap (λ (fs : List Fork). forkAt t m (record { at = p .at; command = p .command; state = k; segment = g; accesses = n }) ++ fs)
-    (left-forks t m (afterCommand k (p .command)) (g + opensSegment (p .command)) (n + addsAccess (p .command)) l)
+    ap (λ (fs : List Fork). fork_at t m (record { at = p.at; command = p.command; state = k; segment = g; accesses = n }) ++ fs)
+    (left-forks t m (after_command k p.command) (g + opens_segment p.command) (n + adds_access p.command) l)
 
 -- the commands that are kept and lost
 record Kept (cs ds : List Command) : Type 0 where
@@ -169,89 +170,89 @@ record Kept (cs ds : List Command) : Type 0 where
   pub before : cs ≡ kept ++ lost
   pub after : ds ≡ kept ++ (last ∷ [])
   pub closing : closes last ≡ true
-  pub no-region : NoRegion lost
+  pub no_region : NoRegion lost
 
 left-kept : {ps qs : List Placed} → Left ps qs → Kept (bare ps) (bare qs)
 left-kept (stays {p = p} e) =
     record {
       kept = [];
-      lost = p .command ∷ [];
-      last = p .command;
+      lost = p.command ∷ [];
+      last = p.command;
       before = refl;
       after = refl;
       closing = e;
-      no-region = λ c m. ap forking (List·Memᴰ·eq-of-singleton m) ∙ closes-forks-none (p .command) e;
+      no_region = λ c m. ap forking (Memᴰ.eq_of_singleton m) ∙ closes-forks-none p.command e;
     }
 left-kept (cuts {p = p} {ps = ps} h) =
-    record { kept = []; lost = bare (p ∷ ps); last = Com.Cut; before = refl; after = refl; closing = cut-closes; no-region = h }
+    record { kept = []; lost = bare (p ∷ ps); last = Com.Cut; before = refl; after = refl; closing = cut-closes; no_region = h }
 left-kept (keeps {p = p} e l) =
     let r = left-kept l in
-    let c = p .command in
+    let c = p.command in
     record {
-      kept = c ∷ r .kept;
-      lost = r .lost;
-      last = r .last;
-      before = ap (λ (es : List Command). c ∷ es) (r .before);
-      after = ap (λ (es : List Command). c ∷ es) (r .after);
-      closing = r .closing;
-      no-region = r .no-region;
+      kept = c ∷ r.kept;
+      lost = r.lost;
+      last = r.last;
+      before = ap (λ (es : List Command). c ∷ es) r.before;
+      after = ap (λ (es : List Command). c ∷ es) r.after;
+      closing = r.closing;
+      no_region = r.no_region;
     }
 
 -- the chunk d is what is left of the chunk c
 pub record Remains (c d : Chunk) : Type 0 where
-  pub team : d .team ≡ c .team
-  pub member : d .member ≡ c .member
-  pub body : Left (c .body) (d .body)
+  pub team : d.team ≡ c.team
+  pub member : d.member ≡ c.member
+  pub body : Left c.body d.body
   pub formed : Formed d
 
-pub remains-orderly : {c d : Chunk} → Remains c d → orderly start (logOf c) ≡ true → orderly start (logOf d) ≡ true
-unfolding logOf commandsOf
-remains-orderly {c} {d} r o = rw (r .team, r .member) (orderly-behind start m (bare (c .body)) (bare (d .body)) o inner)
+pub remains-orderly : {c d : Chunk} → Remains c d → orderly start (log_of c) ≡ true → orderly start (log_of d) ≡ true
+unfolding log_of commands_of
+remains-orderly {c} {d} r o = rw (r.team, r.member) (orderly-behind start m (bare c.body) (bare d.body) o inner)
   where
     m : Command
-    m = Com.Member (c .team) (c .member)
+    m = Com.Member c.team c.member
 
     k : Scan
     k = uncounted (scanned start m)
 
-    inner : orderly k (bare (d .body)) ≡ true
-    inner = left-orderly k (r .body) (unfold uncounted scanned in refl) (orderly-tail start m (bare (c .body)) o)
+    inner : orderly k (bare d.body) ≡ true
+    inner = left-orderly k r.body (unfold uncounted scanned in refl) (orderly-tail start m (bare c.body) o)
 
 pub remains-total :
-    (f : Command → ℕ) → ((c : Command) → f Com.Cut ≤ f c) → {c d : Chunk} → Remains c d → total f (logOf d) ≤ total f (logOf c)
-unfolding total logOf commandsOf
-remains-total f least {c} {d} r = rw (r .team, r .member) (let rest = left-total f least (r .body) in omega arith)
+    (f : Command → ℕ) → ((c : Command) → f Com.Cut ≤ f c) → {c d : Chunk} → Remains c d → total f (log_of d) ≤ total f (log_of c)
+unfolding total log_of commands_of
+remains-total f least {c} {d} r = rw (r.team, r.member) (let rest = left-total f least r.body in omega arith)
 
-pub remains-access : {c d : Chunk} {a : Access} → Remains c d → List·Memᴰ (Com.Access a) (logOf d) → List·Memᴰ (Com.Access a) (logOf c)
-unfolding logOf commandsOf accessing
+pub remains-access : {c d : Chunk} {a : Access} → Remains c d → Memᴰ (Com.Access a) (log_of d) → Memᴰ (Com.Access a) (log_of c)
+unfolding log_of commands_of accessing
 remains-access {d = d} r m =
-    ⊎-elim (λ q. absurd (not-access {c = Com.Member (d .team) (d .member)} refl q)) (λ n. List·Memᴰ·tail (left-access (r .body) n)) (List·Memᴰ·cases-cons m)
+    ⊎_elim (λ q. absurd (not-access {c = Com.Member d.team d.member} refl q)) (λ n. Memᴰ.tail (left-access r.body n)) (Memᴰ.cases_cons m)
 
-pub remains-barriers : {c d : Chunk} → Remains c d → barriersOf d ≤ barriersOf c
-unfolding barriersOf commandsOf
-remains-barriers r = left-barriers _ (r .body)
+pub remains-barriers : {c d : Chunk} → Remains c d → barriers_of d ≤ barriers_of c
+unfolding barriers_of commands_of
+remains-barriers r = left-barriers _ r.body
 
-pub remains-complete : {c d : Chunk} → Remains c d → complete d ≡ true → (complete c ≡ true) × (barriersOf d ≡ barriersOf c)
-unfolding complete barriersOf commandsOf
-remains-complete r e = let q = left-ended (r .body) e in (rw q at e, rw q)
+pub remains-complete : {c d : Chunk} → Remains c d → complete d ≡ true → (complete c ≡ true) × (barriers_of d ≡ barriers_of c)
+unfolding complete barriers_of commands_of
+remains-complete r e = let q = left_ended r.body e in (rw q at e, rw q)
 
-pub remains-forks : {c d : Chunk} → Remains c d → forksIn d ≡ forksIn c
-unfolding forksIn entriesOf
-remains-forks {c} r = rw (r .team, r .member) (left-forks (c .team) (c .member) _ 0 0 (r .body))
+pub remains-forks : {c d : Chunk} → Remains c d → forks_in d ≡ forks_in c
+unfolding forks_in entries_of
+remains-forks {c} r = rw (r.team, r.member) (left-forks c.team c.member _ 0 0 r.body)
 
 -- what is left of a chunk, wherever it is put, is the chunk shortened
-pub remains-shortened : {c d e : Chunk} → Remains c d → e .team ≡ d .team → e .member ≡ d .member → commandsOf e ≡ commandsOf d → Shortened c e
-unfolding commandsOf
+pub remains-shortened : {c d e : Chunk} → Remains c d → e.team ≡ d.team → e.member ≡ d.member → commands_of e ≡ commands_of d → Shortened c e
+unfolding commands_of
 remains-shortened r t m q =
-    let k = left-kept (r .body) in
+    let k = left-kept r.body in
     record {
-      team = t ∙ r .team;
-      member = m ∙ r .member;
-      kept = k .kept;
-      lost = k .lost;
-      last = k .last;
-      before = k .before;
-      after = q ∙ k .after;
-      closing = k .closing;
-      no-region = k .no-region;
+      team = t ∙ r.team;
+      member = m ∙ r.member;
+      kept = k.kept;
+      lost = k.lost;
+      last = k.last;
+      before = k.before;
+      after = q ∙ k.after;
+      closing = k.closing;
+      no_region = k.no_region;
     }

@@ -1,29 +1,29 @@
 -- Each command opens a chunk, closes one, or does neither; each forks a team or does not, opens a segment or does not, and is an access or
 -- is not: laws of the questions with a default.
-use Prim.Native.Nat.{ℕ, _+_, _≤_}
-use mathlib.Core.Path.{_≡_, refl, sym}
+use Prim.Native.Nat.{ℕ, ◌+◌, ◌≤◌}
+use mathlib.Core.Path.{◌≡◌, refl, sym}
 use mathlib.Core.Bool.{Bool, true, false}
 use native.Mathlib.Omega.{arith}
 use lib.ListN.{length}
-use Rattle·bundle·specs.specs.Cases.{onDelimiter, onOpening, onRegion, onAccess}
-use Rattle·bundle·specs.specs.Commands.{formOf, codeOf, widthsOf, operandBytes, bytesOf}
-use Rattle·bundle·specs.specs.Chunks.{afterBarrier, afterJoin, afterAcquire, afterRelease, afterCommand, isEnd}
-use Rattle·bundle·specs.specs.Walk.{opensSegment}
-use Rattle·bundle·specs.specs.declared.chunk.ChunkState.{ChunkState}
-use Rattle·bundle·specs.specs.declared.command.Access.{Access}
-use Rattle·bundle·specs.specs.declared.command.Command.{Command}
-use Rattle·bundle·specs.specs.declared.command.Command.the-variants as Com
-use Rattle·bundle·proofs.proofs.Tests.{false-is-true}
+use Rattle.bundle.specs.Cases.{on_delimiter, on_opening, on_region, on_access}
+use Rattle.bundle.specs.Commands.{form_of, code_of, widths_of, operand_bytes, bytes_of}
+use Rattle.bundle.specs.Chunks.{after_barrier, after_join, after_acquire, after_release, after_command, is_end}
+use Rattle.bundle.specs.Walk.{opens_segment}
+use Rattle.bundle.specs.declared.chunk.ChunkState.{ChunkState}
+use Rattle.bundle.specs.declared.command.Access.{Access}
+use Rattle.bundle.specs.declared.command.Command.{Command}
+use Rattle.bundle.specs.declared.command.Command.TheVariants as Com
+use Rattle.bundle.proofs.Tests.{false-is-true}
 
 -- neither MEMBER nor END nor CUT
 unfoldable pub plain : Command → Bool
-plain = onDelimiter true (λ t m. false) false
+plain = on_delimiter true (λ t m. false) false
 
 unfoldable pub closes : Command → Bool
-closes = onDelimiter false (λ t m. false) true
+closes = on_delimiter false (λ t m. false) true
 
 module _ {A : Type 0} (other : A) (opening : ℕ → ℕ → A) (closing : A) where
-  pub on-plain : (c : Command) → plain c ≡ true → onDelimiter other opening closing c ≡ other
+  pub on-plain : (c : Command) → plain c ≡ true → on_delimiter other opening closing c ≡ other
   unfolding plain
   on-plain (Com.Member t m) e = false-is-true e
   on-plain Com.End e = false-is-true e
@@ -34,7 +34,7 @@ module _ {A : Type 0} (other : A) (opening : ℕ → ℕ → A) (closing : A) wh
   on-plain (Com.Access a) e = refl
   on-plain Com.Cut e = false-is-true e
 
-  pub on-closes : (c : Command) → closes c ≡ true → onDelimiter other opening closing c ≡ closing
+  pub on-closes : (c : Command) → closes c ≡ true → on_delimiter other opening closing c ≡ closing
   unfolding closes
   on-closes (Com.Member t m) e = false-is-true e
   on-closes Com.End e = refl
@@ -46,26 +46,26 @@ module _ {A : Type 0} (other : A) (opening : ℕ → ℕ → A) (closing : A) wh
   on-closes Com.Cut e = refl
 
 pub data Delimiter : Command → Type 0 where
-  opens-chunk : (t m : ℕ) → Delimiter (Com.Member t m)
-  closes-chunk : {c : Command} → closes c ≡ true → Delimiter c
+  opens_chunk : (t m : ℕ) → Delimiter (Com.Member t m)
+  closes_chunk : {c : Command} → closes c ≡ true → Delimiter c
   neither : {c : Command} → plain c ≡ true → Delimiter c
 
 pub delimits : (c : Command) → Delimiter c
 unfolding plain closes
-delimits (Com.Member t m) = opens-chunk t m
-delimits Com.End = closes-chunk refl
+delimits (Com.Member t m) = opens_chunk t m
+delimits Com.End = closes_chunk refl
 delimits (Com.Region t z) = neither refl
 delimits Com.Barrier = neither refl
 delimits (Com.Acquire l) = neither refl
 delimits (Com.Release l) = neither refl
 delimits (Com.Access a) = neither refl
-delimits Com.Cut = closes-chunk refl
+delimits Com.Cut = closes_chunk refl
 
 -- REGION, or a command that forks no team
 unfoldable pub forking : Command → Bool
-forking = onRegion false (λ t z. true)
+forking = on_region false (λ t z. true)
 
-pub on-other : {A : Type 0} (other : A) (region : ℕ → ℕ → A) (c : Command) → forking c ≡ false → onRegion other region c ≡ other
+pub on-other : {A : Type 0} (other : A) (region : ℕ → ℕ → A) (c : Command) → forking c ≡ false → on_region other region c ≡ other
 unfolding forking
 on-other other region (Com.Member t m) e = refl
 on-other other region Com.End e = refl
@@ -77,25 +77,25 @@ on-other other region (Com.Access a) e = refl
 on-other other region Com.Cut e = refl
 
 pub data Forking : Command → Type 0 where
-  forks-team : (t z : ℕ) → Forking (Com.Region t z)
-  forks-none : {c : Command} → forking c ≡ false → Forking c
+  forks_team : (t z : ℕ) → Forking (Com.Region t z)
+  forks_none : {c : Command} → forking c ≡ false → Forking c
 
 pub forkings : (c : Command) → Forking c
 unfolding forking
-forkings (Com.Member t m) = forks-none refl
-forkings Com.End = forks-none refl
-forkings (Com.Region t z) = forks-team t z
-forkings Com.Barrier = forks-none refl
-forkings (Com.Acquire l) = forks-none refl
-forkings (Com.Release l) = forks-none refl
-forkings (Com.Access a) = forks-none refl
-forkings Com.Cut = forks-none refl
+forkings (Com.Member t m) = forks_none refl
+forkings Com.End = forks_none refl
+forkings (Com.Region t z) = forks_team t z
+forkings Com.Barrier = forks_none refl
+forkings (Com.Acquire l) = forks_none refl
+forkings (Com.Release l) = forks_none refl
+forkings (Com.Access a) = forks_none refl
+forkings Com.Cut = forks_none refl
 
 -- an access, or a command that touches no byte
 unfoldable pub accessing : Command → Bool
-accessing = onAccess false (λ a. true)
+accessing = on_access false (λ a. true)
 
-pub on-no-access : {A : Type 0} (other : A) (access : Access → A) (c : Command) → accessing c ≡ false → onAccess other access c ≡ other
+pub on-no-access : {A : Type 0} (other : A) (access : Access → A) (c : Command) → accessing c ≡ false → on_access other access c ≡ other
 unfolding accessing
 on-no-access other access (Com.Member t m) e = refl
 on-no-access other access Com.End e = refl
@@ -107,28 +107,28 @@ on-no-access other access (Com.Access a) e = false-is-true (sym e)
 on-no-access other access Com.Cut e = refl
 
 pub data Accessing : Command → Type 0 where
-  accesses-some : (a : Access) → Accessing (Com.Access a)
-  accesses-none : {c : Command} → accessing c ≡ false → Accessing c
+  accesses_some : (a : Access) → Accessing (Com.Access a)
+  accesses_none : {c : Command} → accessing c ≡ false → Accessing c
 
 pub accessings : (c : Command) → Accessing c
 unfolding accessing
-accessings (Com.Member t m) = accesses-none refl
-accessings Com.End = accesses-none refl
-accessings (Com.Region t z) = accesses-none refl
-accessings Com.Barrier = accesses-none refl
-accessings (Com.Acquire l) = accesses-none refl
-accessings (Com.Release l) = accesses-none refl
-accessings (Com.Access a) = accesses-some a
-accessings Com.Cut = accesses-none refl
+accessings (Com.Member t m) = accesses_none refl
+accessings Com.End = accesses_none refl
+accessings (Com.Region t z) = accesses_none refl
+accessings Com.Barrier = accesses_none refl
+accessings (Com.Acquire l) = accesses_none refl
+accessings (Com.Release l) = accesses_none refl
+accessings (Com.Access a) = accesses_some a
+accessings Com.Cut = accesses_none refl
 
 -- MEMBER, REGION, BARRIER, or a command that opens no segment
 unfoldable pub opening : Command → Bool
-opening = onOpening false true (λ t. true) true
+opening = on_opening false true (λ t. true) true
 
 pub on-no-opening :
     {A : Type 0} (other member : A) (region : ℕ → A) (barrier : A) (c : Command)
     → opening c ≡ false
-    → onOpening other member region barrier c ≡ other
+    → on_opening other member region barrier c ≡ other
 unfolding opening
 on-no-opening other member region barrier (Com.Member t m) e = false-is-true (sym e)
 on-no-opening other member region barrier Com.End e = refl
@@ -140,21 +140,21 @@ on-no-opening other member region barrier (Com.Access a) e = refl
 on-no-opening other member region barrier Com.Cut e = refl
 
 pub data Opens : Command → Type 0 where
-  opens-member : (t m : ℕ) → Opens (Com.Member t m)
-  opens-region : (t z : ℕ) → Opens (Com.Region t z)
-  opens-barrier : Opens Com.Barrier
-  opens-none : {c : Command} → opening c ≡ false → Opens c
+  opens_member : (t m : ℕ) → Opens (Com.Member t m)
+  opens_region : (t z : ℕ) → Opens (Com.Region t z)
+  opens_barrier : Opens Com.Barrier
+  opens_none : {c : Command} → opening c ≡ false → Opens c
 
 pub openings : (c : Command) → Opens c
 unfolding opening
-openings (Com.Member t m) = opens-member t m
-openings Com.End = opens-none refl
-openings (Com.Region t z) = opens-region t z
-openings Com.Barrier = opens-barrier
-openings (Com.Acquire l) = opens-none refl
-openings (Com.Release l) = opens-none refl
-openings (Com.Access a) = opens-none refl
-openings Com.Cut = opens-none refl
+openings (Com.Member t m) = opens_member t m
+openings Com.End = opens_none refl
+openings (Com.Region t z) = opens_region t z
+openings Com.Barrier = opens_barrier
+openings (Com.Acquire l) = opens_none refl
+openings (Com.Release l) = opens_none refl
+openings (Com.Access a) = opens_none refl
+openings Com.Cut = opens_none refl
 
 -- what closes a chunk forks no team, opens no segment, is no access, leaves the state as it is, and has one byte
 pub closes-forks-none : (c : Command) → closes c ≡ true → forking c ≡ false
@@ -173,21 +173,21 @@ unfolding closes
 closes-opens-none c = go (openings c)
   where
     go : {c : Command} → Opens c → closes c ≡ true → opening c ≡ false
-    go (opens-member t m) e = false-is-true e
-    go (opens-region t z) e = false-is-true e
-    go opens-barrier e = false-is-true e
-    go (opens-none h) e = h
+    go (opens_member t m) e = false-is-true e
+    go (opens_region t z) e = false-is-true e
+    go opens_barrier e = false-is-true e
+    go (opens_none h) e = h
 
 pub closes-accesses-none : (c : Command) → closes c ≡ true → accessing c ≡ false
 unfolding closes
 closes-accesses-none c = go (accessings c)
   where
     go : {c : Command} → Accessing c → closes c ≡ true → accessing c ≡ false
-    go (accesses-some a) e = false-is-true e
-    go (accesses-none h) e = h
+    go (accesses_some a) e = false-is-true e
+    go (accesses_none h) e = h
 
-pub closes-keeps : (k : ChunkState) (c : Command) → closes c ≡ true → afterCommand k c ≡ k
-unfolding closes afterCommand
+pub closes-keeps : (k : ChunkState) (c : Command) → closes c ≡ true → after_command k c ≡ k
+unfolding closes after_command
 closes-keeps k (Com.Member t m) e = refl
 closes-keeps k Com.End e = refl
 closes-keeps k (Com.Region t z) e = false-is-true e
@@ -197,8 +197,8 @@ closes-keeps k (Com.Release l) e = false-is-true e
 closes-keeps k (Com.Access a) e = refl
 closes-keeps k Com.Cut e = refl
 
-pub closes-width : (c : Command) → closes c ≡ true → length (bytesOf c) ≡ 1
-unfolding closes bytesOf codeOf formOf widthsOf operandBytes
+pub closes-width : (c : Command) → closes c ≡ true → length (bytes_of c) ≡ 1
+unfolding closes bytes_of code_of form_of widths_of operand_bytes
 closes-width (Com.Member t m) e = false-is-true e
 closes-width Com.End e = refl
 closes-width (Com.Region t z) e = false-is-true e
@@ -210,8 +210,8 @@ closes-width Com.Cut e = refl
 
 -- a barrier or a join opens a segment
 pub state-counts :
-    (k : ChunkState) (c : Command) → afterCommand k c .barriers + afterCommand k c .regions ≤ k .barriers + k .regions + opensSegment c
-unfolding afterCommand afterBarrier afterJoin afterAcquire afterRelease opensSegment
+    (k : ChunkState) (c : Command) → (after_command k c).barriers + (after_command k c).regions ≤ k.barriers + k.regions + opens_segment c
+unfolding after_command after_barrier after_join after_acquire after_release opens_segment
 state-counts k (Com.Member t m) = omega arith
 state-counts k Com.End = omega arith
 state-counts k (Com.Region t z) = omega arith
@@ -222,8 +222,8 @@ state-counts k (Com.Access a) = omega arith
 state-counts k Com.Cut = omega arith
 
 -- no command takes a barrier back
-pub barriers-rise : (k : ChunkState) (c : Command) → k .barriers ≤ afterCommand k c .barriers
-unfolding afterCommand afterBarrier afterJoin afterAcquire afterRelease
+pub barriers-rise : (k : ChunkState) (c : Command) → k.barriers ≤ (after_command k c).barriers
+unfolding after_command after_barrier after_join after_acquire after_release
 barriers-rise k (Com.Member t m) = omega arith
 barriers-rise k Com.End = omega arith
 barriers-rise k (Com.Region t z) = omega arith
@@ -234,8 +234,8 @@ barriers-rise k (Com.Access a) = omega arith
 barriers-rise k Com.Cut = omega arith
 
 -- a command that neither opens nor closes a chunk is not END
-pub plain-not-end : (c : Command) → plain c ≡ true → isEnd c ≡ false
-unfolding plain isEnd
+pub plain-not-end : (c : Command) → plain c ≡ true → is_end c ≡ false
+unfolding plain is_end
 plain-not-end (Com.Member t m) e = refl
 plain-not-end Com.End e = false-is-true e
 plain-not-end (Com.Region t z) e = refl

@@ -1,10 +1,10 @@
 -- Check by computation: the empty bundle (P3), and example E (examples/e.bundle) with its chunks in both orders of its members.
 use Prim.Native.Nat.{ℕ}
-use mathlib.Core.Path.{_≡_, refl}
-use mathlib.Core.List.{List, [], _∷_, _++_, map}
-use Rattle·bundle·specs.specs.Answer.{gives, refuses}
-use Rattle·bundle·specs.specs.Check.{checkOf}
-use Rattle·bundle·proofs.proofs.Computing.{bundle-computes}
+use mathlib.Core.Path.{◌≡◌, refl}
+use mathlib.Core.List.{List, [], ◌∷◌, ◌++◌, map}
+use Rattle.bundle.specs.Answer.{gives, refuses}
+use Rattle.bundle.specs.Check.{check_of}
+use Rattle.bundle.proofs.Computing.{bundle-computes}
 
 root : List ℕ
 root = 0x01 ∷ 0x00 ∷ 0x00 ∷ 0x00 ∷ 0x10 ∷ 0x01 ∷ 0x00 ∷ 0x02 ∷ 0x02 ∷ []
@@ -22,6 +22,6 @@ bundles =
     ∷ (member 0 ++ member 1)
     ∷ []
 
-pub check-examples : map checkOf bundles ≡ refuses 10 0 ∷ gives tt ∷ gives tt ∷ refuses 10 4 ∷ refuses 9 0 ∷ []
+pub check-examples : map check_of bundles ≡ refuses 10 0 ∷ gives tt ∷ gives tt ∷ refuses 10 4 ∷ refuses 9 0 ∷ []
 unfolding bundle-computes bundles
 check-examples = refl

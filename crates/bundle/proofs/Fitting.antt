@@ -1,19 +1,19 @@
 -- For callers: what was written lies in the buffer, which stays as long.
-use Prim.Native.Nat.{ℕ, _+_, _≤_}
-use mathlib.Core.Path.{_≡_, _∙_}
-use mathlib.Core.List.{List, _++_}
+use Prim.Native.Nat.{ℕ, ◌+◌, ◌≤◌}
+use mathlib.Core.Path.{◌≡◌, ◌∙◌}
+use mathlib.Core.List.{List, ◌++◌}
 use native.Mathlib.Omega.{arith}
 use lib.ListN.{length, take, drop, length-append, length-drop}
 use lib.Seq.{length-take-le}
-use Rattle·bundle·specs.specs.Answer.{gives, refuses}
-use Rattle·bundle·specs.specs.Commands.{Lent, written}
+use Rattle.bundle.specs.Answer.{gives, refuses}
+use Rattle.bundle.specs.Commands.{Lent, written}
 
 -- the answer is at most the buffer's length
 abbrev pub Fits : Lent ℕ → Type 0
-Fits l = (size : ℕ) → l .answer ≡ gives size → size ≤ length (l .buffer)
+Fits l = (size : ℕ) → l.answer ≡ gives size → size ≤ length l.buffer
 
-pub fits-refused : (n p : ℕ) (buffer : List ℕ) → Fits (record { answer = refuses n p; buffer = buffer })
-fits-refused n p buffer size e = let z : _≡_ {A = ℕ} 0 1 = cc in absurd (omega arith)
+pub fits_refused : (n p : ℕ) (buffer : List ℕ) → Fits (record { answer = refuses n p; buffer = buffer })
+fits_refused n p buffer size e = let z : ◌≡◌ {A = ℕ} 0 1 = cc in absurd (omega arith)
 
 pub fits-written : (buffer bytes : List ℕ) → Fits (record { answer = gives (length bytes); buffer = written buffer 0 bytes })
 unfolding written

@@ -1,128 +1,128 @@
 -- One command of the scan: each answer of the code is the definition's.
-use Prim.Native.Nat.{ℕ, _+_, _<_}
-use mathlib.Core.Path.{_≡_, refl, sym, _∙_, ap}
-use mathlib.Core.Bool.{Bool, true, false, cond, not, _&&_, _||_}
+use Prim.Native.Nat.{ℕ, ◌+◌, ◌<◌}
+use mathlib.Core.Path.{◌≡◌, refl, sym, ◌∙◌, ap}
+use mathlib.Core.Bool.{Bool, true, false, cond, not, ◌&&◌, ◌||◌}
 use mathlib.Core.List.{List}
 use native.Mathlib.Omega.{arith}
 use lib.Dec.{eqb, ltb}
 use borrow.Author.Tests.{lt-ltb, le-ltb}
-use Rattle·bundle·specs.specs.Answer.{Answer, gives, refuses}
-use Rattle·bundle·specs.specs.Locks.{holds}
-use Rattle·bundle·specs.specs.Commands.{Taken, operandsOk, inRange, decodeAt, readingOf}
-use Rattle·bundle·specs.specs.Chunks.{afterBarrier, afterJoin, afterAcquire, afterRelease, afterCommand}
-use Rattle·bundle·specs.specs.Walk.{opensSegment, addsAccess}
-use Rattle·bundle·specs.specs.Scan.{misplaced, differs, ofOtherGroup, aboveOwnTeam, misusesLock, tooMany, faultOf, scanned}
-use Rattle·bundle·specs.specs.Survey.{Bounded, scanWith, Stepped, unmoved, decided, testedAt, stepAt}
-use Rattle·bundle·specs.specs.declared.refusal.Cause.{Cause}
-use Rattle·bundle·specs.specs.declared.chunk.ChunkState.{ChunkState}
-use Rattle·bundle·specs.specs.declared.scan.Scan.{Scan}
-use Rattle·bundle·specs.specs.declared.command.Access.{Access}
-use Rattle·bundle·specs.specs.declared.command.Command.{Command}
-use Rattle·bundle·specs.specs.declared.command.Command.the-variants as Com
-use Rattle·bundle·specs.specs.declared.command.Reading.{Reading}
-use Rattle·bundle·specs.specs.declared.command.Reading.the-variants as Read
-use Rattle·bundle·proofs.proofs.Ranges.{in-range-ok}
+use Rattle.bundle.specs.Answer.{Answer, gives, refuses}
+use Rattle.bundle.specs.Locks.{holds}
+use Rattle.bundle.specs.Commands.{Taken, operands_ok, in_range, decode_at, reading_of}
+use Rattle.bundle.specs.Chunks.{after_barrier, after_join, after_acquire, after_release, after_command}
+use Rattle.bundle.specs.Walk.{opens_segment, adds_access}
+use Rattle.bundle.specs.Scan.{misplaced, differs, of_other_group, above_own_team, misuses_lock, too_many, fault_of, scanned}
+use Rattle.bundle.specs.Survey.{Bounded, scan_with, Stepped, unmoved, decided, tested_at, step_at}
+use Rattle.bundle.specs.declared.refusal.Cause.{Cause}
+use Rattle.bundle.specs.declared.chunk.ChunkState.{ChunkState}
+use Rattle.bundle.specs.declared.scan.Scan.{Scan}
+use Rattle.bundle.specs.declared.command.Access.{Access}
+use Rattle.bundle.specs.declared.command.Command.{Command}
+use Rattle.bundle.specs.declared.command.Command.TheVariants as Com
+use Rattle.bundle.specs.declared.command.Reading.{Reading}
+use Rattle.bundle.specs.declared.command.Reading.TheVariants as Read
+use Rattle.bundle.proofs.Ranges.{in-range-ok}
 
 -- the scan after a command that passes
 module _ {k r : Scan} {st : ChunkState} (b : Bounded k) where
-  pub after-region :
+  pub after_region :
       (t z : ℕ)
-      → st ≡ cond (ltb (k .state .regions) 4294967295) (afterJoin (k .state)) (k .state)
-      → r ≡ scanWith k st 1 0 (k .wide)
+      → st ≡ cond (ltb k.state.regions 4294967295) (after_join k.state) k.state
+      → r ≡ scan_with k st 1 0 k.wide
       → r ≡ scanned k (Com.Region t z)
-  unfolding scanned afterCommand opensSegment addsAccess
-  after-region t z e q =
-      q ∙ ap (λ (x : ChunkState). scanWith k x 1 0 (k .wide)) (e ∙ rw (lt-ltb (k .state .regions) 4294967295 (omega (arith, b .segments, b .opened))))
+  unfolding scanned after_command opens_segment adds_access
+  after_region t z e q =
+      q ∙ ap (λ (x : ChunkState). scan_with k x 1 0 k.wide) (e ∙ rw (lt-ltb k.state.regions 4294967295 (omega (arith, b.segments, b.opened))))
 
   pub after-barrier :
-      st ≡ cond (ltb (k .state .barriers) 4294967295) (afterBarrier (k .state)) (k .state)
-      → r ≡ scanWith k st 1 0 (k .wide)
+      st ≡ cond (ltb k.state.barriers 4294967295) (after_barrier k.state) k.state
+      → r ≡ scan_with k st 1 0 k.wide
       → r ≡ scanned k Com.Barrier
-  unfolding scanned afterCommand opensSegment addsAccess
+  unfolding scanned after_command opens_segment adds_access
   after-barrier e q =
-      q ∙ ap (λ (x : ChunkState). scanWith k x 1 0 (k .wide)) (e ∙ rw (lt-ltb (k .state .barriers) 4294967295 (omega (arith, b .segments, b .opened))))
+      q ∙ ap (λ (x : ChunkState). scan_with k x 1 0 k.wide) (e ∙ rw (lt-ltb k.state.barriers 4294967295 (omega (arith, b.segments, b.opened))))
 
 module _ (k : Scan) {r : Scan} {st : ChunkState} where
   pub after-acquire :
       (l : ℕ)
-      → inRange (Com.Acquire l) ≡ true
-      → misusesLock (k .state .locks) (Com.Acquire l) ≡ false
-      → st ≡ cond (ltb l 64 && not (holds l (k .state .locks))) (afterAcquire l (k .state)) (k .state)
-      → r ≡ scanWith k st 0 0 (k .wide)
+      → in_range (Com.Acquire l) ≡ true
+      → misuses_lock k.state.locks (Com.Acquire l) ≡ false
+      → st ≡ cond (ltb l 64 && not (holds l k.state.locks)) (after_acquire l k.state) k.state
+      → r ≡ scan_with k st 0 0 k.wide
       → r ≡ scanned k (Com.Acquire l)
-  unfolding scanned afterCommand opensSegment addsAccess operandsOk misusesLock
+  unfolding scanned after_command opens_segment adds_access operands_ok misuses_lock
   after-acquire l i o e q =
-      q ∙ ap (λ (x : ChunkState). scanWith k x 0 0 (k .wide)) (e ∙ rw (in-range-ok (Com.Acquire l) i, o))
+      q ∙ ap (λ (x : ChunkState). scan_with k x 0 0 k.wide) (e ∙ rw (in-range-ok (Com.Acquire l) i, o))
 
   pub after-release :
       (l : ℕ)
-      → misusesLock (k .state .locks) (Com.Release l) ≡ false
-      → st ≡ cond (holds l (k .state .locks)) (afterRelease l (k .state)) (k .state)
-      → r ≡ scanWith k st 0 0 (k .wide)
+      → misuses_lock k.state.locks (Com.Release l) ≡ false
+      → st ≡ cond (holds l k.state.locks) (after_release l k.state) k.state
+      → r ≡ scan_with k st 0 0 k.wide
       → r ≡ scanned k (Com.Release l)
-  unfolding scanned afterCommand opensSegment addsAccess misusesLock
+  unfolding scanned after_command opens_segment adds_access misuses_lock
   after-release l o e q =
-      q ∙ ap (λ (x : ChunkState). scanWith k x 0 0 (k .wide)) (e ∙ rw (held (holds l (k .state .locks)) o))
+      q ∙ ap (λ (x : ChunkState). scan_with k x 0 0 k.wide) (e ∙ rw (held (holds l k.state.locks) o))
     where
       held : (t : Bool) → not t ≡ false → t ≡ true
       held true h = refl
       held false h = sym h
 
-pub after-access : (k : Scan) {r : Scan} (a : Access) {wide : Bool} → a .wide ≡ wide → r ≡ scanWith k (k .state) 0 1 wide → r ≡ scanned k (Com.Access a)
-unfolding scanned afterCommand opensSegment addsAccess
-after-access k a e q = q ∙ ap (scanWith k (k .state) 0 1) (sym e)
+pub after-access : (k : Scan) {r : Scan} (a : Access) {wide : Bool} → a.wide ≡ wide → r ≡ scan_with k k.state 0 1 wide → r ≡ scanned k (Com.Access a)
+unfolding scanned after_command opens_segment adds_access
+after-access k a e q = q ∙ ap (scan_with k k.state 0 1) (sym e)
 
 -- 7 by what a command adds
 module _ (k : Scan) (c : Command) (b : Bounded k) where
-  pub many-segments : opensSegment c ≡ 1 → addsAccess c ≡ 0 → tooMany k c ≡ ltb 512 (k .segments + 1)
-  unfolding tooMany
-  many-segments e f = rw (e, f, le-ltb 1024 (k .accesses + 0) (omega (arith, b .accesses))) (or-none (ltb 512 (k .segments + 1)))
+  pub many-segments : opens_segment c ≡ 1 → adds_access c ≡ 0 → too_many k c ≡ ltb 512 (k.segments + 1)
+  unfolding too_many
+  many-segments e f = rw (e, f, le-ltb 1024 (k.accesses + 0) (omega (arith, b.accesses))) (or-none (ltb 512 (k.segments + 1)))
     where
       or-none : (t : Bool) → (t || false) ≡ t
       or-none true = refl
       or-none false = refl
 
-  pub many-accesses : opensSegment c ≡ 0 → addsAccess c ≡ 1 → tooMany k c ≡ ltb 1024 (k .accesses + 1)
-  unfolding tooMany
-  many-accesses e f = rw (e, f, le-ltb 512 (k .segments + 0) (omega (arith, b .segments)))
+  pub many-accesses : opens_segment c ≡ 0 → adds_access c ≡ 1 → too_many k c ≡ ltb 1024 (k.accesses + 1)
+  unfolding too_many
+  many-accesses e f = rw (e, f, le-ltb 512 (k.segments + 0) (omega (arith, b.segments)))
 
-  pub many-none : opensSegment c ≡ 0 → addsAccess c ≡ 0 → tooMany k c ≡ false
-  unfolding tooMany
-  many-none e f = rw (e, f, le-ltb 512 (k .segments + 0) (omega (arith, b .segments)), le-ltb 1024 (k .accesses + 0) (omega (arith, b .accesses)))
+  pub many-none : opens_segment c ≡ 0 → adds_access c ≡ 0 → too_many k c ≡ false
+  unfolding too_many
+  many-none e f = rw (e, f, le-ltb 512 (k.segments + 0) (omega (arith, b.segments)), le-ltb 1024 (k.accesses + 0) (omega (arith, b.accesses)))
 
 -- 20: the group of an access against that of those before it
 module _ (k : Scan) (b : Bounded k) {wide : Bool} where
-  pub wide-follows : wide ≡ true → ltb 0 (k .accesses) && not (k .wide) ≡ ltb 0 (k .accesses) && differs (k .wide) wide
+  pub wide-follows : wide ≡ true → ltb 0 k.accesses && not k.wide ≡ ltb 0 k.accesses && differs k.wide wide
   unfolding differs
-  wide-follows e = rw e (ap (λ (t : Bool). ltb 0 (k .accesses) && t) (go (k .wide)))
+  wide-follows e = rw e (ap (λ (t : Bool). ltb 0 k.accesses && t) (go k.wide))
     where
       go : (w : Bool) → not w ≡ differs w true
       go true = refl
       go false = refl
 
-  pub narrow-follows : wide ≡ false → k .wide ≡ ltb 0 (k .accesses) && differs (k .wide) wide
+  pub narrow-follows : wide ≡ false → k.wide ≡ ltb 0 k.accesses && differs k.wide wide
   unfolding differs
-  narrow-follows e = rw e (go (k .wide) (b .grouped))
+  narrow-follows e = rw e (go k.wide b.grouped)
     where
       none : (t : Bool) → false ≡ t && false
       none true = refl
       none false = refl
 
-      go : (w : Bool) → (w ≡ true → 0 < k .accesses) → w ≡ ltb 0 (k .accesses) && differs w false
-      go true g = rw (lt-ltb 0 (k .accesses) (g refl))
-      go false g = none (ltb 0 (k .accesses))
+      go : (w : Bool) → (w ≡ true → 0 < k.accesses) → w ≡ ltb 0 k.accesses && differs w false
+      go true g = rw (lt-ltb 0 k.accesses (g refl))
+      go false g = none (ltb 0 k.accesses)
 
 pub other-group :
     (k : Scan) (a : Access) {wide r : Bool}
-    → a .wide ≡ wide
-    → r ≡ ltb 0 (k .accesses) && differs (k .wide) wide
-    → r ≡ ofOtherGroup k (Com.Access a)
-unfolding ofOtherGroup
-other-group k a e q = q ∙ ap (λ (t : Bool). ltb 0 (k .accesses) && differs (k .wide) t) (sym e)
+    → a.wide ≡ wide
+    → r ≡ ltb 0 k.accesses && differs k.wide wide
+    → r ≡ of_other_group k (Com.Access a)
+unfolding of_other_group
+other-group k a e q = q ∙ ap (λ (t : Bool). ltb 0 k.accesses && differs k.wide t) (sym e)
 
 -- 5: the ranges, and the own-team rule at a REGION
-pub beyond-range : (c : Command) {r : Bool} → r ≡ inRange c → not r ≡ not (inRange c && true)
-beyond-range c e = ap not e ∙ go (inRange c)
+pub beyond-range : (c : Command) {r : Bool} → r ≡ in_range c → not r ≡ not (in_range c && true)
+beyond-range c e = ap not e ∙ go (in_range c)
   where
     go : (t : Bool) → not t ≡ not (t && true)
     go true = refl
@@ -130,44 +130,44 @@ beyond-range c e = ap not e ∙ go (inRange c)
 
 pub beyond-team :
     (own t z : ℕ) {r : Bool}
-    → r ≡ inRange (Com.Region t z)
-    → not (r && ltb own t) ≡ not (inRange (Com.Region t z) && aboveOwnTeam own (Com.Region t z))
-unfolding aboveOwnTeam
+    → r ≡ in_range (Com.Region t z)
+    → not (r && ltb own t) ≡ not (in_range (Com.Region t z) && above_own_team own (Com.Region t z))
+unfolding above_own_team
 beyond-team own t z e = ap (λ (x : Bool). not (x && ltb own t)) e
 
 -- the tests in their order
 pub tested :
-    (k : Scan) (at : ℕ) (t : Taken) {m f b l n : Bool} {k′ : Scan}
-    → m ≡ misplaced k (t .command)
-    → f ≡ ofOtherGroup k (t .command)
-    → b ≡ not (inRange (t .command) && aboveOwnTeam (k .team) (t .command))
-    → l ≡ misusesLock (k .state .locks) (t .command)
-    → n ≡ tooMany k (t .command)
-    → (inRange (t .command) ≡ true → misusesLock (k .state .locks) (t .command) ≡ false → k′ ≡ scanned k (t .command))
-    → decided at m f b l n (gives (record { scan = k′; command = t .command; next = t .next })) ≡ testedAt k at t
-unfolding testedAt faultOf
-tested k at t {k′ = k′} e₄ e₂₀ e₅ e₆ e₇ after =
+    (k : Scan) (at : ℕ) (t : Taken) {m f b l n : Bool} {k' : Scan}
+    → m ≡ misplaced k t.command
+    → f ≡ of_other_group k t.command
+    → b ≡ not (in_range t.command && above_own_team k.team t.command)
+    → l ≡ misuses_lock k.state.locks t.command
+    → n ≡ too_many k t.command
+    → (in_range t.command ≡ true → misuses_lock k.state.locks t.command ≡ false → k' ≡ scanned k t.command)
+    → decided at m f b l n (gives (record { scan = k'; command = t.command; next = t.next })) ≡ tested_at k at t
+unfolding tested_at fault_of
+tested k at t {k' = k'} e₄ e₂₀ e₅ e₆ e₇ after =
     rw (e₄, e₂₀, e₅, e₆, e₇)
     (go
-    (misplaced k (t .command))
-    (ofOtherGroup k (t .command))
-    (inRange (t .command))
-    (aboveOwnTeam (k .team) (t .command))
-    (misusesLock (k .state .locks) (t .command))
-    (tooMany k (t .command))
+    (misplaced k t.command)
+    (of_other_group k t.command)
+    (in_range t.command)
+    (above_own_team k.team t.command)
+    (misuses_lock k.state.locks t.command)
+    (too_many k t.command)
     after)
   where
     stepped : Scan → Answer Stepped
-    stepped scan = gives (record { scan = scan; command = t .command; next = t .next })
+    stepped scan = gives (record { scan = scan; command = t.command; next = t.next })
 
     fault : Bool → Bool → Bool → Bool → Bool → Bool → ℕ
     fault m f i o l n = cond m 4 (cond f 20 (cond (not (i && o)) 5 (cond l 6 (cond n 7 0))))
 
     go :
         (m f i o l n : Bool)
-        → (i ≡ true → l ≡ false → k′ ≡ scanned k (t .command))
-        → decided at m f (not (i && o)) l n (stepped k′)
-        ≡ cond (eqb (fault m f i o l n) 0) (stepped (scanned k (t .command))) (refuses (fault m f i o l n) at)
+        → (i ≡ true → l ≡ false → k' ≡ scanned k t.command)
+        → decided at m f (not (i && o)) l n (stepped k')
+        ≡ cond (eqb (fault m f i o l n) 0) (stepped (scanned k t.command)) (refuses (fault m f i o l n) at)
     go true f i o l n h = refl
     go false true i o l n h = refl
     go false false false o l n h = refl
@@ -177,15 +177,15 @@ tested k at t {k′ = k′} e₄ e₂₀ e₅ e₆ e₇ after =
     go false false true true false false h = ap stepped (h refl refl)
 
 -- what was decoded, refused or taken
-module _ (s : List ℕ) (at : ℕ) (k : Scan) {r : Reading} (decodes : readingOf r ≡ decodeAt s at) where
-  pub step-refused : {place : ℕ} {cause : Cause} → r ≡ Read.Refused place cause → unmoved k (readingOf r) ≡ stepAt s at k
-  unfolding stepAt
+module _ (s : List ℕ) (at : ℕ) (k : Scan) {r : Reading} (decodes : reading_of r ≡ decode_at s at) where
+  pub step-refused : {place : ℕ} {cause : Cause} → r ≡ Read.Refused place cause → unmoved k (reading_of r) ≡ step_at s at k
+  unfolding step_at
   step-refused e = rw (← decodes, e)
 
   pub step-taken :
       {next : ℕ} {c : Command} {a : Answer Stepped}
       → r ≡ Read.Taken next c
-      → a ≡ testedAt k at (record { command = c; next = next })
-      → a ≡ stepAt s at k
-  unfolding stepAt
+      → a ≡ tested_at k at (record { command = c; next = next })
+      → a ≡ step_at s at k
+  unfolding step_at
   step-taken e q = rw (← decodes, e) q

@@ -1,7 +1,7 @@
 -- Laws of tests: what a Bool made of others says, and how a definition is followed down its tests.
-use mathlib.Core.Path.{_≡_, refl, sym, _∙_}
-use mathlib.Core.Logic.{_⊎_, inl, inr}
-use mathlib.Core.Bool.{Bool, true, false, cond, not, _&&_, _||_, true≢false}
+use mathlib.Core.Path.{◌≡◌, refl, sym, ◌∙◌}
+use mathlib.Core.Logic.{◌⊎◌, inl, inr}
+use mathlib.Core.Bool.{Bool, true, false, cond, not, ◌&&◌, ◌||◌, true≢false}
 
 pub false-is-true : {A : Type 0} → false ≡ true → A
 false-is-true e = absurd (true≢false (sym e))
@@ -9,13 +9,13 @@ false-is-true e = absurd (true≢false (sym e))
 pub both : {a b : Bool} → a ≡ true → b ≡ true → (a && b) ≡ true
 both p q = rw (p, q)
 
-pub and-left : (a b : Bool) → (a && b) ≡ true → a ≡ true
-and-left true b e = refl
-and-left false b e = e
+pub and_left : (a b : Bool) → (a && b) ≡ true → a ≡ true
+and_left true b e = refl
+and_left false b e = e
 
-pub and-right : (a b : Bool) → (a && b) ≡ true → b ≡ true
-and-right true b e = e
-and-right false b e = false-is-true e
+pub and_right : (a b : Bool) → (a && b) ≡ true → b ≡ true
+and_right true b e = e
+and_right false b e = false-is-true e
 
 pub and-swap : (a b : Bool) → (a && b) ≡ (b && a)
 and-swap true true = refl
@@ -23,13 +23,13 @@ and-swap true false = refl
 and-swap false true = refl
 and-swap false false = refl
 
-pub or-assoc : (a b c : Bool) → (a || b || c) ≡ (a || (b || c))
-or-assoc true b c = refl
-or-assoc false b c = refl
+pub or_assoc : (a b c : Bool) → (a || b || c) ≡ (a || (b || c))
+or_assoc true b c = refl
+or_assoc false b c = refl
 
-pub or-cases : (a b : Bool) → (a || b) ≡ true → (a ≡ true) ⊎ (b ≡ true)
-or-cases true b e = inl refl
-or-cases false b e = inr e
+pub or_cases : (a b : Bool) → (a || b) ≡ true → (a ≡ true) ⊎ (b ≡ true)
+or_cases true b e = inl refl
+or_cases false b e = inr e
 
 pub or-one : {a : Bool} (b : Bool) → a ≡ true → (a || b) ≡ true
 or-one b p = rw p
@@ -42,26 +42,26 @@ pub or-false : (a b : Bool) → (a || b) ≡ false → (a ≡ false) × (b ≡ f
 or-false true b e = false-is-true (sym e)
 or-false false b e = (refl, e)
 
-pub is-false : (t : Bool) → (t ≡ true → ⊥) → t ≡ false
-is-false true h = absurd (h refl)
-is-false false h = refl
+pub is_false : (t : Bool) → (t ≡ true → ⊥) → t ≡ false
+is_false true h = absurd (h refl)
+is_false false h = refl
 
 pub not-both : {A : Type 0} {t : Bool} → t ≡ true → t ≡ false → A
 not-both p q = false-is-true (sym q ∙ p)
 
-pub not-of-false : {t : Bool} → t ≡ false → not t ≡ true
-not-of-false p = rw p
+pub not_of_false : {t : Bool} → t ≡ false → not t ≡ true
+not_of_false p = rw p
 
-pub false-of-not : (t : Bool) → not t ≡ true → t ≡ false
-false-of-not true e = sym e
-false-of-not false e = refl
+pub false_of_not : (t : Bool) → not t ≡ true → t ≡ false
+false_of_not true e = sym e
+false_of_not false e = refl
 
 -- a test that fails is one that cannot hold
 pub refuted : {t : Bool} → t ≡ true → not t ≡ true → ⊥
-refuted {t} p h = not-both p (false-of-not t h)
+refuted {t} p h = not-both p (false_of_not t h)
 
 pub fails : (t : Bool) → (t ≡ true → ⊥) → not t ≡ true
-fails t h = not-of-false (is-false t h)
+fails t h = not_of_false (is_false t h)
 
 -- a test is true or false, with the equation
 pub decide : (t : Bool) → (t ≡ true) ⊎ (t ≡ false)
@@ -69,10 +69,10 @@ decide true = inl refl
 decide false = inr refl
 
 -- two tests that hold together are equal
-pub same-test : (a b : Bool) → (a ≡ true → b ≡ true) → (b ≡ true → a ≡ true) → a ≡ b
-same-test true b f g = sym (f refl)
-same-test false true f g = g refl
-same-test false false f g = refl
+pub same_test : (a b : Bool) → (a ≡ true → b ≡ true) → (b ≡ true → a ≡ true) → a ≡ b
+same_test true b f g = sym (f refl)
+same_test false true f g = g refl
+same_test false false f g = refl
 
 -- down a test of a definition
 pub cond-elim : {A : Type 0} (P : A → Type 0) (t : Bool) (a b : A) → (t ≡ true → P a) → (t ≡ false → P b) → P (cond t a b)

@@ -1,7 +1,7 @@
 -- Answers and refusals: what an operation gives, or the number and place with which it turns its input away.
-use Prim.Native.Nat.{ℕ}
-use Rattle·bundle·specs.specs.declared.refusal.Cause.{Cause}
-use Rattle·bundle·specs.specs.declared.refusal.Cause.the-variants.{
+use Rattle.std.specs.Prelude.{ℕ}
+use Rattle.bundle.specs.declared.refusal.Cause.{Cause}
+use Rattle.bundle.specs.declared.refusal.Cause.TheVariants.{
   BundleTooLong,
   UnknownCommand,
   OperandsCutOff,
@@ -33,32 +33,32 @@ pub data Answer (A : Type 0) : Type 0 where
   refuses : ℕ → ℕ → Answer A
 
 -- the answer's value handed on to a further operation; a refusal stays
-abbrev pub whenGiven : {A B : Type 0} → Answer A → (A → Answer B) → Answer B
-whenGiven (gives a) f = f a
-whenGiven (refuses n p) f = refuses n p
+abbrev pub when_given : {A B : Type 0} → Answer A → (A → Answer B) → Answer B
+when_given (gives a) f = f a
+when_given (refuses n p) f = refuses n p
 
 -- the number of each cause (docs/FORMAT.md, "Refusals")
-abbrev pub numberOf : Cause → ℕ
-numberOf BundleTooLong = 1
-numberOf UnknownCommand = 2
-numberOf OperandsCutOff = 3
-numberOf Misplaced = 4
-numberOf OutOfRange = 5
-numberOf LockMisused = 6
-numberOf TooManyEntries = 7
-numberOf ForkedBefore = 8
-numberOf StrayChunk = 9
-numberOf MissingChunk = 10
-numberOf TooDeep = 11
-numberOf BarrierCount = 12
-numberOf WorkAreaTooSmall = 13
-numberOf NoneSuch = 14
-numberOf BadLabel = 15
-numberOf UnequalSpans = 16
-numberOf DoesNotFit = 17
-numberOf PastEnd = 18
-numberOf CutAhead = 19
-numberOf OtherGroup = 20
-numberOf SiteTooLarge = 21
-numberOf TooFewRecords = 22
-numberOf WrongRecord = 23
+abbrev pub number_of : Cause → ℕ
+number_of BundleTooLong = 1
+number_of UnknownCommand = 2
+number_of OperandsCutOff = 3
+number_of Misplaced = 4
+number_of OutOfRange = 5
+number_of LockMisused = 6
+number_of TooManyEntries = 7
+number_of ForkedBefore = 8
+number_of StrayChunk = 9
+number_of MissingChunk = 10
+number_of TooDeep = 11
+number_of BarrierCount = 12
+number_of WorkAreaTooSmall = 13
+number_of NoneSuch = 14
+number_of BadLabel = 15
+number_of UnequalSpans = 16
+number_of DoesNotFit = 17
+number_of PastEnd = 18
+number_of CutAhead = 19
+number_of OtherGroup = 20
+number_of SiteTooLarge = 21
+number_of TooFewRecords = 22
+number_of WrongRecord = 23

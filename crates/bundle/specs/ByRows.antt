@@ -1,28 +1,26 @@
 -- Between crates: what the index of a bundle gives, and a member's chunk by the rows of the chunks.
-use Prim.Native.Nat.{ℕ}
-use mathlib.Core.Path.{_≡_}
-use mathlib.Core.List.{List}
-use Rattle·bundle·specs.specs.Answer.{Answer, gives, refuses, numberOf}
-use Rattle·bundle·specs.specs.Lists.{first, fromOption}
-use Rattle·bundle·specs.specs.Check.{checkOf}
-use Rattle·bundle·specs.specs.Index.{isRow, Indexed}
-use Rattle·bundle·specs.specs.Find.{Ends}
-use Rattle·bundle·specs.specs.declared.index.ChunkRow.{ChunkRow}
-use Rattle·bundle·specs.specs.declared.answer.Checking.{Checking}
-use Rattle·bundle·specs.specs.declared.answer.Checking.the-variants as Checks
-use Rattle·bundle·specs.specs.declared.check.Indexing.{Indexing}
-use Rattle·bundle·specs.specs.declared.check.Indexing.the-variants as Indexings
+use Rattle.std.specs.Prelude.{ℕ, ◌≡◌, List}
+use Rattle.bundle.specs.Answer.{Answer, gives, refuses, number_of}
+use Rattle.bundle.specs.Lists.{first, from_option}
+use Rattle.bundle.specs.Check.{check_of}
+use Rattle.bundle.specs.Index.{is_row, Indexed}
+use Rattle.bundle.specs.Find.{Ends}
+use Rattle.bundle.specs.declared.index.ChunkRow.{ChunkRow}
+use Rattle.bundle.specs.declared.answer.Checking.{Checking}
+use Rattle.bundle.specs.declared.answer.Checking.TheVariants as Checks
+use Rattle.bundle.specs.declared.check.Indexing.{Indexing}
+use Rattle.bundle.specs.declared.check.Indexing.TheVariants as Indexings
 
 -- where a member's chunk begins and ends, by the rows of the chunks
-unfoldable pub endsByRows : List ChunkRow → ℕ → ℕ → Answer Ends
-endsByRows rs t m =
-    fromOption (refuses 14 0) (λ (r : ChunkRow). gives (record { start = r .place; end = r .past })) (first (isRow t m) rs)
+unfoldable pub ends_by_rows : List ChunkRow → ℕ → ℕ → Answer Ends
+ends_by_rows rs t m =
+    from_option (refuses 14 0) (λ (r : ChunkRow). gives (record { start = r.place; end = r.past })) (first (is_row t m) rs)
 
 -- a bundle that is refused, or accepted with its rows in the tables
-abbrev pub indexedAs : ℕ → ℕ → Checking → Indexing
-indexedAs n m Checks.Accepted = Indexings.Accepted n m
-indexedAs n m (Checks.Refused place cause) = Indexings.Refused place cause
+abbrev pub indexed_as : ℕ → ℕ → Checking → Indexing
+indexed_as n m Checks.Accepted = Indexings.Accepted n m
+indexed_as n m (Checks.Refused place cause) = Indexings.Refused place cause
 
 abbrev pub IndexedAs : List ℕ → Indexing → List ℕ → List ℕ → Type 0
 IndexedAs s (Indexings.Accepted n m) chunks forks = Indexed s n m chunks forks
-IndexedAs s (Indexings.Refused place cause) chunks forks = checkOf s ≡ refuses (numberOf cause) place
+IndexedAs s (Indexings.Refused place cause) chunks forks = check_of s ≡ refuses (number_of cause) place

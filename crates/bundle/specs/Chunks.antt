@@ -1,48 +1,44 @@
 -- Chunks: the state while a chunk is read, the commands of a bundle with their offsets, and its chunks.
-use Prim.Native.Nat.{ℕ, zero, suc, _+_, _-_}
-use mathlib.Core.Bool.{Bool, true, false, cond, _&&_}
-use mathlib.Core.List.{List, [], _∷_, map}
-use mathlib.Core.Option.{Option}
-use lib.ListN.{length, take, drop}
-use lib.Dec.{eqb, leb}
-use Rattle·bundle·specs.specs.Answer.{Answer, gives, refuses}
-use Rattle·bundle·specs.specs.Lists.{first, any}
-use Rattle·bundle·specs.specs.Locks.{acquired, released}
-use Rattle·bundle·specs.specs.Commands.{Taken, decodeAt, bytesOf}
-use Rattle·bundle·specs.specs.Cases.{onDelimiter, onEnd}
-use Rattle·bundle·specs.specs.declared.chunk.ChunkState.{ChunkState}
-use Rattle·bundle·specs.specs.declared.command.Command.{Command}
-use Rattle·bundle·specs.specs.declared.command.Command.the-variants as Com
+use Rattle.std.specs.Prelude.{ℕ, zero, suc, ◌+◌, ◌-◌, Bool, true, false, cond, ◌&&◌, List, [], ◌∷◌, map, length, take, drop, eqb, leb}
+use Rattle.std.proofs.Math.Option.{Option}
+use Rattle.bundle.specs.Answer.{Answer, gives, refuses}
+use Rattle.bundle.specs.Lists.{first, any}
+use Rattle.bundle.specs.Locks.{acquired, released}
+use Rattle.bundle.specs.Commands.{Taken, decode_at, bytes_of}
+use Rattle.bundle.specs.Cases.{on_delimiter, on_end}
+use Rattle.bundle.specs.declared.chunk.ChunkState.{ChunkState}
+use Rattle.bundle.specs.declared.command.Command.{Command}
+use Rattle.bundle.specs.declared.command.Command.TheVariants as Com
 
 -- "While a chunk is read, its state is the barriers passed, the regions joined and the locks held. A member starts with no locks"
 unfoldable pub fresh : ChunkState
 fresh = record { barriers = 0; regions = 0; locks = 0 }
 
-unfoldable pub afterBarrier : ChunkState → ChunkState
-afterBarrier k = record { barriers = k .barriers + 1; regions = k .regions; locks = k .locks }
+unfoldable pub after_barrier : ChunkState → ChunkState
+after_barrier k = record { barriers = k.barriers + 1; regions = k.regions; locks = k.locks }
 
-unfoldable pub afterJoin : ChunkState → ChunkState
-afterJoin k = record { barriers = k .barriers; regions = k .regions + 1; locks = k .locks }
+unfoldable pub after_join : ChunkState → ChunkState
+after_join k = record { barriers = k.barriers; regions = k.regions + 1; locks = k.locks }
 
-unfoldable pub afterAcquire : ℕ → ChunkState → ChunkState
-afterAcquire lock k = record { barriers = k .barriers; regions = k .regions; locks = acquired lock (k .locks) }
+unfoldable pub after_acquire : ℕ → ChunkState → ChunkState
+after_acquire lock k = record { barriers = k.barriers; regions = k.regions; locks = acquired lock k.locks }
 
-unfoldable pub afterRelease : ℕ → ChunkState → ChunkState
-afterRelease lock k = record { barriers = k .barriers; regions = k .regions; locks = released lock (k .locks) }
+unfoldable pub after_release : ℕ → ChunkState → ChunkState
+after_release lock k = record { barriers = k.barriers; regions = k.regions; locks = released lock k.locks }
 
-unfoldable pub afterCommand : ChunkState → Command → ChunkState
-afterCommand k (Com.Member t m) = k
-afterCommand k Com.End = k
-afterCommand k (Com.Region t z) = afterJoin k
-afterCommand k Com.Barrier = afterBarrier k
-afterCommand k (Com.Acquire l) = afterAcquire l k
-afterCommand k (Com.Release l) = afterRelease l k
-afterCommand k (Com.Access a) = k
-afterCommand k Com.Cut = k
+unfoldable pub after_command : ChunkState → Command → ChunkState
+after_command k (Com.Member t m) = k
+after_command k Com.End = k
+after_command k (Com.Region t z) = after_join k
+after_command k Com.Barrier = after_barrier k
+after_command k (Com.Acquire l) = after_acquire l k
+after_command k (Com.Release l) = after_release l k
+after_command k (Com.Access a) = k
+after_command k Com.Cut = k
 
-unfoldable pub afterCommands : ChunkState → List Command → ChunkState
-afterCommands k [] = k
-afterCommands k (c ∷ cs) = afterCommands (afterCommand k c) cs
+unfoldable pub after_commands : ChunkState → List Command → ChunkState
+after_commands k [] = k
+after_commands k (c ∷ cs) = after_commands (after_command k c) cs
 
 -- a command and its offset in the bundle
 pub record Placed : Type 0 where
@@ -57,20 +53,20 @@ pub record Front : Type 0 where
 
 unfoldable pub follow : (ℕ → Front) → ℕ → Answer Taken → Front
 follow rest at (gives t) =
-    let r = rest (t .next) in
-    record { placed = record { at = at; command = t .command } ∷ r .placed; stop = r .stop }
+    let r = rest t.next in
+    record { placed = record { at = at; command = t.command } ∷ r.placed; stop = r.stop }
 follow rest at (refuses n p) = record { placed = []; stop = refuses n p }
 
-unfoldable pub frontFrom : ℕ → List ℕ → ℕ → Front
-frontFrom zero s at = record { placed = []; stop = gives at }
-frontFrom (suc fuel) s at =
+unfoldable pub front_from : ℕ → List ℕ → ℕ → Front
+front_from zero s at = record { placed = []; stop = gives at }
+front_from (suc fuel) s at =
     cond (leb (length s) at)
     (record { placed = []; stop = gives at })
-    (follow (frontFrom fuel s) at (decodeAt s at))
+    (follow (front_from fuel s) at (decode_at s at))
 
 -- each command has a byte at least, so the length is fuel enough
-unfoldable pub frontOf : List ℕ → Front
-frontOf s = frontFrom (length s) s 0
+unfoldable pub front_of : List ℕ → Front
+front_of s = front_from (length s) s 0
 
 -- "MEMBER opens a chunk, the whole log of one team member; END closes the chunk", or CUT in its place: its offset, the commands after
 -- MEMBER up to END or CUT, and the offset after that
@@ -87,44 +83,44 @@ pub record Gathered : Type 0 where
   pub past : ℕ
   pub chunks : List Chunk
 
-unfoldable pub gatherOne : Placed → Gathered → Gathered
-gatherOne p g =
-    onDelimiter
-    (record { body = p ∷ g .body; past = g .past; chunks = g .chunks })
+unfoldable pub gather_one : Placed → Gathered → Gathered
+gather_one p g =
+    on_delimiter
+    (record { body = p ∷ g.body; past = g.past; chunks = g.chunks })
     (λ t m.
     record {
       body = [];
       past = 0;
-      chunks = record { place = p .at; team = t; member = m; body = g .body; past = g .past } ∷ g .chunks;
+      chunks = record { place = p.at; team = t; member = m; body = g.body; past = g.past } ∷ g.chunks;
     })
-    (record { body = p ∷ []; past = p .at + length (bytesOf (p .command)); chunks = g .chunks })
-    (p .command)
+    (record { body = p ∷ []; past = p.at + length (bytes_of p.command); chunks = g.chunks })
+    p.command
 
 unfoldable pub gather : List Placed → Gathered
 gather [] = record { body = []; past = 0; chunks = [] }
-gather (p ∷ ps) = gatherOne p (gather ps)
+gather (p ∷ ps) = gather_one p (gather ps)
 
-unfoldable pub chunksOf : List ℕ → List Chunk
-chunksOf s = gather (frontOf s .placed) .chunks
+unfoldable pub chunks_of : List ℕ → List Chunk
+chunks_of s = (gather (front_of s).placed).chunks
 
 -- the chunk's commands after MEMBER
-unfoldable pub commandsOf : Chunk → List Command
-commandsOf c = map (λ (p : Placed). p .command) (c .body)
+unfoldable pub commands_of : Chunk → List Command
+commands_of c = map (λ (p : Placed). p.command) c.body
 
 -- "complete": closed by END, not by CUT
-unfoldable pub isEnd : Command → Bool
-isEnd = onEnd false true
+unfoldable pub is_end : Command → Bool
+is_end = on_end false true
 
 unfoldable pub complete : Chunk → Bool
-complete c = any isEnd (commandsOf c)
+complete c = any is_end (commands_of c)
 
 -- that part of the bundle, MEMBER to END or CUT
-unfoldable pub partOf : List ℕ → Chunk → List ℕ
-partOf s c = take (c .past - c .place) (drop (c .place) s)
+unfoldable pub part_of : List ℕ → Chunk → List ℕ
+part_of s c = take (c.past - c.place) (drop c.place s)
 
 -- the chunk of a member of a team
-unfoldable pub isOf : ℕ → ℕ → Chunk → Bool
-isOf t m c = eqb (c .team) t && eqb (c .member) m
+unfoldable pub is_of : ℕ → ℕ → Chunk → Bool
+is_of t m c = eqb c.team t && eqb c.member m
 
-unfoldable pub chunkOf : List Chunk → ℕ → ℕ → Option Chunk
-chunkOf cs t m = first (isOf t m) cs
+unfoldable pub chunk_of : List Chunk → ℕ → ℕ → Option Chunk
+chunk_of cs t m = first (is_of t m) cs

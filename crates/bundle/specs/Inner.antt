@@ -1,30 +1,25 @@
 -- Inner: what the functions of reading and putting ask and promise.
-use mathlib.Core.Path.{_≡_}
-use mathlib.Core.Logic.{_⊎_}
-use mathlib.Core.Bool.{Bool, cond}
-use Prim.Native.Nat.{ℕ, _+_, _<_, _≤_}
-use mathlib.Core.List.{List, [], _∷_}
-use lib.ListN.{length, getD, take}
-use Rattle·bundle·specs.specs.declared.command.Encoded.{Encoded}
-use Rattle·bundle·specs.specs.declared.command.Range.{Range}
+use Rattle.std.specs.Prelude.{◌≡◌, ◌⊎◌, Bool, cond, ℕ, ◌+◌, ◌<◌, ◌≤◌, List, [], ◌∷◌, length, get_or, take}
+use Rattle.bundle.specs.declared.command.Encoded.{Encoded}
+use Rattle.bundle.specs.declared.command.Range.{Range}
 
 -- a byte at a position
 pub record StandsAt (s : List ℕ) (at b : ℕ) : Type 0 where
   pub within : at < length s
-  pub byte : getD s at 0 ≡ b
+  pub byte : get_or s at 0 ≡ b
 
 -- one of the four bytes from this one on at a position: those of a group of accesses
 pub record GroupAt (s : List ℕ) (at first : ℕ) : Type 0 where
   pub within : at < length s
-  pub low : first ≤ getD s at 0
-  pub high : getD s at 0 < first + 4
+  pub low : first ≤ get_or s at 0
+  pub high : get_or s at 0 < first + 4
 
 -- an access's byte at a position, of either group
 pub record AccessAt (s : List ℕ) (at : ℕ) : Type 0 where
   pub within : at < length s
-  pub low : 0x30 ≤ getD s at 0
-  pub high : getD s at 0 < 0x3c
-  pub group : (getD s at 0 < 0x34) ⊎ (0x38 ≤ getD s at 0)
+  pub low : 0x30 ≤ get_or s at 0
+  pub high : get_or s at 0 < 0x3c
+  pub group : (get_or s at 0 < 0x34) ⊎ (0x38 ≤ get_or s at 0)
 
 -- an access of a group at a position, and the position after it
 pub record AccessTo (s : List ℕ) (at next : ℕ) (wide : Bool) : Type 0 where
@@ -34,11 +29,11 @@ pub record AccessTo (s : List ℕ) (at next : ℕ) (wide : Bool) : Type 0 where
   pub fits : next ≤ length s
 
 -- the operands of an access after the site
-abbrev pub rangeOperands : Range → List ℕ
-rangeOperands r = r .base ∷ r .stride ∷ r .count ∷ r .size ∷ []
+abbrev pub range_operands : Range → List ℕ
+range_operands r = r.base ∷ r.stride ∷ r.count ∷ r.size ∷ []
 
 -- the encoded bytes are these
 pub record Holds (e : Encoded) (bytes : List ℕ) : Type 0 where
-  pub prefix : take (e .length) (e .bytes) ≡ bytes
-  pub long : e .length ≡ length bytes
-  pub within : e .length ≤ length (e .bytes)
+  pub prefix : take e.length e.bytes ≡ bytes
+  pub long : e.length ≡ length bytes
+  pub within : e.length ≤ length e.bytes

@@ -1,14 +1,11 @@
 -- Plain functions on lists that the definitions use.
-use Prim.Native.Nat.{ℕ, zero, suc}
-use mathlib.Core.Bool.{Bool, true, false, cond, _&&_, _||_}
-use mathlib.Core.List.{List, [], _∷_, _++_}
-use mathlib.Core.Option.{Option, none, some}
-use lib.Dec.{eqb}
+use Rattle.std.specs.Prelude.{ℕ, zero, suc, Bool, true, false, cond, ◌&&◌, ◌||◌, List, [], ◌∷◌, ◌++◌, eqb}
+use Rattle.std.proofs.Math.Option.{Option, none, some}
 
 -- 0, 1, .. below n
-abbrev pub upTo : ℕ → List ℕ
-upTo zero = []
-upTo (suc n) = upTo n ++ (n ∷ [])
+abbrev pub up_to : ℕ → List ℕ
+up_to zero = []
+up_to (suc n) = up_to n ++ (n ∷ [])
 
 module _ {A : Type 0} where
   -- whether some element, or every element, passes the test
@@ -29,20 +26,20 @@ module _ {A : Type 0} where
   first p [] = none
   first p (x ∷ xs) = cond (p x) (some x) (first p xs)
 
-  abbrev pub backToBack : List (List A) → List A
-  backToBack [] = []
-  backToBack (xs ∷ xss) = xs ++ backToBack xss
+  abbrev pub back_to_back : List (List A) → List A
+  back_to_back [] = []
+  back_to_back (xs ∷ xss) = xs ++ back_to_back xss
 
 module _ {A B : Type 0} where
   -- the lists that f gives for each element, back to back
-  abbrev pub concatMap : (A → List B) → List A → List B
-  concatMap f [] = []
-  concatMap f (x ∷ xs) = f x ++ concatMap f xs
+  abbrev pub concat_map : (A → List B) → List A → List B
+  concat_map f [] = []
+  concat_map f (x ∷ xs) = f x ++ concat_map f xs
 
   -- what stands in the option, taken further; else the other value
-  abbrev pub fromOption : B → (A → B) → Option A → B
-  fromOption b f none = b
-  fromOption b f (some a) = f a
+  abbrev pub from_option : B → (A → B) → Option A → B
+  from_option b f none = b
+  from_option b f (some a) = f a
 
 -- whether a number is in the list
 abbrev pub among : ℕ → List ℕ → Bool

@@ -1,8 +1,6 @@
 -- Lock sets: locks 0 to 63 as a number of 64 bits; lock l is held where bit l is set.
-use Prim.Native.Nat.{ℕ, _+_, _-_, _/_, _%_, _^_}
-use mathlib.Core.Bool.{Bool, _&&_}
-use lib.Dec.{eqb}
-use Rattle·bundle·specs.specs.Lists.{upTo, any}
+use Rattle.std.specs.Prelude.{ℕ, ◌+◌, ◌-◌, ◌/◌, ◌%◌, ◌^◌, Bool, ◌&&◌, eqb}
+use Rattle.bundle.specs.Lists.{up_to, any}
 
 unfoldable pub holds : ℕ → ℕ → Bool
 holds lock locks = eqb (locks / 2 ^ lock % 2) 1
@@ -15,5 +13,5 @@ unfoldable pub released : ℕ → ℕ → ℕ
 released lock locks = locks - 2 ^ lock
 
 -- whether two sets have a lock in common
-unfoldable pub commonLock : ℕ → ℕ → Bool
-commonLock a b = any (λ lock. holds lock a && holds lock b) (upTo 64)
+unfoldable pub common_lock : ℕ → ℕ → Bool
+common_lock a b = any (λ lock. holds lock a && holds lock b) (up_to 64)

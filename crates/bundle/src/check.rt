@@ -1,27 +1,26 @@
 // Check a bundle, its index, and a member's chunk.
+ghost use Rattle.std.specs.Prelude.{◌≡◌};
+ghost use Rattle.bundle.specs.Check.{check_of, checking_of, find_of};
+ghost use Rattle.bundle.specs.Index.{table, chunk_row_at};
+ghost use Rattle.bundle.specs.Find.{found_of, ends_of, handed_back};
+ghost use Rattle.bundle.specs.ByRows.{indexed_as, IndexedAs, ends_by_rows};
+
 use crate::answer::Checking;
-use crate::index::chunk_at;
-use crate::index::chunk_of;
-use crate::limits::CHUNK_WORDS;
-use crate::limits::FORK_WORDS;
-use crate::limits::MOST_BYTES;
+use crate::index::{chunk_at, chunk_of};
+use crate::limits::{CHUNK_WORDS, FORK_WORDS, MOST_BYTES};
 use crate::refusal::Cause;
 use crate::shape::shape;
-use crate::survey::Survey;
-use crate::survey::survey_all;
-ghost use mathlib.Core.Path.{_≡_};
-ghost use Rattle·bundle·specs.specs.Check.{checkOf, checkingOf, findOf};
-ghost use Rattle·bundle·specs.specs.Index.{table, chunkRowAt};
-ghost use Rattle·bundle·specs.specs.Find.{foundOf, endsOf, handedBack};
-ghost use Rattle·bundle·specs.specs.ByRows.{indexedAs, IndexedAs, endsByRows};
+use crate::survey::{Survey, survey_all};
 
 // What indexing a bundle gives: the number of its chunks and of its REGIONs, whose rows are in the tables.
+#[derive(Clone, Copy)]
 pub enum Indexing {
     Accepted { chunks: u32, forks: u32 },
     Refused { place: usize, cause: Cause },
 }
 
 // What finding a chunk gives.
+#[derive(Clone, Copy)]
 pub enum Found {
     // The offset of its MEMBER, and the offset after its END or CUT.
     At { start: usize, end: usize },
@@ -29,7 +28,7 @@ pub enum Found {
 }
 
 fn count_in(chunks: u32, forks: u32, checking: Checking) -> Indexing
-    ensures { λ r. ⌜ r ≡ indexedAs chunks forks checking ⌝ }
+    ensures { result ≡ indexed_as chunks forks checking }
 {
     match checking {
         Checking::Accepted => Indexing::Accepted { chunks, forks },
@@ -43,7 +42,7 @@ pub fn index_bundle(
     chunks: &mut [u64; CHUNK_WORDS],
     forks: &mut [u64; FORK_WORDS],
 ) -> Indexing
-    ensures { λ r. ⌜ IndexedAs (now (bytes .entry)) r (now (chunks .exit)) (now (forks .exit)) ⌝ }
+    ensures { IndexedAs bytes.now result chunks.new forks.new }
 {
     if MOST_BYTES < bytes.len() {
         return Indexing::Refused {
@@ -66,7 +65,7 @@ pub fn index_bundle(
 
 // Whether the bytes are a bundle.
 pub fn check(bytes: &[u8]) -> Checking
-    ensures { λ r. ⌜ checkingOf r ≡ checkOf (now (bytes .entry)) ⌝ }
+    ensures { checking_of result ≡ check_of bytes.now }
 {
     let mut chunks = [0u64; CHUNK_WORDS];
     let mut forks = [0u64; FORK_WORDS];
@@ -81,7 +80,7 @@ pub fn check(bytes: &[u8]) -> Checking
 
 // The ends of the chunk of a team's member, by the rows of an accepted bundle.
 fn ends_in(chunks: &[u64], count: u32, team: u16, member: u8) -> Found
-    ensures { λ r. ⌜ foundOf r ≡ endsByRows (table (chunkRowAt (now (chunks .entry))) count) team member ⌝ }
+    ensures { found_of result ≡ ends_by_rows (table (chunk_row_at chunks.now) count) team member }
 {
     let i = chunk_of(chunks, count, team, member);
     if count <= i {
@@ -99,7 +98,7 @@ fn ends_in(chunks: &[u64], count: u32, team: u16, member: u8) -> Found
 
 // Where a member's chunk begins and ends.
 pub fn find_ends(bytes: &[u8], team: u16, member: u8) -> Found
-    ensures { λ r. ⌜ foundOf r ≡ endsOf (now (bytes .entry)) team member ⌝ }
+    ensures { found_of result ≡ ends_of bytes.now team member }
 {
     let mut chunks = [0u64; CHUNK_WORDS];
     let mut forks = [0u64; FORK_WORDS];
@@ -121,7 +120,7 @@ pub fn find_chunk<'a>(
     number: &mut u8,
     place: &mut usize,
 ) -> &'a [u8]
-    ensures { λ r. ⌜ handedBack (findOf (now (bytes .entry)) team member) ≡ record { part = now r; number = now (number .exit); place = now (place .exit) } ⌝ }
+    ensures { handed_back (find_of bytes.now team member) ≡ record { part = result.now; number = number.new; place = place.new } }
 {
     match find_ends(bytes, team, member) {
         Found::At { start, end } => {

@@ -1,11 +1,10 @@
 // The state of a chunk while it is read.
-ghost use mathlib.Core.Path.{_≡_};
-ghost use mathlib.Core.Bool.{cond, not, _&&_};
-ghost use lib.Dec.{ltb};
-ghost use Rattle·bundle·specs.specs.Locks.{holds};
-ghost use Rattle·bundle·specs.specs.Chunks.{fresh, afterBarrier, afterJoin, afterAcquire, afterRelease};
+ghost use Rattle.std.specs.Prelude.{◌≡◌, cond, not, ◌&&◌, ltb};
+ghost use Rattle.bundle.specs.Locks.{holds};
+ghost use Rattle.bundle.specs.Chunks.{fresh, after_barrier, after_join, after_acquire, after_release};
 
 // The barriers passed, the regions joined and the locks held (lock l is held where bit l is set).
+#[derive(Clone, Copy)]
 pub struct ChunkState {
     pub barriers: u32,
     pub regions: u32,
@@ -14,7 +13,7 @@ pub struct ChunkState {
 
 // Whether a lock is in the set.
 pub fn holds_lock(locks: u64, lock: u8) -> bool
-    ensures { λ r. ⌜ r ≡ holds lock locks ⌝ }
+    ensures { result ≡ holds lock locks }
 {
     if 64 <= lock {
         return false;
@@ -26,7 +25,7 @@ pub fn holds_lock(locks: u64, lock: u8) -> bool
 // the state stays as it is; the scan refuses all of these.
 impl ChunkState {
     pub fn fresh() -> Self
-        ensures { λ r. ⌜ r ≡ fresh ⌝ }
+        ensures { result ≡ fresh }
     {
         ChunkState {
             barriers: 0,
@@ -36,7 +35,7 @@ impl ChunkState {
     }
 
     pub fn after_barrier(self) -> Self
-        ensures { λ r. ⌜ r ≡ cond (ltb (self .barriers) 4294967295) (afterBarrier self) self ⌝ }
+        ensures { result ≡ cond (ltb self.barriers 4294967295) (after_barrier self) self }
     {
         let barriers = self.barriers;
         if barriers < 4294967295 {
@@ -50,7 +49,7 @@ impl ChunkState {
     }
 
     pub fn after_join(self) -> Self
-        ensures { λ r. ⌜ r ≡ cond (ltb (self .regions) 4294967295) (afterJoin self) self ⌝ }
+        ensures { result ≡ cond (ltb self.regions 4294967295) (after_join self) self }
     {
         let regions = self.regions;
         if regions < 4294967295 {
@@ -64,7 +63,7 @@ impl ChunkState {
     }
 
     pub fn after_acquire(self, lock: u8) -> Self
-        ensures { λ r. ⌜ r ≡ cond (ltb lock 64 && not (holds lock (self .locks))) (afterAcquire lock self) self ⌝ }
+        ensures { result ≡ cond (ltb lock 64 && not (holds lock self.locks)) (after_acquire lock self) self }
     {
         let locks = self.locks;
         if 64 <= lock {
@@ -81,7 +80,7 @@ impl ChunkState {
     }
 
     pub fn after_release(self, lock: u8) -> Self
-        ensures { λ r. ⌜ r ≡ cond (holds lock (self .locks)) (afterRelease lock self) self ⌝ }
+        ensures { result ≡ cond (holds lock self.locks) (after_release lock self) self }
     {
         let locks = self.locks;
         if 64 <= lock {

@@ -1,17 +1,14 @@
 // The commands of a run log: "One byte, then operands of fixed width, low byte first", read from bytes and put into them.
+ghost use Rattle.std.specs.Prelude.{◌≡◌, true, false, cond, ◌||◌, ◌+◌, ◌-◌, ◌%◌, ◌≤◌, ltb, leb, [], ◌∷◌, length};
+ghost use Rattle.bundle.specs.Commands.{number_at, kind_of, size_ok, stride_ok, last_byte, range_ok, in_range, decode_at, read_at, reading_of, kind_byte, access_byte, access_widths, operand_bytes, bytes_of, put_at, putting_of, ranged};
+ghost use Rattle.bundle.specs.Inner.{StandsAt, AccessAt, AccessTo, range_operands, Holds};
+ghost use Rattle.bundle.specs.Answer.{refuses, when_given};
+
 use crate::copy::copy_in;
 use crate::refusal::Cause;
-ghost use mathlib.Core.Path.{_≡_};
-ghost use mathlib.Core.Bool.{true, false, cond, _||_};
-ghost use Prim.Native.Nat.{_+_, _-_, _%_, _≤_};
-ghost use lib.Dec.{ltb, leb};
-ghost use mathlib.Core.List.{[], _∷_};
-ghost use lib.ListN.{length};
-ghost use Rattle·bundle·specs.specs.Commands.{numberAt, kindOf, sizeOk, strideOk, lastByte, rangeOk, inRange, decodeAt, readAt, readingOf, kindByte, accessByte, accessWidths, operandBytes, bytesOf, putAt, puttingOf, ranged};
-ghost use Rattle·bundle·specs.specs.Inner.{StandsAt, AccessAt, AccessTo, rangeOperands, Holds};
-ghost use Rattle·bundle·specs.specs.Answer.{refuses, whenGiven};
 
 // What an access does: the commands 0x30 to 0x33, and 0x38 to 0x3b, in this order.
+#[derive(Clone, Copy)]
 pub enum AccessKind {
     Read,
     Write,
@@ -20,6 +17,7 @@ pub enum AccessKind {
 }
 
 // The bytes base + k * stride + j, with k below count and j below size.
+#[derive(Clone, Copy)]
 pub struct Range {
     pub base: u32,
     pub stride: u16,
@@ -28,6 +26,7 @@ pub struct Range {
 }
 
 // An access of the narrow group, 0x30 to 0x33, or of the wide one, 0x38 to 0x3b, whose site has 4 bytes.
+#[derive(Clone, Copy)]
 pub struct Access {
     pub kind: AccessKind,
     pub wide: bool,
@@ -35,6 +34,7 @@ pub struct Access {
     pub range: Range,
 }
 
+#[derive(Clone, Copy)]
 pub enum Command {
     Member { team: u16, member: u8 },
     End,
@@ -47,6 +47,7 @@ pub enum Command {
 }
 
 // What reading a command at a position gives.
+#[derive(Clone, Copy)]
 pub enum Reading {
     // The position after the command, and the command.
     Taken { next: usize, command: Command },
@@ -54,6 +55,7 @@ pub enum Reading {
 }
 
 // What putting a command at a position gives.
+#[derive(Clone, Copy)]
 pub enum Putting {
     // The position after the command.
     Written(usize),
@@ -62,7 +64,7 @@ pub enum Putting {
 
 // Bits 1, 2, 4 and 8 of the number are set.
 fn size_ok(size: u8) -> bool
-    ensures { λ r. ⌜ r ≡ sizeOk size ⌝ }
+    ensures { result ≡ size_ok size }
 {
     if 8 < size {
         return false;
@@ -71,14 +73,14 @@ fn size_ok(size: u8) -> bool
 }
 
 fn stride_ok(stride: u16, count: u16) -> bool
-    ensures { λ r. ⌜ r ≡ strideOk stride count ⌝ }
+    ensures { result ≡ stride_ok stride count }
 {
     if count == 1 { stride == 0 } else { 1 <= stride }
 }
 
 fn last_ok(range: Range) -> bool
-    requires { ⌜ (1 ≤ range .count) × (1 ≤ range .size) ⌝ }
-    ensures { λ r. ⌜ r ≡ leb (lastByte range) 4294967295 ⌝ }
+    requires { (1 ≤ range.count) × (1 ≤ range.size) }
+    ensures { result ≡ leb (last_byte range) 4294967295 }
 {
     let base = range.base as u64;
     let stride = range.stride as u64;
@@ -89,7 +91,7 @@ fn last_ok(range: Range) -> bool
 
 // Whether a range of bytes is one that the format allows (docs/FORMAT.md).
 pub fn range_ok(range: Range) -> bool
-    ensures { λ r. ⌜ r ≡ rangeOk range ⌝ }
+    ensures { result ≡ range_ok range }
 {
     let stride = range.stride;
     let count = range.count;
@@ -108,14 +110,14 @@ pub fn range_ok(range: Range) -> bool
 
 // Whether a site fits the width of its group.
 fn site_ok(wide: bool, site: u32) -> bool
-    ensures { λ r. ⌜ r ≡ (wide || ltb site 65536) ⌝ }
+    ensures { result ≡ (wide || ltb site 65536) }
 {
     wide | (site < 65536)
 }
 
 // Whether every operand is in its range.
 pub fn in_range(command: Command) -> bool
-    ensures { λ r. ⌜ r ≡ inRange command ⌝ }
+    ensures { result ≡ in_range command }
 {
     match command {
         Command::Member { team: _, member } => member < 64,
@@ -131,8 +133,8 @@ pub fn in_range(command: Command) -> bool
 
 // The number of two bytes at a position, low byte first.
 fn two_bytes(bytes: &[u8], at: usize) -> u16
-    requires { ⌜ at + 2 ≤ length (now bytes) ⌝ }
-    ensures { λ r. ⌜ r ≡ numberAt 2 (now (bytes .entry)) at ⌝ }
+    requires { at + 2 ≤ length bytes.now }
+    ensures { result ≡ number_at 2 bytes.now at }
 {
     let low = bytes[at];
     let high = bytes[at + 1];
@@ -141,8 +143,8 @@ fn two_bytes(bytes: &[u8], at: usize) -> u16
 
 // The number of four bytes at a position, low byte first.
 pub fn four_bytes(bytes: &[u8], at: usize) -> u32
-    requires { ⌜ at + 4 ≤ length (now bytes) ⌝ }
-    ensures { λ r. ⌜ r ≡ numberAt 4 (now (bytes .entry)) at ⌝ }
+    requires { at + 4 ≤ length bytes.now }
+    ensures { result ≡ number_at 4 bytes.now at }
 {
     let low = two_bytes(bytes, at);
     let high = two_bytes(bytes, at + 2);
@@ -150,7 +152,7 @@ pub fn four_bytes(bytes: &[u8], at: usize) -> u32
 }
 
 fn cut_off(place: usize) -> Reading
-    ensures { λ r. ⌜ readingOf r ≡ refuses 3 place ⌝ }
+    ensures { reading_of result ≡ refuses 3 place }
 {
     Reading::Refused {
         place,
@@ -161,8 +163,8 @@ fn cut_off(place: usize) -> Reading
 // MEMBER and REGION, ACQUIRE and RELEASE have operands of the same widths. Each has a function of its own: with one for two of them, told apart by
 // a flag, check takes up to twice the time, since the compiler keeps it apart from the loop of the scan.
 fn decode_member(bytes: &[u8], position: usize) -> Reading
-    requires { ⌜ StandsAt (now bytes) position 0x01 ⌝ }
-    ensures { λ r. ⌜ readingOf r ≡ decodeAt (now (bytes .entry)) position ⌝ }
+    requires { StandsAt bytes.now position 0x01 }
+    ensures { reading_of result ≡ decode_at bytes.now position }
 {
     if bytes.len() - position < 4 {
         return cut_off(position);
@@ -176,8 +178,8 @@ fn decode_member(bytes: &[u8], position: usize) -> Reading
 }
 
 fn decode_region(bytes: &[u8], position: usize) -> Reading
-    requires { ⌜ StandsAt (now bytes) position 0x10 ⌝ }
-    ensures { λ r. ⌜ readingOf r ≡ decodeAt (now (bytes .entry)) position ⌝ }
+    requires { StandsAt bytes.now position 0x10 }
+    ensures { reading_of result ≡ decode_at bytes.now position }
 {
     if bytes.len() - position < 4 {
         return cut_off(position);
@@ -191,8 +193,8 @@ fn decode_region(bytes: &[u8], position: usize) -> Reading
 }
 
 fn decode_acquire(bytes: &[u8], position: usize) -> Reading
-    requires { ⌜ StandsAt (now bytes) position 0x20 ⌝ }
-    ensures { λ r. ⌜ readingOf r ≡ decodeAt (now (bytes .entry)) position ⌝ }
+    requires { StandsAt bytes.now position 0x20 }
+    ensures { reading_of result ≡ decode_at bytes.now position }
 {
     if bytes.len() - position < 2 {
         return cut_off(position);
@@ -205,8 +207,8 @@ fn decode_acquire(bytes: &[u8], position: usize) -> Reading
 }
 
 fn decode_release(bytes: &[u8], position: usize) -> Reading
-    requires { ⌜ StandsAt (now bytes) position 0x21 ⌝ }
-    ensures { λ r. ⌜ readingOf r ≡ decodeAt (now (bytes .entry)) position ⌝ }
+    requires { StandsAt bytes.now position 0x21 }
+    ensures { reading_of result ≡ decode_at bytes.now position }
 {
     if bytes.len() - position < 2 {
         return cut_off(position);
@@ -220,7 +222,7 @@ fn decode_release(bytes: &[u8], position: usize) -> Reading
 
 // The kind of an access of the narrow group by its command byte.
 pub fn kind_of(byte: u8) -> AccessKind
-    ensures { λ r. ⌜ r ≡ kindOf byte ⌝ }
+    ensures { result ≡ kind_of byte }
 {
     if byte == 0x30 {
         return AccessKind::Read;
@@ -236,8 +238,8 @@ pub fn kind_of(byte: u8) -> AccessKind
 
 // The site of an access, which has 4 bytes in the wide group and 2 in the narrow one.
 fn site_at(bytes: &[u8], at: usize, wide: bool) -> u32
-    requires { ⌜ at + 4 ≤ length (now bytes) ⌝ }
-    ensures { λ r. ⌜ r ≡ numberAt (cond wide 4 2) (now (bytes .entry)) at ⌝ }
+    requires { at + 4 ≤ length bytes.now }
+    ensures { result ≡ number_at (cond wide 4 2) bytes.now at }
 {
     if wide {
         return four_bytes(bytes, at);
@@ -247,8 +249,8 @@ fn site_at(bytes: &[u8], at: usize, wide: bool) -> u32
 
 // The access at a position, of which the position after it and the group are known. What stands behind the site is read from the end of the access.
 fn decode_operands(bytes: &[u8], position: usize, next: usize, wide: bool) -> Reading
-    requires { ⌜ AccessTo (now bytes) position next wide ⌝ }
-    ensures { λ r. ⌜ readingOf r ≡ decodeAt (now (bytes .entry)) position ⌝ }
+    requires { AccessTo bytes.now position next wide }
+    ensures { reading_of result ≡ decode_at bytes.now position }
 {
     let kind = kind_of(bytes[position] % 8 + 0x30);
     let site = site_at(bytes, position + 1, wide);
@@ -277,8 +279,8 @@ fn decode_operands(bytes: &[u8], position: usize, next: usize, wide: bool) -> Re
 // An access of either group. Both stand in one arm below: where this is called twice in a match, the compiler keeps it apart from both callers, and
 // reading an access takes five times as long.
 fn decode_access(bytes: &[u8], position: usize) -> Reading
-    requires { ⌜ AccessAt (now bytes) position ⌝ }
-    ensures { λ r. ⌜ readingOf r ≡ decodeAt (now (bytes .entry)) position ⌝ }
+    requires { AccessAt bytes.now position }
+    ensures { reading_of result ≡ decode_at bytes.now position }
 {
     if 0x38 <= bytes[position] {
         if bytes.len() - position < 14 {
@@ -294,7 +296,7 @@ fn decode_access(bytes: &[u8], position: usize) -> Reading
 
 // The command at a position, its operands of any value, and the position after it: 18, 2 and 3 are tested.
 pub fn decode_command(bytes: &[u8], position: usize) -> Reading
-    ensures { λ r. ⌜ readingOf r ≡ decodeAt (now (bytes .entry)) position ⌝ }
+    ensures { reading_of result ≡ decode_at bytes.now position }
 {
     if bytes.len() <= position {
         return Reading::Refused {
@@ -329,7 +331,7 @@ pub fn decode_command(bytes: &[u8], position: usize) -> Reading
 
 // 5: what was decoded at a position, if its operands are in range.
 fn accept(reading: Reading, position: usize) -> Reading
-    ensures { λ r. ⌜ readingOf r ≡ whenGiven (readingOf reading) (ranged position) ⌝ }
+    ensures { reading_of result ≡ when_given (reading_of reading) (ranged position) }
 {
     let Reading::Taken { next: _, command } = reading else {
         return reading;
@@ -346,7 +348,7 @@ fn accept(reading: Reading, position: usize) -> Reading
 // The command at a position, its operands in range, and the position after it. It has a match of its own, so that the scan alone calls
 // `decode_command`, which is then compiled into the scan's loop: check takes a third of the time.
 pub fn read_command(bytes: &[u8], position: usize) -> Reading
-    ensures { λ r. ⌜ readingOf r ≡ readAt (now (bytes .entry)) position ⌝ }
+    ensures { reading_of result ≡ read_at bytes.now position }
 {
     if bytes.len() <= position {
         return Reading::Refused {
@@ -380,19 +382,20 @@ pub fn read_command(bytes: &[u8], position: usize) -> Reading
 }
 
 // A command's bytes: the first ones of `bytes`, as many as `length` says.
+#[derive(Clone, Copy)]
 struct Encoded {
     bytes: [u8; 14],
     length: usize,
 }
 
 fn low(number: u32) -> u8
-    ensures { λ r. ⌜ r ≡ number % 256 ⌝ }
+    ensures { result ≡ number % 256 }
 {
     (number % 256) as u8
 }
 
 fn encode_plain(byte: u8) -> Encoded
-    ensures { λ r. ⌜ Holds r (byte ∷ []) ⌝ }
+    ensures { Holds result (byte ∷ []) }
 {
     Encoded {
         bytes: [byte, 0, 0, 0, 0, 0, 0, 0, 0, 0, 0, 0, 0, 0],
@@ -401,7 +404,7 @@ fn encode_plain(byte: u8) -> Encoded
 }
 
 fn encode_lock(byte: u8, lock: u8) -> Encoded
-    ensures { λ r. ⌜ Holds r (byte ∷ operandBytes (1 ∷ []) (lock ∷ [])) ⌝ }
+    ensures { Holds result (byte ∷ operand_bytes (1 ∷ []) (lock ∷ [])) }
 {
     let lock = low(lock as u32);
     Encoded {
@@ -411,7 +414,7 @@ fn encode_lock(byte: u8, lock: u8) -> Encoded
 }
 
 fn encode_team(byte: u8, team: u16, last: u8) -> Encoded
-    ensures { λ r. ⌜ Holds r (byte ∷ operandBytes (2 ∷ 1 ∷ []) (team ∷ last ∷ [])) ⌝ }
+    ensures { Holds result (byte ∷ operand_bytes (2 ∷ 1 ∷ []) (team ∷ last ∷ [])) }
 {
     let team = team as u32;
     let team_0 = low(team);
@@ -425,7 +428,7 @@ fn encode_team(byte: u8, team: u16, last: u8) -> Encoded
 
 // The command byte of an access of the narrow group.
 pub fn kind_byte(kind: AccessKind) -> u8
-    ensures { λ r. ⌜ r ≡ kindByte kind ⌝ }
+    ensures { result ≡ kind_byte kind }
 {
     match kind {
         AccessKind::Read => 0x30,
@@ -437,14 +440,14 @@ pub fn kind_byte(kind: AccessKind) -> u8
 
 // The command byte of an access.
 pub fn access_byte(wide: bool, kind: AccessKind) -> u8
-    ensures { λ r. ⌜ r ≡ accessByte wide kind ⌝ }
+    ensures { result ≡ access_byte wide kind }
 {
     let byte = kind_byte(kind);
     if wide { byte + 8 } else { byte }
 }
 
 fn encode_narrow(byte: u8, site: u32, range: Range) -> Encoded
-    ensures { λ r. ⌜ Holds r (byte ∷ operandBytes (accessWidths false) (site ∷ rangeOperands range)) ⌝ }
+    ensures { Holds result (byte ∷ operand_bytes (access_widths false) (site ∷ range_operands range)) }
 {
     let base = range.base;
     let stride = range.stride as u32;
@@ -472,7 +475,7 @@ fn encode_narrow(byte: u8, site: u32, range: Range) -> Encoded
 }
 
 fn encode_wide(byte: u8, site: u32, range: Range) -> Encoded
-    ensures { λ r. ⌜ Holds r (byte ∷ operandBytes (accessWidths true) (site ∷ rangeOperands range)) ⌝ }
+    ensures { Holds result (byte ∷ operand_bytes (access_widths true) (site ∷ range_operands range)) }
 {
     let base = range.base;
     let stride = range.stride as u32;
@@ -500,7 +503,7 @@ fn encode_wide(byte: u8, site: u32, range: Range) -> Encoded
 }
 
 fn encode_access(access: Access) -> Encoded
-    ensures { λ r. ⌜ Holds r (bytesOf (Command.Access access)) ⌝ }
+    ensures { Holds result (bytes_of (Command.Access access)) }
 {
     let kind = access.kind;
     let byte = access_byte(access.wide, kind);
@@ -511,7 +514,7 @@ fn encode_access(access: Access) -> Encoded
 }
 
 fn encode(command: Command) -> Encoded
-    ensures { λ r. ⌜ Holds r (bytesOf command) ⌝ }
+    ensures { Holds result (bytes_of command) }
 {
     match command {
         Command::Member { team, member } => encode_team(0x01, team, member),
@@ -527,8 +530,8 @@ fn encode(command: Command) -> Encoded
 
 // Whether so many bytes fit between the position and the end.
 fn fits(length: usize, end: usize, position: usize) -> bool
-    requires { ⌜ 1 ≤ length ⌝ }
-    ensures { λ r. ⌜ r ≡ leb length (end - position) ⌝ }
+    requires { 1 ≤ length }
+    ensures { result ≡ leb length (end - position) }
 {
     if end <= position {
         return false;
@@ -538,7 +541,7 @@ fn fits(length: usize, end: usize, position: usize) -> bool
 
 // Puts the command's bytes into the buffer at a position.
 pub fn put_command(command: Command, buffer: &mut [u8], position: usize) -> Putting
-    ensures { λ r. ⌜ putAt command (now (buffer .entry)) position ≡ record { answer = puttingOf r; buffer = now (buffer .exit) } ⌝ }
+    ensures { put_at command buffer.old position ≡ record { answer = putting_of result; buffer = buffer.new } }
 {
     if !in_range(command) {
         return Putting::Refused {

@@ -1,13 +1,11 @@
 // Bytes copied into a lent buffer: a function between crates, for commands here and for the lines of `text`.
-ghost use mathlib.Core.Path.{_≡_};
-ghost use Prim.Native.Nat.{_+_, _≤_};
-ghost use lib.ListN.{length};
-ghost use Rattle·bundle·specs.specs.Commands.{written};
+ghost use Rattle.std.specs.Prelude.{◌≡◌, ◌+◌, ◌≤◌, length};
+ghost use Rattle.bundle.specs.Commands.{written};
 
 // Copies all of the bytes into the buffer, from the position on.
 pub fn copy_in(bytes: &[u8], buffer: &mut [u8], position: usize)
-    requires { ⌜ position + length (now bytes) ≤ length (now buffer) ⌝ }
-    ensures { λ _. ⌜ now (buffer .exit) ≡ written (now (buffer .entry)) position (now (bytes .entry)) ⌝ }
+    requires { position + length bytes.now ≤ length buffer.old }
+    ensures { buffer.new ≡ written buffer.old position bytes.now }
 {
     let mut i = 0;
     while i < bytes.len() {

@@ -1,13 +1,12 @@
 // The index of a bundle: a row for each chunk and one for each REGION, in words of 64 bits that are lent.
+ghost use Rattle.std.specs.Prelude.{◌≡◌, ◌+◌, ◌*◌, ◌<◌, eqb, length, get_or};
+ghost use Rattle.bundle.specs.Index.{parts_of, chunk_row_at, fork_row_at, ChunkFits, ForkFits, Added, is_row, index_of, table};
+
 use crate::chunk::ChunkState;
-ghost use mathlib.Core.Path.{_≡_};
-ghost use Prim.Native.Nat.{_+_, _*_, _<_};
-ghost use lib.Dec.{eqb};
-ghost use lib.ListN.{length, getD};
-ghost use Rattle·bundle·specs.specs.Index.{partsOf, chunkRowAt, forkRowAt, ChunkFits, ForkFits, Added, isRow, indexOf, table};
 
 // A chunk: the offset of its MEMBER and the offset after its END or CUT, its team and member, the barriers that it passes, whether END
 // closes it, and how many segments and accesses of the bundle stand before it.
+#[derive(Clone, Copy)]
 pub struct ChunkRow {
     pub place: usize,
     pub past: usize,
@@ -20,6 +19,7 @@ pub struct ChunkRow {
 }
 
 // A REGION: its offset, the team that it forks and that team's size, the team and member that fork it, and their chunk's state before it.
+#[derive(Clone, Copy)]
 pub struct Fork {
     pub place: usize,
     pub team: u16,
@@ -30,6 +30,7 @@ pub struct Fork {
 }
 
 // The numbers that a word holds, from the low bits up.
+#[derive(Clone, Copy)]
 pub struct Parts {
     pub first: u16,
     pub second: u16,
@@ -40,7 +41,7 @@ pub struct Parts {
 
 // A word that holds these numbers.
 pub fn pack(parts: Parts) -> u64
-    ensures { λ r. ⌜ partsOf r ≡ parts ⌝ }
+    ensures { parts_of result ≡ parts }
 {
     let first = parts.first as u64;
     let second = parts.second as u64;
@@ -51,7 +52,7 @@ pub fn pack(parts: Parts) -> u64
 }
 
 pub fn unpack(word: u64) -> Parts
-    ensures { λ r. ⌜ r ≡ partsOf word ⌝ }
+    ensures { result ≡ parts_of word }
 {
     Parts {
         first: (word % 65536) as u16,
@@ -64,7 +65,7 @@ pub fn unpack(word: u64) -> Parts
 
 // The word at an index; 0 past the end.
 pub fn word_at(table: &[u64], i: usize) -> u64
-    ensures { λ r. ⌜ r ≡ getD (now (table .entry)) i 0 ⌝ }
+    ensures { result ≡ get_or table.now i 0 }
 {
     if i < table.len() {
         return table[i];
@@ -74,7 +75,7 @@ pub fn word_at(table: &[u64], i: usize) -> u64
 
 // The row of the i-th chunk, in two words.
 pub fn chunk_at(chunks: &[u64], i: u32) -> ChunkRow
-    ensures { λ r. ⌜ r ≡ chunkRowAt (now (chunks .entry)) i ⌝ }
+    ensures { result ≡ chunk_row_at chunks.now i }
 {
     let at = 2 * (i as usize);
     let one = unpack(word_at(chunks, at));
@@ -93,7 +94,7 @@ pub fn chunk_at(chunks: &[u64], i: u32) -> ChunkRow
 
 // The row of the i-th REGION, in three words.
 pub fn fork_at(forks: &[u64], i: u32) -> Fork
-    ensures { λ r. ⌜ r ≡ forkRowAt (now (forks .entry)) i ⌝ }
+    ensures { result ≡ fork_row_at forks.now i }
 {
     let at = 3 * (i as usize);
     let one = unpack(word_at(forks, at));
@@ -115,8 +116,8 @@ pub fn fork_at(forks: &[u64], i: u32) -> Fork
 
 // Writes the row of a chunk behind the first `count`.
 pub(crate) fn add_chunk(chunks: &mut [u64], count: u32, row: ChunkRow)
-    requires { ⌜ (2 * count + 1 < length (now chunks)) × ChunkFits row ⌝ }
-    ensures { λ _. ⌜ Added chunkRowAt (now (chunks .entry)) (now (chunks .exit)) count row ⌝ }
+    requires { (2 * count + 1 < length chunks.old) × ChunkFits row }
+    ensures { Added chunk_row_at chunks.old chunks.new count row }
 {
     let at = 2 * (count as usize);
     chunks[at] = pack(Parts {
@@ -137,8 +138,8 @@ pub(crate) fn add_chunk(chunks: &mut [u64], count: u32, row: ChunkRow)
 
 // Writes the row of a REGION behind the first `count`.
 pub(crate) fn add_fork(forks: &mut [u64], count: u32, row: Fork)
-    requires { ⌜ (3 * count + 2 < length (now forks)) × ForkFits row ⌝ }
-    ensures { λ _. ⌜ Added forkRowAt (now (forks .entry)) (now (forks .exit)) count row ⌝ }
+    requires { (3 * count + 2 < length forks.old) × ForkFits row }
+    ensures { Added fork_row_at forks.old forks.new count row }
 {
     let at = 3 * (count as usize);
     let state = row.state;
@@ -161,7 +162,7 @@ pub(crate) fn add_fork(forks: &mut [u64], count: u32, row: Fork)
 
 // Whether the row of the i-th chunk is that of a team and member.
 fn is_row(chunks: &[u64], i: u32, team: u16, member: u8) -> bool
-    ensures { λ r. ⌜ r ≡ isRow team member (chunkRowAt (now (chunks .entry)) i) ⌝ }
+    ensures { result ≡ is_row team member (chunk_row_at chunks.now i) }
 {
     let row = chunk_at(chunks, i);
     (row.team == team) & (row.member == member)
@@ -169,7 +170,7 @@ fn is_row(chunks: &[u64], i: u32, team: u16, member: u8) -> bool
 
 // The index of the first of `count` chunks that is of a team and member; `count` where there is none.
 pub fn chunk_of(chunks: &[u64], count: u32, team: u16, member: u8) -> u32
-    ensures { λ r. ⌜ r ≡ indexOf (isRow team member) (table (chunkRowAt (now (chunks .entry))) count) ⌝ }
+    ensures { result ≡ index_of (is_row team member) (table (chunk_row_at chunks.now) count) }
 {
     let mut i = 0;
     while i < count {
@@ -183,7 +184,7 @@ pub fn chunk_of(chunks: &[u64], count: u32, team: u16, member: u8) -> u32
 
 // The index of the first of `count` REGIONs that forks a team; `count` where there is none.
 pub fn fork_of(forks: &[u64], count: u32, team: u16) -> u32
-    ensures { λ r. ⌜ r ≡ indexOf (λ f. eqb (f .team) team) (table (forkRowAt (now (forks .entry))) count) ⌝ }
+    ensures { result ≡ index_of (λ f. eqb f.team team) (table (fork_row_at forks.now) count) }
 {
     let mut i = 0;
     while i < count {

@@ -1,8 +1,9 @@
 // The causes for which an operation turns its input away.
-ghost use mathlib.Core.Path.{_≡_};
-ghost use Rattle·bundle·specs.specs.Answer.{numberOf};
+ghost use Rattle.std.specs.Prelude.{◌≡◌};
+ghost use Rattle.bundle.specs.Answer.{number_of};
 
 // Each cause with its number (docs/FORMAT.md).
+#[derive(Clone, Copy)]
 pub enum Cause {
     BundleTooLong, // 1
     UnknownCommand, // 2
@@ -31,7 +32,7 @@ pub enum Cause {
 
 // The number of a cause.
 pub fn number(cause: Cause) -> u8
-    ensures { λ r. ⌜ r ≡ numberOf cause ⌝ }
+    ensures { result ≡ number_of cause }
 {
     match cause {
         Cause::BundleTooLong => 1,

@@ -1,26 +1,19 @@
 // The scan, front to back: the tests 2, 3, 4, 20, 5, 6 and 7 of each command in that order.
-use crate::chunk::ChunkState;
-use crate::chunk::holds_lock;
-use crate::command::Access;
-use crate::command::Command;
-use crate::command::Reading;
-use crate::command::decode_command;
-use crate::command::in_range;
-use crate::limits::MOST_ACCESSES;
-use crate::limits::MOST_SEGMENTS;
+ghost use Rattle.std.specs.Prelude.{◌≡◌, true, false, ◌&&◌, ◌+◌, ◌<◌, ◌≤◌, ltb};
+ghost use Rattle.bundle.specs.Answer.{refuses, number_of};
+ghost use Rattle.bundle.specs.Chunks.{fresh};
+ghost use Rattle.bundle.specs.Commands.{reading_of};
+ghost use Rattle.bundle.specs.Scan.{differs};
+ghost use Rattle.bundle.specs.Survey.{Bounded, step_of, unmoved, decided, tested_at, step_at, scan_with};
+
+use crate::chunk::{ChunkState, holds_lock};
+use crate::command::{Access, Command, Reading, decode_command, in_range};
+use crate::limits::{MOST_ACCESSES, MOST_SEGMENTS};
 use crate::refusal::Cause;
-ghost use mathlib.Core.Path.{_≡_};
-ghost use mathlib.Core.Bool.{true, false, _&&_};
-ghost use Prim.Native.Nat.{_+_, _<_, _≤_};
-ghost use lib.Dec.{ltb};
-ghost use Rattle·bundle·specs.specs.Answer.{refuses, numberOf};
-ghost use Rattle·bundle·specs.specs.Chunks.{fresh};
-ghost use Rattle·bundle·specs.specs.Commands.{readingOf};
-ghost use Rattle·bundle·specs.specs.Scan.{differs};
-ghost use Rattle·bundle·specs.specs.Survey.{Bounded, stepOf, unmoved, decided, testedAt, stepAt, scanWith};
 
 // Whether a chunk is open, and whether the accesses so far are of the wide group; the open chunk's team and state, and the segments and accesses of the
 // bundle so far.
+#[derive(Clone, Copy)]
 pub struct Scan {
     pub inside: bool,
     pub wide: bool,
@@ -31,6 +24,7 @@ pub struct Scan {
 }
 
 // What the scan says to a command.
+#[derive(Clone, Copy)]
 pub enum Step {
     // The position after the command, the scan after it, and the command.
     Onward {
@@ -46,8 +40,8 @@ pub enum Step {
 
 // The scan with another state, so many segments and accesses more, and the group.
 fn count(scan: Scan, state: ChunkState, opens: u32, adds: u32, wide: bool) -> Scan
-    requires { ⌜ (scan .segments + opens < 65536) × (scan .accesses + adds < 65536) ⌝ }
-    ensures { λ r. ⌜ r ≡ scanWith scan state opens adds wide ⌝ }
+    requires { (scan.segments + opens < 65536) × (scan.accesses + adds < 65536) }
+    ensures { result ≡ scan_with scan state opens adds wide }
 {
     Scan {
         inside: scan.inside,
@@ -60,8 +54,8 @@ fn count(scan: Scan, state: ChunkState, opens: u32, adds: u32, wide: bool) -> Sc
 }
 
 fn open_chunk(scan: Scan, team: u16) -> Scan
-    requires { ⌜ scan .segments ≤ 512 ⌝ }
-    ensures { λ r. ⌜ r ≡ record { inside = true; team = team; state = fresh; segments = scan .segments + 1; accesses = scan .accesses; wide = scan .wide } ⌝ }
+    requires { scan.segments ≤ 512 }
+    ensures { result ≡ record { inside = true; team = team; state = fresh; segments = scan.segments + 1; accesses = scan.accesses; wide = scan.wide } }
 {
     Scan {
         inside: true,
@@ -74,7 +68,7 @@ fn open_chunk(scan: Scan, team: u16) -> Scan
 }
 
 fn close_chunk(scan: Scan) -> Scan
-    ensures { λ r. ⌜ r ≡ record { inside = false; team = 0; state = fresh; segments = scan .segments; accesses = scan .accesses; wide = scan .wide } ⌝ }
+    ensures { result ≡ record { inside = false; team = 0; state = fresh; segments = scan.segments; accesses = scan.accesses; wide = scan.wide } }
 {
     Scan {
         inside: false,
@@ -88,14 +82,14 @@ fn close_chunk(scan: Scan) -> Scan
 
 // 7: whether one more segment is the 513th.
 fn full(scan: Scan) -> bool
-    requires { ⌜ Bounded scan ⌝ }
-    ensures { λ r. ⌜ r ≡ ltb 512 (scan .segments + 1) ⌝ }
+    requires { Bounded scan }
+    ensures { result ≡ ltb 512 (scan.segments + 1) }
 {
     MOST_SEGMENTS < scan.segments + 1
 }
 
 fn refuse(cause: Cause, place: usize) -> Step
-    ensures { λ r. ⌜ stepOf r ≡ refuses (numberOf cause) place ⌝ }
+    ensures { step_of result ≡ refuses (number_of cause) place }
 {
     Step::Refused { cause, place }
 }
@@ -110,7 +104,7 @@ fn decide(
     onward: Step,
     place: usize,
 ) -> Step
-    ensures { λ r. ⌜ stepOf r ≡ decided place misplaced foreign beyond misused many (stepOf onward) ⌝ }
+    ensures { step_of result ≡ decided place misplaced foreign beyond misused many (step_of onward) }
 {
     if misplaced {
         return refuse(Cause::Misplaced, place);
@@ -131,8 +125,8 @@ fn decide(
 }
 
 fn test_member(scan: Scan, team: u16, member: u8, next: usize, place: usize) -> Step
-    requires { ⌜ Bounded scan ⌝ }
-    ensures { λ r. ⌜ stepOf r ≡ testedAt scan place (record { command = Command.Member team member; next = next }) ⌝ }
+    requires { Bounded scan }
+    ensures { step_of result ≡ tested_at scan place (record { command = Command.Member team member; next = next }) }
 {
     let command = Command::Member { team, member };
     let onward = Step::Onward {
@@ -152,8 +146,8 @@ fn test_member(scan: Scan, team: u16, member: u8, next: usize, place: usize) -> 
 }
 
 fn test_end(scan: Scan, next: usize, place: usize) -> Step
-    requires { ⌜ Bounded scan ⌝ }
-    ensures { λ r. ⌜ stepOf r ≡ testedAt scan place (record { command = Command.End; next = next }) ⌝ }
+    requires { Bounded scan }
+    ensures { step_of result ≡ tested_at scan place (record { command = Command.End; next = next }) }
 {
     let command = Command::End;
     let state = scan.state;
@@ -175,8 +169,8 @@ fn test_end(scan: Scan, next: usize, place: usize) -> Step
 
 // 5 has the own-team rule here.
 fn test_region(scan: Scan, team: u16, size: u8, next: usize, place: usize) -> Step
-    requires { ⌜ Bounded scan ⌝ }
-    ensures { λ r. ⌜ stepOf r ≡ testedAt scan place (record { command = Command.Region team size; next = next }) ⌝ }
+    requires { Bounded scan }
+    ensures { step_of result ≡ tested_at scan place (record { command = Command.Region team size; next = next }) }
 {
     let command = Command::Region { team, size };
     let state = scan.state;
@@ -197,8 +191,8 @@ fn test_region(scan: Scan, team: u16, size: u8, next: usize, place: usize) -> St
 }
 
 fn test_barrier(scan: Scan, next: usize, place: usize) -> Step
-    requires { ⌜ Bounded scan ⌝ }
-    ensures { λ r. ⌜ stepOf r ≡ testedAt scan place (record { command = Command.Barrier; next = next }) ⌝ }
+    requires { Bounded scan }
+    ensures { step_of result ≡ tested_at scan place (record { command = Command.Barrier; next = next }) }
 {
     let command = Command::Barrier;
     let state = scan.state;
@@ -211,8 +205,8 @@ fn test_barrier(scan: Scan, next: usize, place: usize) -> Step
 }
 
 fn test_acquire(scan: Scan, lock: u8, next: usize, place: usize) -> Step
-    requires { ⌜ Bounded scan ⌝ }
-    ensures { λ r. ⌜ stepOf r ≡ testedAt scan place (record { command = Command.Acquire lock; next = next }) ⌝ }
+    requires { Bounded scan }
+    ensures { step_of result ≡ tested_at scan place (record { command = Command.Acquire lock; next = next }) }
 {
     let command = Command::Acquire(lock);
     let state = scan.state;
@@ -233,8 +227,8 @@ fn test_acquire(scan: Scan, lock: u8, next: usize, place: usize) -> Step
 }
 
 fn test_release(scan: Scan, lock: u8, next: usize, place: usize) -> Step
-    requires { ⌜ Bounded scan ⌝ }
-    ensures { λ r. ⌜ stepOf r ≡ testedAt scan place (record { command = Command.Release lock; next = next }) ⌝ }
+    requires { Bounded scan }
+    ensures { step_of result ≡ tested_at scan place (record { command = Command.Release lock; next = next }) }
 {
     let command = Command::Release(lock);
     let state = scan.state;
@@ -257,8 +251,8 @@ fn test_release(scan: Scan, lock: u8, next: usize, place: usize) -> Step
 // 20: a wide access behind narrow ones, or a narrow one behind wide ones. The scan has the wide group of accesses only, so the narrow case needs no count;
 // with one test for both cases check takes up to a tenth longer for narrow accesses.
 fn follows_other(scan: Scan, wide: bool) -> bool
-    requires { ⌜ Bounded scan ⌝ }
-    ensures { λ r. ⌜ r ≡ (ltb 0 (scan .accesses) && differs (scan .wide) wide) ⌝ }
+    requires { Bounded scan }
+    ensures { result ≡ (ltb 0 scan.accesses && differs scan.wide wide) }
 {
     if wide {
         return (0 < scan.accesses) & !scan.wide;
@@ -268,8 +262,8 @@ fn follows_other(scan: Scan, wide: bool) -> bool
 
 // An access of this group.
 fn test_of_group(scan: Scan, access: Access, wide: bool, next: usize, place: usize) -> Step
-    requires { ⌜ Bounded scan × (access .wide ≡ wide) ⌝ }
-    ensures { λ r. ⌜ stepOf r ≡ testedAt scan place (record { command = Command.Access access; next = next }) ⌝ }
+    requires { Bounded scan × (access.wide ≡ wide) }
+    ensures { step_of result ≡ tested_at scan place (record { command = Command.Access access; next = next }) }
 {
     let command = Command::Access(access);
     let state = scan.state;
@@ -291,8 +285,8 @@ fn test_of_group(scan: Scan, access: Access, wide: bool, next: usize, place: usi
 
 // The groups are tested apart, so that the compiler keeps them apart from the decoding on: check takes up to 6 in a hundred less for narrow accesses.
 fn test_access(scan: Scan, access: Access, next: usize, place: usize) -> Step
-    requires { ⌜ Bounded scan ⌝ }
-    ensures { λ r. ⌜ stepOf r ≡ testedAt scan place (record { command = Command.Access access; next = next }) ⌝ }
+    requires { Bounded scan }
+    ensures { step_of result ≡ tested_at scan place (record { command = Command.Access access; next = next }) }
 {
     if access.wide {
         return test_of_group(scan, access, true, next, place);
@@ -302,8 +296,8 @@ fn test_access(scan: Scan, access: Access, next: usize, place: usize) -> Step
 
 // A chunk may be cut with locks held.
 fn test_cut(scan: Scan, next: usize, place: usize) -> Step
-    requires { ⌜ Bounded scan ⌝ }
-    ensures { λ r. ⌜ stepOf r ≡ testedAt scan place (record { command = Command.Cut; next = next }) ⌝ }
+    requires { Bounded scan }
+    ensures { step_of result ≡ tested_at scan place (record { command = Command.Cut; next = next }) }
 {
     let onward = Step::Onward {
         next,
@@ -315,8 +309,8 @@ fn test_cut(scan: Scan, next: usize, place: usize) -> Step
 
 // A command that was decoded: 4, 20, 5, 6 and 7 in that order.
 fn test(scan: Scan, command: Command, next: usize, place: usize) -> Step
-    requires { ⌜ Bounded scan ⌝ }
-    ensures { λ r. ⌜ stepOf r ≡ testedAt scan place (record { command = command; next = next }) ⌝ }
+    requires { Bounded scan }
+    ensures { step_of result ≡ tested_at scan place (record { command = command; next = next }) }
 {
     match command {
         Command::Member { team, member } => test_member(scan, team, member, next, place),
@@ -332,7 +326,7 @@ fn test(scan: Scan, command: Command, next: usize, place: usize) -> Step
 
 // What was read as an answer of the scan, which has not moved: so a refusal is passed on.
 fn as_step(reading: Reading, scan: Scan) -> Step
-    ensures { λ r. ⌜ stepOf r ≡ unmoved scan (readingOf reading) ⌝ }
+    ensures { step_of result ≡ unmoved scan (reading_of reading) }
 {
     match reading {
         Reading::Taken { next, command } => Step::Onward {
@@ -346,8 +340,8 @@ fn as_step(reading: Reading, scan: Scan) -> Step
 
 // The command at a position, tested.
 pub fn step_at(bytes: &[u8], at: usize, scan: Scan) -> Step
-    requires { ⌜ Bounded scan ⌝ }
-    ensures { λ r. ⌜ stepOf r ≡ stepAt (now (bytes .entry)) at scan ⌝ }
+    requires { Bounded scan }
+    ensures { step_of result ≡ step_at bytes.now at scan }
 {
     let reading = decode_command(bytes, at);
     let Reading::Taken { next, command } = reading else {

@@ -1,24 +1,18 @@
 // The shape of a bundle, 8 to 12 and 19, by its index.
+ghost use Rattle.std.specs.Prelude.{◌≡◌, ◌||◌, ◌+◌, ◌*◌, ◌≤◌, ◌<◌, ltb, leb, length, get_or};
+ghost use Rattle.sorting.specs.Searching.{first_with_key};
+ghost use Rattle.bundle.specs.Check.{size_of, checking_of};
+ghost use Rattle.bundle.specs.Index.{table, chunk_row_at, fork_row_at};
+ghost use Rattle.bundle.specs.Shape.{settled_by_rows, shape_by_rows, FirstFailing, slot_of, ByTeam, met_at, marked_at, Blank, Ready, MetTo, Settled, climbs, deep_by, lacks_by, lead_word, noted_lead, unlike_by, uneven_by, barriers_by_rows, fails_by};
+ghost use Rattle.bundle.specs.declared.answer.Checking.TheVariants as Checks;
+
 use crate::answer::Checking;
-use crate::index::ChunkRow;
-use crate::index::chunk_at;
-use crate::index::fork_at;
+use crate::index::{ChunkRow, chunk_at, fork_at};
 use crate::refusal::Cause;
-use crate::teams::order_teams;
-use crate::teams::size_of;
-use crate::teams::slot_of;
-ghost use mathlib.Core.Path.{_≡_};
-ghost use mathlib.Core.Bool.{_||_};
-ghost use Prim.Native.Nat.{_+_, _*_, _≤_, _<_};
-ghost use lib.Dec.{ltb, leb};
-ghost use lib.ListN.{length, getD};
-ghost use Rattle·sorting.specs.Searching.{firstWithKey};
-ghost use Rattle·bundle·specs.specs.Check.{sizeOf, checkingOf};
-ghost use Rattle·bundle·specs.specs.Index.{table, chunkRowAt, forkRowAt};
-ghost use Rattle·bundle·specs.specs.Shape.{settledByRows, shapeByRows, FirstFailing, slotOf, ByTeam, metAt, markedAt, Blank, Ready, MetTo, Settled, climbs, deepBy, lacksBy, leadWord, notedLead, unlikeBy, unevenBy, barriersByRows, failsBy};
-ghost use Rattle·bundle·specs.specs.declared.answer.Checking.the-variants as Checks;
+use crate::teams::{order_teams, size_of, slot_of};
 
 // The tests of a row by tables that are complete.
+#[derive(Clone, Copy)]
 pub enum Test {
     ForkedBefore, // 8, of a REGION
     LacksChunk, // 10, of a REGION
@@ -29,7 +23,7 @@ pub enum Test {
 
 // Whether a member of the team of a slot was met: a bit for each member, in four words.
 fn met(masks: &[u64], slot: u32, member: u8) -> bool
-    ensures { λ r. ⌜ r ≡ metAt (now (masks .entry)) slot member ⌝ }
+    ensures { result ≡ met_at masks.now slot member }
 {
     let at = 4 * (slot as usize) + (member / 64) as usize;
     if masks.len() <= at {
@@ -39,8 +33,8 @@ fn met(masks: &[u64], slot: u32, member: u8) -> bool
 }
 
 fn mark(masks: &mut [u64], slot: u32, member: u8)
-    requires { ⌜ 4 * slot + 3 < length (now masks) ⌝ }
-    ensures { λ _. ⌜ now (masks .exit) ≡ markedAt (now (masks .entry)) slot member ⌝ }
+    requires { 4 * slot + 3 < length masks.old }
+    ensures { masks.new ≡ marked_at masks.old slot member }
 {
     let at = 4 * (slot as usize) + (member / 64) as usize;
     masks[at] = masks[at] | (1 << (member % 64));
@@ -48,7 +42,7 @@ fn mark(masks: &mut [u64], slot: u32, member: u8)
 
 // The number of the lowest-numbered complete member of the team of a slot, 0 where none is complete.
 fn lead_at(leads: &[u32], slot: u32) -> u32
-    ensures { λ r. ⌜ r ≡ getD (now (leads .entry)) slot 0 ⌝ }
+    ensures { result ≡ get_or leads.now slot 0 }
 {
     let at = slot as usize;
     if at < leads.len() {
@@ -59,8 +53,8 @@ fn lead_at(leads: &[u32], slot: u32) -> u32
 
 // 9: a member number not below the team's size, or a second chunk of one member.
 fn is_stray(forks: &[u64], regions: u32, masks: &[u64], slot: u32, row: ChunkRow) -> bool
-    requires { ⌜ slot ≡ slotOf (table (forkRowAt (now forks)) regions) (row .team) ⌝ }
-    ensures { λ r. ⌜ r ≡ (leb (sizeOf (table (forkRowAt (now (forks .entry))) regions) (row .team)) (row .member) || metAt (now (masks .entry)) slot (row .member)) ⌝ }
+    requires { slot ≡ slot_of (table (fork_row_at forks.now) regions) row.team }
+    ensures { result ≡ (leb (size_of (table (fork_row_at forks.now) regions) row.team) row.member || met_at masks.now slot row.member) }
 {
     let team = row.team;
     let member = row.member;
@@ -69,15 +63,15 @@ fn is_stray(forks: &[u64], regions: u32, masks: &[u64], slot: u32, row: ChunkRow
 
 // A complete chunk as a number: of two members the one of the lower number has the greater.
 fn lead_word(row: ChunkRow) -> u32
-    ensures { λ r. ⌜ r ≡ leadWord row ⌝ }
+    ensures { result ≡ lead_word row }
 {
     (256 - row.member as u32) * 65536 + row.barriers % 65536
 }
 
 // Notes a chunk that is not stray.
 fn note(masks: &mut [u64], leads: &mut [u32], slot: u32, row: ChunkRow)
-    requires { ⌜ (4 * slot + 3 < length (now masks)) × (slot < length (now leads)) ⌝ }
-    ensures { λ _. ⌜ (now (masks .exit) ≡ markedAt (now (masks .entry)) slot (row .member)) × (now (leads .exit) ≡ notedLead row (now (leads .entry)) slot) ⌝ }
+    requires { (4 * slot + 3 < length masks.old) × (slot < length leads.old) }
+    ensures { (masks.new ≡ marked_at masks.old slot row.member) × (leads.new ≡ noted_lead row leads.old slot) }
 {
     mark(masks, slot, row.member);
     let word = lead_word(row);
@@ -97,8 +91,8 @@ fn first_stray(
     masks: &mut [u64],
     leads: &mut [u32],
 ) -> u32
-    requires { ⌜ Ready (now chunks) (now forks) (now order) (now masks) (now leads) regions ⌝ }
-    ensures { λ r. ⌜ MetTo (now (chunks .entry)) (now (forks .entry)) (now (masks .exit)) (now (leads .exit)) count regions r ⌝ }
+    requires { Ready chunks.now forks.now order.now masks.old leads.old regions }
+    ensures { MetTo chunks.now forks.now masks.new leads.new count regions result }
 {
     let mut i = 0;
     while i < count {
@@ -115,7 +109,7 @@ fn first_stray(
 
 // Whether a member below `size` was not met.
 fn lacks_member(masks: &[u64], slot: u32, size: u8) -> bool
-    ensures { λ r. ⌜ r ≡ lacksBy (now (masks .entry)) slot size ⌝ }
+    ensures { result ≡ lacks_by masks.now slot size }
 {
     let mut member = 0;
     while member < size {
@@ -129,8 +123,8 @@ fn lacks_member(masks: &[u64], slot: u32, size: u8) -> bool
 
 // Whether so many REGIONs can be climbed from a team.
 fn climb(forks: &[u64], order: &[u64], team: u16, levels: u8) -> bool
-    requires { ⌜ length (now order) ≤ 512 ⌝ }
-    ensures { λ r. ⌜ r ≡ climbs levels (now (forks .entry)) (now (order .entry)) team ⌝ }
+    requires { length order.now ≤ 512 }
+    ensures { result ≡ climbs levels forks.now order.now team }
 {
     if levels == 0 {
         return true;
@@ -144,15 +138,15 @@ fn climb(forks: &[u64], order: &[u64], team: u16, levels: u8) -> bool
 }
 
 fn forked_before(forks: &[u64], order: &[u64], i: u32) -> bool
-    requires { ⌜ length (now order) ≤ 512 ⌝ }
-    ensures { λ r. ⌜ r ≡ ltb (firstWithKey (now (order .entry)) (forkRowAt (now (forks .entry)) i .team)) i ⌝ }
+    requires { length order.now ≤ 512 }
+    ensures { result ≡ ltb (first_with_key order.now (fork_row_at forks.now i).team) i }
 {
     let row = fork_at(forks, i);
     slot_of(order, row.team) < i
 }
 
 fn lacks_chunk(forks: &[u64], masks: &[u64], i: u32) -> bool
-    ensures { λ r. ⌜ r ≡ lacksBy (now (masks .entry)) i (forkRowAt (now (forks .entry)) i .size) ⌝ }
+    ensures { result ≡ lacks_by masks.now i (fork_row_at forks.now i).size }
 {
     let row = fork_at(forks, i);
     lacks_member(masks, i, row.size)
@@ -160,8 +154,8 @@ fn lacks_chunk(forks: &[u64], masks: &[u64], i: u32) -> bool
 
 // Deeper than 4. The team number falls at each climb, so a team below 4 is not.
 fn too_deep(forks: &[u64], order: &[u64], i: u32) -> bool
-    requires { ⌜ length (now order) ≤ 512 ⌝ }
-    ensures { λ r. ⌜ r ≡ deepBy (now (forks .entry)) (now (order .entry)) (forkRowAt (now (forks .entry)) i .team) ⌝ }
+    requires { length order.now ≤ 512 }
+    ensures { result ≡ deep_by forks.now order.now (fork_row_at forks.now i).team }
 {
     let row = fork_at(forks, i);
     let team = row.team;
@@ -173,8 +167,8 @@ fn too_deep(forks: &[u64], order: &[u64], i: u32) -> bool
 
 // 12: a complete chunk with other barriers than the lowest-numbered complete member.
 fn unlike_lowest(chunks: &[u64], order: &[u64], leads: &[u32], i: u32) -> bool
-    requires { ⌜ length (now order) ≤ 512 ⌝ }
-    ensures { λ r. ⌜ r ≡ unlikeBy (chunkRowAt (now (chunks .entry)) i) (getD (now (leads .entry)) (firstWithKey (now (order .entry)) (chunkRowAt (now (chunks .entry)) i .team)) 0) ⌝ }
+    requires { length order.now ≤ 512 }
+    ensures { result ≡ unlike_by (chunk_row_at chunks.now i) (get_or leads.now (first_with_key order.now (chunk_row_at chunks.now i).team) 0) }
 {
     let row = chunk_at(chunks, i);
     let lead = lead_at(leads, slot_of(order, row.team));
@@ -183,8 +177,8 @@ fn unlike_lowest(chunks: &[u64], order: &[u64], leads: &[u32], i: u32) -> bool
 
 // 12 or 19: a complete chunk with other barriers than the lowest-numbered complete member, or a cut one with more.
 fn uneven(chunks: &[u64], order: &[u64], leads: &[u32], i: u32) -> bool
-    requires { ⌜ length (now order) ≤ 512 ⌝ }
-    ensures { λ r. ⌜ r ≡ unevenBy (chunkRowAt (now (chunks .entry)) i) (getD (now (leads .entry)) (firstWithKey (now (order .entry)) (chunkRowAt (now (chunks .entry)) i .team)) 0) ⌝ }
+    requires { length order.now ≤ 512 }
+    ensures { result ≡ uneven_by (chunk_row_at chunks.now i) (get_or leads.now (first_with_key order.now (chunk_row_at chunks.now i).team) 0) }
 {
     let row = chunk_at(chunks, i);
     let lead = lead_at(leads, slot_of(order, row.team));
@@ -203,8 +197,8 @@ fn fails(
     masks: &[u64],
     leads: &[u32],
 ) -> bool
-    requires { ⌜ length (now order) ≤ 512 ⌝ }
-    ensures { λ r. ⌜ r ≡ failsBy test (now (chunks .entry)) (now (forks .entry)) (now (order .entry)) (now (masks .entry)) (now (leads .entry)) i ⌝ }
+    requires { length order.now ≤ 512 }
+    ensures { result ≡ fails_by test chunks.now forks.now order.now masks.now leads.now i }
 {
     match test {
         Test::ForkedBefore => forked_before(forks, order, i),
@@ -225,8 +219,8 @@ fn first_failing(
     masks: &[u64],
     leads: &[u32],
 ) -> u32
-    requires { ⌜ length (now order) ≤ 512 ⌝ }
-    ensures { λ r. ⌜ FirstFailing (failsBy test (now (chunks .entry)) (now (forks .entry)) (now (order .entry)) (now (masks .entry)) (now (leads .entry))) rows r ⌝ }
+    requires { length order.now ≤ 512 }
+    ensures { FirstFailing (fails_by test chunks.now forks.now order.now masks.now leads.now) rows result }
 {
     let mut row = 0;
     while row < rows {
@@ -240,7 +234,7 @@ fn first_failing(
 
 // A refusal at a REGION, or at a chunk.
 fn at_fork(forks: &[u64], i: u32, cause: Cause) -> Checking
-    ensures { λ r. ⌜ r ≡ Checks.Refused (forkRowAt (now (forks .entry)) i .place) cause ⌝ }
+    ensures { result ≡ Checks.Refused (fork_row_at forks.now i).place cause }
 {
     let row = fork_at(forks, i);
     Checking::Refused {
@@ -250,7 +244,7 @@ fn at_fork(forks: &[u64], i: u32, cause: Cause) -> Checking
 }
 
 fn at_chunk(chunks: &[u64], i: u32, cause: Cause) -> Checking
-    ensures { λ r. ⌜ r ≡ Checks.Refused (chunkRowAt (now (chunks .entry)) i .place) cause ⌝ }
+    ensures { result ≡ Checks.Refused (chunk_row_at chunks.now i).place cause }
 {
     let row = chunk_at(chunks, i);
     Checking::Refused {
@@ -270,8 +264,8 @@ fn test_barriers(
     masks: &[u64],
     leads: &[u32],
 ) -> Checking
-    requires { ⌜ Settled (now chunks) (now forks) (now order) (now masks) (now leads) count regions ⌝ }
-    ensures { λ r. ⌜ checkingOf r ≡ barriersByRows (table (chunkRowAt (now (chunks .entry))) count) ⌝ }
+    requires { Settled chunks.now forks.now order.now masks.now leads.now count regions }
+    ensures { checking_of result ≡ barriers_by_rows (table (chunk_row_at chunks.now) count) }
 {
     let i = first_failing(Test::Uneven, count, chunks, forks, order, masks, leads);
     if count <= i {
@@ -306,8 +300,8 @@ fn test_settled(
     masks: &[u64],
     leads: &[u32],
 ) -> Checking
-    requires { ⌜ Settled (now chunks) (now forks) (now order) (now masks) (now leads) count regions ⌝ }
-    ensures { λ r. ⌜ checkingOf r ≡ settledByRows (table (chunkRowAt (now (chunks .entry))) count) (table (forkRowAt (now (forks .entry))) regions) ⌝ }
+    requires { Settled chunks.now forks.now order.now masks.now leads.now count regions }
+    ensures { checking_of result ≡ settled_by_rows (table (chunk_row_at chunks.now) count) (table (fork_row_at forks.now) regions) }
 {
     if !met(masks, slot_of(order, 0), 0) {
         return Checking::Refused {
@@ -344,8 +338,8 @@ fn test_all(
     masks: &mut [u64],
     leads: &mut [u32],
 ) -> Checking
-    requires { ⌜ Ready (now chunks) (now forks) (now order) (now masks) (now leads) regions ⌝ }
-    ensures { λ r. ⌜ checkingOf r ≡ shapeByRows (table (chunkRowAt (now (chunks .entry))) count) (table (forkRowAt (now (forks .entry))) regions) ⌝ }
+    requires { Ready chunks.now forks.now order.now masks.old leads.old regions }
+    ensures { checking_of result ≡ shape_by_rows (table (chunk_row_at chunks.now) count) (table (fork_row_at forks.now) regions) }
 {
     let i = first_failing(
         Test::ForkedBefore,
@@ -376,8 +370,8 @@ fn shape_in(
     masks: &mut [u64],
     leads: &mut [u32],
 ) -> Checking
-    requires { ⌜ Blank (now order) (now masks) (now leads) regions ⌝ }
-    ensures { λ r. ⌜ checkingOf r ≡ shapeByRows (table (chunkRowAt (now (chunks .entry))) count) (table (forkRowAt (now (forks .entry))) regions) ⌝ }
+    requires { Blank order.old masks.old leads.old regions }
+    ensures { checking_of result ≡ shape_by_rows (table (chunk_row_at chunks.now) count) (table (fork_row_at forks.now) regions) }
 {
     order_teams(forks, order);
     test_all(chunks, count, forks, regions, order, masks, leads)
@@ -385,8 +379,8 @@ fn shape_in(
 
 // For a few REGIONs small tables do: clearing large ones would take longer than all else.
 fn shape_small(chunks: &[u64], count: u32, forks: &[u64], regions: u32) -> Checking
-    requires { ⌜ regions ≤ 16 ⌝ }
-    ensures { λ r. ⌜ checkingOf r ≡ shapeByRows (table (chunkRowAt (now (chunks .entry))) count) (table (forkRowAt (now (forks .entry))) regions) ⌝ }
+    requires { regions ≤ 16 }
+    ensures { checking_of result ≡ shape_by_rows (table (chunk_row_at chunks.now) count) (table (fork_row_at forks.now) regions) }
 {
     let mut order = [0u64; 16];
     let mut masks = [0u64; 68];
@@ -403,8 +397,8 @@ fn shape_small(chunks: &[u64], count: u32, forks: &[u64], regions: u32) -> Check
 }
 
 fn shape_large(chunks: &[u64], count: u32, forks: &[u64], regions: u32) -> Checking
-    requires { ⌜ regions ≤ 512 ⌝ }
-    ensures { λ r. ⌜ checkingOf r ≡ shapeByRows (table (chunkRowAt (now (chunks .entry))) count) (table (forkRowAt (now (forks .entry))) regions) ⌝ }
+    requires { regions ≤ 512 }
+    ensures { checking_of result ≡ shape_by_rows (table (chunk_row_at chunks.now) count) (table (fork_row_at forks.now) regions) }
 {
     let mut order = [0u64; 512];
     let mut masks = [0u64; 2052];
@@ -422,8 +416,8 @@ fn shape_large(chunks: &[u64], count: u32, forks: &[u64], regions: u32) -> Check
 
 // The tests 8 to 12 and 19.
 pub fn shape(chunks: &[u64], count: u32, forks: &[u64], regions: u32) -> Checking
-    requires { ⌜ count + regions ≤ 512 ⌝ }
-    ensures { λ r. ⌜ checkingOf r ≡ shapeByRows (table (chunkRowAt (now (chunks .entry))) count) (table (forkRowAt (now (forks .entry))) regions) ⌝ }
+    requires { count + regions ≤ 512 }
+    ensures { checking_of result ≡ shape_by_rows (table (chunk_row_at chunks.now) count) (table (fork_row_at forks.now) regions) }
 {
     if regions <= 16 {
         return shape_small(chunks, count, forks, regions);

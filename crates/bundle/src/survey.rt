@@ -1,21 +1,16 @@
 // The pass over a bundle: the scan, and a row for each chunk and each REGION.
+ghost use Rattle.std.specs.Prelude.{◌≡◌, ◌<◌, ◌≤◌, length};
+ghost use Rattle.bundle.specs.Index.{ChunkFits, ForkFits};
+ghost use Rattle.bundle.specs.Survey.{beginning, Near, opened_at, closed_row, fork_here, Notable, Noted, finished, Surveyed};
+
 use crate::chunk::ChunkState;
 use crate::command::Command;
-use crate::index::ChunkRow;
-use crate::index::Fork;
-use crate::index::add_chunk;
-use crate::index::add_fork;
+use crate::index::{ChunkRow, Fork, add_chunk, add_fork};
 use crate::refusal::Cause;
-use crate::scan::Scan;
-use crate::scan::Step;
-use crate::scan::step_at;
-ghost use mathlib.Core.Path.{_≡_};
-ghost use Prim.Native.Nat.{_<_, _≤_};
-ghost use lib.ListN.{length};
-ghost use Rattle·bundle·specs.specs.Index.{ChunkFits, ForkFits};
-ghost use Rattle·bundle·specs.specs.Survey.{beginning, Near, openedAt, closedRow, forkHere, Notable, Noted, finished, Surveyed};
+use crate::scan::{Scan, Step, step_at};
 
 // The open chunk: the offset of its MEMBER, its member, and the segments and accesses of the bundle before it.
+#[derive(Clone, Copy)]
 pub struct Open {
     pub place: u16,
     pub member: u8,
@@ -24,6 +19,7 @@ pub struct Open {
 }
 
 // How far the pass is: the position and the scan there, the open chunk, and the rows so far.
+#[derive(Clone, Copy)]
 pub struct Progress {
     pub at: usize,
     pub scan: Scan,
@@ -33,13 +29,14 @@ pub struct Progress {
 }
 
 // What the pass gives: the number of chunks and of REGIONs, whose rows are in the tables.
+#[derive(Clone, Copy)]
 pub enum Survey {
     Complete { chunks: u32, forks: u32 },
     Refused { place: usize, cause: Cause },
 }
 
 fn begin() -> Progress
-    ensures { λ r. ⌜ r ≡ beginning ⌝ }
+    ensures { result ≡ beginning }
 {
     Progress {
         at: 0,
@@ -64,8 +61,8 @@ fn begin() -> Progress
 
 // The chunk that is opened at the position.
 fn opened(pass: Progress, member: u8) -> Open
-    requires { ⌜ Near pass ⌝ }
-    ensures { λ r. ⌜ r ≡ openedAt pass member ⌝ }
+    requires { Near pass }
+    ensures { result ≡ opened_at pass member }
 {
     let scan = pass.scan;
     Open {
@@ -78,8 +75,8 @@ fn opened(pass: Progress, member: u8) -> Open
 
 // The row of the chunk that is closed at the position, by END where it is complete.
 fn closed_row(pass: Progress, complete: bool) -> ChunkRow
-    requires { ⌜ Near pass ⌝ }
-    ensures { λ r. ⌜ (r ≡ closedRow pass complete) × ChunkFits r ⌝ }
+    requires { Near pass }
+    ensures { (result ≡ closed_row pass complete) × ChunkFits result }
 {
     let scan = pass.scan;
     let state = scan.state;
@@ -98,8 +95,8 @@ fn closed_row(pass: Progress, complete: bool) -> ChunkRow
 
 // The row of a REGION at the position.
 fn fork_row(pass: Progress, team: u16, size: u8) -> Fork
-    requires { ⌜ Near pass ⌝ }
-    ensures { λ r. ⌜ (r ≡ forkHere pass team size) × ForkFits r ⌝ }
+    requires { Near pass }
+    ensures { (result ≡ fork_here pass team size) × ForkFits result }
 {
     let scan = pass.scan;
     let open = pass.chunk;
@@ -116,7 +113,7 @@ fn fork_row(pass: Progress, team: u16, size: u8) -> Fork
 
 // The pass after a command, with the open chunk and the rows as they are.
 fn move_on(pass: Progress, scan: Scan, next: usize) -> Progress
-    ensures { λ r. ⌜ r ≡ record { at = next; scan = scan; chunk = pass .chunk; chunks = pass .chunks; forks = pass .forks } ⌝ }
+    ensures { result ≡ record { at = next; scan = scan; chunk = pass.chunk; chunks = pass.chunks; forks = pass.forks } }
 {
     let chunk = pass.chunk;
     Progress {
@@ -137,8 +134,8 @@ fn note(
     chunks: &mut [u64],
     forks: &mut [u64],
 ) -> Progress
-    requires { ⌜ Notable pass (now chunks) (now forks) ⌝ }
-    ensures { λ r. ⌜ Noted pass command scan next r (now (chunks .entry)) (now (forks .entry)) (now (chunks .exit)) (now (forks .exit)) ⌝ }
+    requires { Notable pass chunks.old forks.old }
+    ensures { Noted pass command scan next result chunks.old forks.old chunks.new forks.new }
 {
     let mut after = move_on(pass, scan, next);
     match command {
@@ -171,7 +168,7 @@ fn note(
 
 // 4: the bundle ending inside a chunk, at its length.
 fn finish(pass: Progress, end: usize) -> Survey
-    ensures { λ r. ⌜ r ≡ finished pass end ⌝ }
+    ensures { result ≡ finished pass end }
 {
     let scan = pass.scan;
     if scan.inside {
@@ -188,8 +185,8 @@ fn finish(pass: Progress, end: usize) -> Survey
 
 // The whole bundle, front to back: each command is tested, and noted where it passes.
 pub fn survey_all(bytes: &[u8], chunks: &mut [u64], forks: &mut [u64]) -> Survey
-    requires { ⌜ (length (now bytes) ≤ 65536) × (length (now chunks) ≡ 1024) × (length (now forks) ≡ 1536) ⌝ }
-    ensures { λ r. ⌜ Surveyed (now (bytes .entry)) r (now (chunks .exit)) (now (forks .exit)) ⌝ }
+    requires { (length bytes.now ≤ 65536) × (length chunks.old ≡ 1024) × (length forks.old ≡ 1536) }
+    ensures { Surveyed bytes.now result chunks.new forks.new }
 {
     let mut pass = begin();
     while pass.at < bytes.len() {

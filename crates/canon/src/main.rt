@@ -1,10 +1,10 @@
 // Writes the bundle on standard input to standard output with its chunks by team, then member. A bundle that is refused leaves standard
 // output empty; the refusal is a line on standard error.
+#![tactic(auto)]
+
 use bundle::limits::MOST_BYTES;
-use libc::STDIN_FILENO;
-use libc::STDOUT_FILENO;
-use rewrite::rewrite::Rewriting;
-use rewrite::rewrite::rewrite;
+use libc::{STDIN_FILENO, STDOUT_FILENO};
+use rewrite::rewrite::{Rewriting, rewrite};
 use telling::refusals::print_refused;
 
 fn print_rewritten(bytes: &[u8]) {

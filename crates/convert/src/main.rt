@@ -1,20 +1,20 @@
 // Writes the bundle on standard input to standard output with its accesses in the group that the argument names, `wide` or `narrow`. A bundle
 // that is refused leaves standard output empty; the refusal is a line on standard error.
+#![tactic(auto)]
+
+ghost use Rattle.std.specs.Prelude.{◌≡◌};
+ghost use Rattle.rewrite.specs.Rewriting.{rewriting_of};
+ghost use Rattle.rewrite.specs.Converting.{convert_of};
+
 use bundle::limits::MOST_BYTES;
-use libc::STDERR_FILENO;
-use libc::STDIN_FILENO;
-use libc::STDOUT_FILENO;
-use rewrite::convert::to_narrow;
-use rewrite::convert::to_wide;
+use libc::{STDERR_FILENO, STDIN_FILENO, STDOUT_FILENO};
+use rewrite::convert::{to_narrow, to_wide};
 use rewrite::rewrite::Rewriting;
 use telling::arguments::same_word;
 use telling::refusals::print_refused;
-ghost use mathlib.Core.Path.{_≡_};
-ghost use Rattle·rewrite.specs.Rewriting.{rewritingOf};
-ghost use Rattle·rewrite.specs.Converting.{convertOf};
 
 fn convert(bytes: &[u8], wide: bool, buffer: &mut [u8]) -> Rewriting
-    ensures { λ r. ⌜ record { answer = rewritingOf r; buffer = now (buffer .exit) } ≡ convertOf wide (now (bytes .entry)) (now (buffer .entry)) ⌝ }
+    ensures { record { answer = rewriting_of result; buffer = buffer.new } ≡ convert_of wide bytes.now buffer.old }
 {
     if wide {
         return to_wide(bytes, buffer);

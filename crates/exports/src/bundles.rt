@@ -1,18 +1,17 @@
 // Check a bundle, and find a member's chunk.
+ghost use Rattle.std.specs.Prelude.{◌≡◌};
+ghost use Rattle.bundle.specs.Check.{check_of};
+ghost use Rattle.bundle.specs.Find.{ends_of};
+ghost use Rattle.exports.specs.Told.{check_told, ends_told};
+
 use bundle::answer::Checking;
-use bundle::check::Found;
-use bundle::check::check;
-use bundle::check::find_ends;
+use bundle::check::{Found, check, find_ends};
 use bundle::refusal::number;
-ghost use mathlib.Core.Path.{_≡_};
-ghost use Rattle·bundle.specs.Check.{checkOf};
-ghost use Rattle·bundle.specs.Find.{endsOf};
-ghost use Rattle·exports·specs.specs.Told.{checkTold, endsTold};
 
 // Whether the bytes are a bundle.
-#[no_mangle]
+#[unsafe(no_mangle)]
 pub extern "C" fn dezhakom_check(bytes: &[u8], place: &mut usize) -> u32
-    ensures { λ r. ⌜ checkTold (checkOf (now (bytes .entry))) ≡ record { number = r; place = now (place .exit); answer = tt } ⌝ }
+    ensures { check_told (check_of bytes.now) ≡ record { number = result; place = place.new; answer = tt } }
 {
     match check(bytes) {
         Checking::Accepted => {
@@ -27,7 +26,7 @@ pub extern "C" fn dezhakom_check(bytes: &[u8], place: &mut usize) -> u32
 }
 
 // Where a member's chunk begins, and where it ends: the offset of its MEMBER, and the offset after its END or CUT.
-#[no_mangle]
+#[unsafe(no_mangle)]
 pub extern "C" fn dezhakom_find_chunk(
     bytes: &[u8],
     team: u16,
@@ -36,7 +35,7 @@ pub extern "C" fn dezhakom_find_chunk(
     end: &mut usize,
     place: &mut usize,
 ) -> u32
-    ensures { λ r. ⌜ endsTold (endsOf (now (bytes .entry)) team member) ≡ record { number = r; place = now (place .exit); answer = record { start = now (start .exit); end = now (end .exit) } } ⌝ }
+    ensures { ends_told (ends_of bytes.now team member) ≡ record { number = result; place = place.new; answer = record { start = start.exit.now; end = end.new } } }
 {
     match find_ends(bytes, team, member) {
         Found::At {

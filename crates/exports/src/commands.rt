@@ -1,25 +1,20 @@
 // Read and put a command. A command is nine words: its byte, team, member, lock, site, base, stride, count and size; what a command does not have
 // is 0 when it is read, and is not looked at when it is put.
-use bundle::command::Access;
-use bundle::command::AccessKind;
-use bundle::command::Command;
-use bundle::command::Putting;
-use bundle::command::Range;
-use bundle::command::Reading;
-use bundle::command::access_byte;
-use bundle::command::kind_of;
-use bundle::command::put_command;
-use bundle::command::read_command;
-use bundle::refusal::Cause;
-use bundle::refusal::number;
-ghost use mathlib.Core.Path.{_≡_};
-ghost use mathlib.Core.Option.{some};
-ghost use Rattle·bundle.specs.Commands.{readAt, puttingOf};
-ghost use Rattle·exports·specs.specs.CommandWords.{commandWords, commandFrom, accessFrom, putFrom};
-ghost use Rattle·exports·specs.specs.Inner.{Makes};
-ghost use Rattle·exports·specs.specs.Told.{readTold, putTold};
+ghost use Rattle.std.specs.Prelude.{◌≡◌};
+ghost use Rattle.std.proofs.Math.Option.{some};
+ghost use Rattle.bundle.specs.Commands.{read_at, putting_of};
+ghost use Rattle.exports.specs.CommandWords.{command_words, command_from, access_from, put_from};
+ghost use Rattle.exports.specs.Inner.{Makes};
+ghost use Rattle.exports.specs.Told.{read_told, put_told};
+
+use bundle::command::{
+    Access, AccessKind, Command, Putting, Range, Reading, access_byte, kind_of, put_command,
+    read_command,
+};
+use bundle::refusal::{Cause, number};
 
 // What the words of a command stand for.
+#[derive(Clone, Copy)]
 pub enum Made {
     Command(Command),
     // The first word is no command byte.
@@ -29,7 +24,7 @@ pub enum Made {
 }
 
 fn access_words(access: Access) -> [u32; 9]
-    ensures { λ r. ⌜ r ≡ commandWords (Command.Access access) ⌝ }
+    ensures { result ≡ command_words (Command.Access access) }
 {
     let kind = access.kind;
     let range = access.range;
@@ -47,7 +42,7 @@ fn access_words(access: Access) -> [u32; 9]
 }
 
 fn command_words(command: Command) -> [u32; 9]
-    ensures { λ r. ⌜ r ≡ commandWords command ⌝ }
+    ensures { result ≡ command_words command }
 {
     match command {
         Command::Member { team, member } => { [0x01, team as u32, member as u32, 0, 0, 0, 0, 0, 0] }
@@ -62,7 +57,7 @@ fn command_words(command: Command) -> [u32; 9]
 }
 
 // The command at a position, its operands in range, and the position after it.
-#[no_mangle]
+#[unsafe(no_mangle)]
 pub extern "C" fn dezhakom_read_command(
     bytes: &[u8],
     position: usize,
@@ -70,7 +65,7 @@ pub extern "C" fn dezhakom_read_command(
     next: &mut usize,
     place: &mut usize,
 ) -> u32
-    ensures { λ r. ⌜ readTold (readAt (now (bytes .entry)) position) ≡ record { number = r; place = now (place .exit); answer = record { command = now (command .exit); next = now (next .exit) } } ⌝ }
+    ensures { read_told (read_at bytes.now position) ≡ record { number = result; place = place.new; answer = record { command = command.exit.now; next = next.new } } }
 {
     match read_command(bytes, position) {
         Reading::Taken {
@@ -92,7 +87,7 @@ pub extern "C" fn dezhakom_read_command(
 }
 
 fn member_from(team: u32, member: u32) -> Made
-    ensures { λ r. ⌜ Makes (some (Command.Member team member)) r ⌝ }
+    ensures { Makes (some (Command.Member team member)) result }
 {
     if 65535 < team {
         return Made::TooWide;
@@ -107,7 +102,7 @@ fn member_from(team: u32, member: u32) -> Made
 }
 
 fn region_from(team: u32, size: u32) -> Made
-    ensures { λ r. ⌜ Makes (some (Command.Region team size)) r ⌝ }
+    ensures { Makes (some (Command.Region team size)) result }
 {
     if 65535 < team {
         return Made::TooWide;
@@ -122,7 +117,7 @@ fn region_from(team: u32, size: u32) -> Made
 }
 
 fn acquire_from(lock: u32) -> Made
-    ensures { λ r. ⌜ Makes (some (Command.Acquire lock)) r ⌝ }
+    ensures { Makes (some (Command.Acquire lock)) result }
 {
     if 255 < lock {
         return Made::TooWide;
@@ -131,7 +126,7 @@ fn acquire_from(lock: u32) -> Made
 }
 
 fn release_from(lock: u32) -> Made
-    ensures { λ r. ⌜ Makes (some (Command.Release lock)) r ⌝ }
+    ensures { Makes (some (Command.Release lock)) result }
 {
     if 255 < lock {
         return Made::TooWide;
@@ -140,7 +135,7 @@ fn release_from(lock: u32) -> Made
 }
 
 fn access_from(words: &[u32; 9], wide: bool, kind: AccessKind) -> Made
-    ensures { λ r. ⌜ Makes (some (accessFrom wide kind (now (words .entry)))) r ⌝ }
+    ensures { Makes (some (access_from wide kind words.now)) result }
 {
     let site = words[4];
     let base = words[5];
@@ -172,7 +167,7 @@ fn access_from(words: &[u32; 9], wide: bool, kind: AccessKind) -> Made
 
 // The command that words stand for.
 fn command_from(words: &[u32; 9]) -> Made
-    ensures { λ r. ⌜ Makes (commandFrom (now (words .entry))) r ⌝ }
+    ensures { Makes (command_from words.now) result }
 {
     match words[0] {
         0x01 => member_from(words[1], words[2]),
@@ -190,7 +185,7 @@ fn command_from(words: &[u32; 9]) -> Made
 
 // Puts the command that words stand for: 2 for none, and 5 for an operand over its width, as for any that is outside its range.
 fn put_words(words: &[u32; 9], buffer: &mut [u8], position: usize) -> Putting
-    ensures { λ r. ⌜ putFrom (commandFrom (now (words .entry))) (now (buffer .entry)) position ≡ record { answer = puttingOf r; buffer = now (buffer .exit) } ⌝ }
+    ensures { put_from (command_from words.now) buffer.old position ≡ record { answer = putting_of result; buffer = buffer.new } }
 {
     match command_from(words) {
         Made::Command(command) => put_command(command, buffer, position),
@@ -206,7 +201,7 @@ fn put_words(words: &[u32; 9], buffer: &mut [u8], position: usize) -> Putting
 }
 
 // Puts a command's bytes into the buffer at a position; the position after it.
-#[no_mangle]
+#[unsafe(no_mangle)]
 pub extern "C" fn dezhakom_put_command(
     command: &[u32; 9],
     buffer: &mut [u8],
@@ -214,7 +209,7 @@ pub extern "C" fn dezhakom_put_command(
     next: &mut usize,
     place: &mut usize,
 ) -> u32
-    ensures { λ r. ⌜ putTold (putFrom (commandFrom (now (command .entry))) (now (buffer .entry)) position) ≡ record { told = record { number = r; place = now (place .exit); answer = now (next .exit) }; memory = now (buffer .exit) } ⌝ }
+    ensures { put_told (put_from (command_from command.now) buffer.old position) ≡ record { told = record { number = result; place = place.new; answer = next.new }; memory = buffer.new } }
 {
     match put_words(command, buffer, position) {
         Putting::Written(after) => {

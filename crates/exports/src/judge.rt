@@ -1,20 +1,15 @@
 // Judge a bundle, and the next race above a key. A race is eleven words: its witness, and of either access team, member, number, site and element; a judgement
 // is sixteen: the counts of chunks, segments, accesses and races, whether there is a race, and the least one.
+ghost use Rattle.std.specs.Prelude.{◌≡◌};
+ghost use Rattle.verdict.specs.Judge.{judge_of, next_of};
+ghost use Rattle.exports.specs.RaceWords.{name_of, race_words, judgement_words, judge_told, next_told};
+
 use bundle::refusal::number;
-use verdict::judge::judge;
-use verdict::judge::next_race;
-use verdict::race::Judgement;
-use verdict::race::Judging;
-use verdict::race::Name;
-use verdict::race::Next;
-use verdict::race::Race;
-use verdict::race::Verdict;
-ghost use mathlib.Core.Path.{_≡_};
-ghost use Rattle·verdict.specs.Judge.{judgeOf, nextOf};
-ghost use Rattle·exports·specs.specs.RaceWords.{nameOf, raceWords, judgementWords, judgeTold, nextTold};
+use verdict::judge::{judge, next_race};
+use verdict::race::{Judgement, Judging, Name, Next, Race, Verdict};
 
 pub fn race_words(race: Race) -> [u32; 11]
-    ensures { λ r. ⌜ r ≡ raceWords race ⌝ }
+    ensures { result ≡ race_words race }
 {
     let first = race.first;
     let second = race.second;
@@ -34,7 +29,7 @@ pub fn race_words(race: Race) -> [u32; 11]
 }
 
 fn judgement_words(judgement: Judgement) -> [u32; 16]
-    ensures { λ r. ⌜ r ≡ judgementWords judgement ⌝ }
+    ensures { result ≡ judgement_words judgement }
 {
     let chunks = judgement.chunks;
     let segments = judgement.segments;
@@ -43,56 +38,27 @@ fn judgement_words(judgement: Judgement) -> [u32; 16]
     let verdict = judgement.verdict;
     match verdict {
         Verdict::RaceFree => [
-            chunks,
-            segments,
-            accesses,
-            races,
-            0,
-            0,
-            0,
-            0,
-            0,
-            0,
-            0,
-            0,
-            0,
-            0,
-            0,
-            0,
+            chunks, segments, accesses, races, 0, 0, 0, 0, 0, 0, 0, 0, 0, 0, 0, 0,
         ],
         Verdict::Least(race) => {
             let words = race_words(race);
             [
-                chunks,
-                segments,
-                accesses,
-                races,
-                1,
-                words[0],
-                words[1],
-                words[2],
-                words[3],
-                words[4],
-                words[5],
-                words[6],
-                words[7],
-                words[8],
-                words[9],
-                words[10],
+                chunks, segments, accesses, races, 1, words[0], words[1], words[2], words[3],
+                words[4], words[5], words[6], words[7], words[8], words[9], words[10],
             ]
         }
     }
 }
 
 // Judges a bundle.
-#[no_mangle]
+#[unsafe(no_mangle)]
 pub extern "C" fn dezhakom_judge(
     bytes: &[u8],
     work: &mut [u32],
     judgement: &mut [u32; 16],
     place: &mut usize,
 ) -> u32
-    ensures { λ r. ⌜ judgeTold (judgeOf (now (bytes .entry)) (now (work .entry))) ≡ record { told = record { number = r; place = now (place .exit); answer = now (judgement .exit) }; memory = now (work .exit) } ⌝ }
+    ensures { judge_told (judge_of bytes.now work.old) ≡ record { told = record { number = result; place = place.new; answer = judgement.new }; memory = work.new } }
 {
     match judge(bytes, work) {
         Judging::Judged(judged) => {
@@ -109,7 +75,7 @@ pub extern "C" fn dezhakom_judge(
 }
 
 // Whether there is a race above a witness and two names, and the least one.
-#[no_mangle]
+#[unsafe(no_mangle)]
 pub extern "C" fn dezhakom_next_race(
     bytes: &[u8],
     witness: u32,
@@ -124,7 +90,7 @@ pub extern "C" fn dezhakom_next_race(
     race: &mut [u32; 11],
     place: &mut usize,
 ) -> u32
-    ensures { λ r. ⌜ nextTold (nextOf (now (bytes .entry)) witness (nameOf «first_team» «first_member» «first_number») (nameOf «second_team» «second_member» «second_number») (now (work .entry))) ≡ record { told = record { number = r; place = now (place .exit); answer = record { found = now (found .exit); value = now (race .exit) } }; memory = now (work .exit) } ⌝ }
+    ensures { next_told (next_of bytes.now witness (name_of first_team first_member first_number) (name_of second_team second_member second_number) work.old) ≡ record { told = record { number = result; place = place.new; answer = record { found = found.exit.now; value = race.new } }; memory = work.new } }
 {
     let one = Name {
         team: first_team,

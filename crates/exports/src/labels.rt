@@ -1,18 +1,14 @@
 // The label of a segment, and the comparison of two labels. A label is sixteen words: how many triples it has, and offset, span and interval of each of five.
+ghost use Rattle.std.specs.Prelude.{◌≡◌};
+ghost use Rattle.order.specs.Labels.{label_of, compare_of};
+ghost use Rattle.exports.specs.LabelWords.{label_words, label_from, order_number, label_told, order_told};
+
 use bundle::refusal::number;
-use order::climb::LabelAnswer;
-use order::climb::label_of_segment;
-use order::label::Comparison;
-use order::label::Label;
-use order::label::Order;
-use order::label::Triple;
-use order::label::compare;
-ghost use mathlib.Core.Path.{_≡_};
-ghost use Rattle·order.specs.Labels.{labelOf, compareOf};
-ghost use Rattle·exports·specs.specs.LabelWords.{labelWords, labelFrom, orderNumber, labelTold, orderTold};
+use order::climb::{LabelAnswer, label_of_segment};
+use order::label::{Comparison, Label, Order, Triple, compare};
 
 fn label_words(label: Label) -> [u32; 16]
-    ensures { λ r. ⌜ r ≡ labelWords label ⌝ }
+    ensures { result ≡ label_words label }
 {
     let triples = label.triples;
     let a = triples[0];
@@ -41,7 +37,7 @@ fn label_words(label: Label) -> [u32; 16]
 }
 
 // The label of a member's segment; its triples past the count are 0.
-#[no_mangle]
+#[unsafe(no_mangle)]
 pub extern "C" fn dezhakom_label_of_segment(
     bytes: &[u8],
     team: u16,
@@ -50,7 +46,7 @@ pub extern "C" fn dezhakom_label_of_segment(
     label: &mut [u32; 16],
     place: &mut usize,
 ) -> u32
-    ensures { λ r. ⌜ labelTold (labelOf (now (bytes .entry)) team member segment) ≡ record { number = r; place = now (place .exit); answer = now (label .exit) } ⌝ }
+    ensures { label_told (label_of bytes.now team member segment) ≡ record { number = result; place = place.new; answer = label.new } }
 {
     let labelling = label_of_segment(bytes, team, member, segment);
     let answer = labelling.answer;
@@ -68,7 +64,7 @@ pub extern "C" fn dezhakom_label_of_segment(
 }
 
 fn label_from(words: &[u32; 16]) -> Label
-    ensures { λ r. ⌜ r ≡ labelFrom (now (words .entry)) ⌝ }
+    ensures { result ≡ label_from words.now }
 {
     let a = Triple {
         offset: words[1],
@@ -102,7 +98,7 @@ fn label_from(words: &[u32; 16]) -> Label
 }
 
 fn order_number(order: Order) -> u32
-    ensures { λ r. ⌜ r ≡ orderNumber order ⌝ }
+    ensures { result ≡ order_number order }
 {
     match order {
         Order::Same => 0,
@@ -113,14 +109,14 @@ fn order_number(order: Order) -> u32
 }
 
 // How the first label stands to the second.
-#[no_mangle]
+#[unsafe(no_mangle)]
 pub extern "C" fn dezhakom_compare_labels(
     first: &[u32; 16],
     second: &[u32; 16],
     order: &mut u32,
     place: &mut usize,
 ) -> u32
-    ensures { λ r. ⌜ orderTold (compareOf (labelFrom (now (first .entry))) (labelFrom (now (second .entry)))) ≡ record { number = r; place = now (place .exit); answer = now (order .exit) } ⌝ }
+    ensures { order_told (compare_of (label_from first.now) (label_from second.now)) ≡ record { number = result; place = place.new; answer = order.new } }
 {
     match compare(label_from(first), label_from(second)) {
         Comparison::Compared(found) => {

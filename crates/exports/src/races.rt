@@ -1,17 +1,16 @@
 // All races of a bundle in lent memory, and the race that a number there stands for. Totals are five words: the counts of chunks, segments,
 // accesses and races, and whether all races stand in the memory.
+ghost use Rattle.std.specs.Prelude.{◌≡◌};
+ghost use Rattle.listing.specs.Listing.{listing_of, race_in};
+ghost use Rattle.exports.specs.RaceWords.{race_words, totals_words, list_told, ReadsAsRaces};
+
 use crate::judge::race_words;
 use bundle::refusal::number;
-use listing::list::Listed;
-use listing::list::Totals;
-use listing::list::list_races;
+use listing::list::{Listed, Totals, list_races};
 use listing::numbers::race_in;
-ghost use mathlib.Core.Path.{_≡_};
-ghost use Rattle·listing.specs.Listing.{listingOf, raceIn};
-ghost use Rattle·exports·specs.specs.RaceWords.{raceWords, totalsWords, listTold, ReadsAsRaces};
 
 fn totals_words(totals: Totals, whole: u32) -> [u32; 5]
-    ensures { λ r. ⌜ r ≡ totalsWords whole totals ⌝ }
+    ensures { result ≡ totals_words whole totals }
 {
     [
         totals.chunks,
@@ -23,7 +22,7 @@ fn totals_words(totals: Totals, whole: u32) -> [u32; 5]
 }
 
 // Lists all races of a bundle: `numbers` has a number for each, in their order, and `names` two words for each access, by which they are read.
-#[no_mangle]
+#[unsafe(no_mangle)]
 pub extern "C" fn dezhakom_list_races(
     bytes: &[u8],
     work: &mut [u32],
@@ -33,8 +32,8 @@ pub extern "C" fn dezhakom_list_races(
     totals: &mut [u32; 5],
     place: &mut usize,
 ) -> u32
-    ensures { λ r. ⌜ listTold (listingOf (now (bytes .entry)) (now (work .entry)) (now (names .entry)) (now (numbers .entry)) (now (spare .entry))) ≡ record { told = record { number = r; place = now (place .exit); answer = now (totals .exit) }; work = now (work .exit); names = now (names .exit); numbers = now (numbers .exit); spare = now (spare .exit) } ⌝ }
-    ensures readable { λ r. ⌜ ReadsAsRaces (now (bytes .entry)) (now (totals .exit)) (now (names .exit)) (now (numbers .exit)) ⌝ }
+    ensures spare_value { list_told (listing_of bytes.now work.old names.old numbers.old spare.old) ≡ record { told = record { number = result; place = place.new; answer = totals.new }; work = work.new; names = names.new; numbers = numbers.new; spare = spare.new } }
+    ensures readable { ReadsAsRaces bytes.now totals.new names.new numbers.new }
 {
     match list_races(bytes, work, names, numbers, spare) {
         Listed::Whole(counts) => {
@@ -56,9 +55,9 @@ pub extern "C" fn dezhakom_list_races(
 }
 
 // The race that a number stands for.
-#[no_mangle]
+#[unsafe(no_mangle)]
 pub extern "C" fn dezhakom_race_in(names: &[u64], number: u64, race: &mut [u32; 11])
-    ensures { λ _. ⌜ now (race .exit) ≡ raceWords (raceIn (now (names .entry)) number) ⌝ }
+    ensures { race.new ≡ race_words (race_in names.now number) }
 {
     *race = race_words(race_in(names, number));
 }

@@ -1,14 +1,14 @@
 // The lowest byte that two ranges share, and the elements that cover it.
+ghost use Rattle.std.specs.Prelude.{◌≡◌};
+ghost use Rattle.order.specs.Ranges.{shared_of};
+ghost use Rattle.exports.specs.Told.{range_of, shared_told};
+
 use bundle::command::Range;
 use bundle::refusal::number;
-use order::range::Shared;
-use order::range::lowest_shared_byte;
-ghost use mathlib.Core.Path.{_≡_};
-ghost use Rattle·order.specs.Ranges.{sharedOf};
-ghost use Rattle·exports·specs.specs.Told.{rangeOf, sharedTold};
+use order::range::{Shared, lowest_shared_byte};
 
 // Whether two ranges share a byte, the lowest one, and the lowest element of each that covers it.
-#[no_mangle]
+#[unsafe(no_mangle)]
 pub extern "C" fn dezhakom_lowest_shared_byte(
     base: u32,
     stride: u16,
@@ -24,7 +24,7 @@ pub extern "C" fn dezhakom_lowest_shared_byte(
     other_element: &mut u32,
     place: &mut usize,
 ) -> u32
-    ensures { λ r. ⌜ sharedTold (sharedOf (rangeOf base stride count size) (rangeOf «other_base» «other_stride» «other_count» «other_size»)) ≡ record { number = r; place = now (place .exit); answer = record { found = now (found .exit); value = record { byte = now (byte .exit); «first_element» = now (element .exit); «second_element» = now («other_element» .exit) } } } ⌝ }
+    ensures { shared_told (shared_of (range_of base stride count size) (range_of other_base other_stride other_count other_size)) ≡ record { number = result; place = place.new; answer = record { found = found.exit.now; value = record { byte = byte.exit.now; first_element = element.new; second_element = other_element.new } } } }
 {
     let first = Range {
         base,

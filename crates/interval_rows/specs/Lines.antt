@@ -1,30 +1,29 @@
 -- The lines of interval_rows: a first line that names the columns of Table 4.1, then a line for each record, its columns in decimal without
 -- leading zeros, with commas between them. Every line ends in 0x0a.
-use Prim.Native.Nat.{ℕ}
-use mathlib.Core.List.{List, _++_}
-use Rattle·bundle.specs.Lists.{concatMap}
-use Rattle·text.specs.Digits.{ascii, decimal}
-use Rattle·text.specs.Lines.{lineEnd}
-use Rattle·rows.specs.declared.row.Row.{Row}
+use Rattle.std.specs.Prelude.{ℕ, List, ◌++◌}
+use Rattle.bundle.specs.Lists.{concat_map}
+use Rattle.text.specs.Digits.{ascii, decimal}
+use Rattle.text.specs.Lines.{line_end}
+use Rattle.rows.specs.declared.row.Row.{Row}
 
-unfoldable pub headingLine : List ℕ
-headingLine = ascii "pid,ppid,bid,offset,span,level,data begin,size" ++ lineEnd
+unfoldable pub heading_line : List ℕ
+heading_line = ascii "pid,ppid,bid,offset,span,level,data begin,size" ++ line_end
 
 -- a column behind another
 abbrev pub column : ℕ → List ℕ
 column n = ascii "," ++ decimal n
 
-unfoldable pub rowLine : Row → List ℕ
-rowLine r =
-    decimal (r .pid)
-    ++ column (r .ppid)
-    ++ column (r .bid)
-    ++ column (r .offset)
-    ++ column (r .span)
-    ++ column (r .level)
-    ++ column (r .begin)
-    ++ column (r .size)
-    ++ lineEnd
+unfoldable pub row_line : Row → List ℕ
+row_line r =
+    decimal r.pid
+    ++ column r.ppid
+    ++ column r.bid
+    ++ column r.offset
+    ++ column r.span
+    ++ column r.level
+    ++ column r.begin
+    ++ column r.size
+    ++ line_end
 
-unfoldable pub csvText : List Row → List ℕ
-csvText rows = headingLine ++ concatMap rowLine rows
+unfoldable pub csv_text : List Row → List ℕ
+csv_text rows = heading_line ++ concat_map row_line rows

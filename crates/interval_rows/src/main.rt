@@ -1,20 +1,18 @@
 // Writes the interval rows of the bundle on standard input to standard output, as CSV. With the argument `check` standard input has the
 // bundle's length in 4 bytes, the bundle, and given records of 32 bytes each, and what is written is whether they are the bundle's. A
 // refusal is a line on standard error, and leaves standard output empty.
+#![tactic(auto)]
+
 mod csv;
 mod line;
 
 use bundle::command::four_bytes;
 use bundle::limits::MOST_BYTES;
-use csv::CSV_BYTES;
-use csv::fill_csv;
-use libc::STDERR_FILENO;
-use libc::STDIN_FILENO;
-use libc::STDOUT_FILENO;
+use csv::{CSV_BYTES, fill_csv};
+use libc::{STDERR_FILENO, STDIN_FILENO, STDOUT_FILENO};
 use rows::checker::RowChecking;
 use rows::export::Exporting;
-use rows::records::RECORD_BYTES;
-use rows::records::check_records;
+use rows::records::{RECORD_BYTES, check_records};
 use telling::arguments::same_word;
 use telling::refusals::print_refused;
 

@@ -1,7 +1,7 @@
 -- How much of a file was read.
-use Prim.Native.Nat.{ℕ, _≤_}
-use Rattle·judge_build·specs.specs.declared.file.Reading.{Reading}
-use Rattle·judge_build·specs.specs.declared.file.Reading.the-variants as Rea
+use Rattle.std.specs.Prelude.{ℕ, ◌≤◌}
+use Rattle.judge_build.specs.declared.file.Reading.{Reading}
+use Rattle.judge_build.specs.declared.file.Reading.TheVariants as Rea
 
 -- what was read lies in a buffer of so many bytes
 abbrev pub ReadWithin : Reading → ℕ → Type 0

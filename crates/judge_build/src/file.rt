@@ -1,25 +1,24 @@
 // One file of a build: it is read, judged, and its line printed.
+ghost use Rattle.std.specs.Prelude.{◌≡◌, ◌≤◌, length};
+ghost use Rattle.bundle.specs.Commands.{putting_of};
+ghost use Rattle.tray.specs.Inner.{next_of};
+ghost use Rattle.judge_build.specs.Reading.{ReadWithin};
+
 use crate::kind::is_regular;
 use bundle::command::Putting;
 use libc::STDOUT_FILENO;
-use tray::tell::Told;
-use tray::tell::tell_bundle;
-use tray::tell::tell_unreadable;
+use tray::tell::{Told, tell_bundle, tell_unreadable};
 use tray::word::Word;
-ghost use mathlib.Core.Path.{_≡_};
-ghost use Prim.Native.Nat.{_≤_};
-ghost use lib.ListN.{length};
-ghost use Rattle·bundle.specs.Commands.{puttingOf};
-ghost use Rattle·tray.specs.Inner.{nextOf};
-ghost use Rattle·judge_build·specs.specs.Reading.{ReadWithin};
 
 // The build's word so far, and whether to go on: not after a read of the names or a write has failed.
+#[derive(Clone, Copy)]
 pub struct Going {
     pub word: Word,
     pub on: bool,
 }
 
 // How much of a file was read.
+#[derive(Clone, Copy)]
 enum Reading {
     Read(usize),
     Failed,
@@ -27,8 +26,8 @@ enum Reading {
 
 // Reads until the buffer is full or the file ends. What has no positions, as a pipe, is not read.
 fn read_file(fd: i32, bytes: &mut [u8]) -> Reading
-    requires { ⌜ length (now bytes) ≡ 65537 ⌝ }
-    ensures { λ r. ⌜ ReadWithin r (length (now (bytes .exit))) ⌝ }
+    requires { length bytes.old ≡ 65537 }
+    ensures { ReadWithin result (length bytes.new) }
 {
     let mut done = 0;
     while done < bytes.len() {
@@ -47,7 +46,7 @@ fn read_file(fd: i32, bytes: &mut [u8]) -> Reading
 
 // Prints the line that was put at the start of an array.
 pub fn print_line(told: Told, line: &[u8]) -> Going
-    requires { ⌜ nextOf (puttingOf (told .line)) ≤ length (now line) ⌝ }
+    requires { next_of (putting_of told.line) ≤ length line.now }
 {
     let word = told.word;
     let putting = told.line;

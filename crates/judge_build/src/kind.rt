@@ -1,11 +1,11 @@
 // Whether a name is of a regular file.
+ghost use Rattle.std.specs.Prelude.{◌≡◌};
+ghost use Rattle.libc.specs.Io.{Ended};
+ghost use Rattle.judge_build.specs.Kind.{is_regular, path_of};
+
 use bundle::copy::copy_in;
 use libc::PATH_MAX;
-use libc::types::stat;
-use libc::types::timespec;
-ghost use mathlib.Core.Path.{_≡_};
-ghost use Rattle·libc.specs.Io.{Ended};
-ghost use Rattle·judge_build·specs.specs.Kind.{isRegular, pathOf};
+use libc::types::{stat, timespec};
 
 const LAST: usize = PATH_MAX - 1;
 
@@ -37,7 +37,7 @@ fn no_file() -> stat {
 
 // Whether libc::stat, where it answered so and gave this mode, was asked of a regular file.
 fn means_regular(status: i32, mode: u32) -> bool
-    ensures { λ r. ⌜ r ≡ isRegular status mode ⌝ }
+    ensures { result ≡ is_regular status mode }
 {
     if status < 0 {
         return false;
@@ -47,7 +47,7 @@ fn means_regular(status: i32, mode: u32) -> bool
 
 // Whether a path is of a regular file, or of a link to one. It lends a struct, so its proof is by hand, and it does no more than it must.
 fn is_regular_at(path: &[u8; PATH_MAX]) -> bool
-    requires { ⌜ Ended (now path) ⌝ }
+    requires { Ended path.now }
 {
     let mut file = no_file();
     let status = libc::stat(path, &mut file);
@@ -56,7 +56,7 @@ fn is_regular_at(path: &[u8; PATH_MAX]) -> bool
 
 // A name as a path: its bytes, and then zeros. A longer one than a path may be is taken for an empty one: neither is the name of a file.
 fn path_of(name: &[u8]) -> [u8; PATH_MAX]
-    ensures { λ r. ⌜ (r ≡ pathOf (now (name .entry))) × Ended r ⌝ }
+    ensures { (result ≡ path_of name.now) × Ended result }
 {
     let mut path = [0u8; PATH_MAX];
     if name.len() >= PATH_MAX {

@@ -1,13 +1,13 @@
 // Judges the bundles of one build and prints a line for each file, and then the build's word. The files are named by the arguments; where
 // there are none, on standard input, each name ended by a 0 byte.
+#![tactic(auto)]
+
 mod file;
 mod kind;
 mod names;
 
-use file::Going;
-use file::print_line;
-use names::judge_arguments;
-use names::judge_input;
+use file::{Going, print_line};
+use names::{judge_arguments, judge_input};
 use tray::line::put_build;
 use tray::tell::Told;
 

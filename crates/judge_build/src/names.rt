@@ -1,6 +1,5 @@
 // The names of a build's files: the arguments, or standard input.
-use crate::file::Going;
-use crate::file::judge_file;
+use crate::file::{Going, judge_file};
 use libc::STDIN_FILENO;
 use tray::word::Word;
 
@@ -27,6 +26,7 @@ pub fn judge_arguments(count: usize) -> Going {
 
 // What standard input has given so far: the word of the files named, whether to go on, whether more is to be read, and how much of the next
 // name is in the name buffer. A name that fills the buffer is longer than a path may be, and the rest of it is passed over.
+#[derive(Clone, Copy)]
 struct Naming {
     word: Word,
     on: bool,

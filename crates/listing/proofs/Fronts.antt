@@ -1,13 +1,13 @@
 -- Words written over the front of lent memory, one after another.
-use Prim.Native.Nat.{ℕ, suc, _+_, _*_, _≤_, _<_}
-use mathlib.Core.Path.{_≡_, sym, _∙_, ap, ap₂}
-use mathlib.Core.List.{List, [], _∷_, _++_}
+use Prim.Native.Nat.{ℕ, suc, ◌+◌, ◌*◌, ◌≤◌, ◌<◌}
+use mathlib.Core.Path.{◌≡◌, sym, ◌∙◌, ap, ap₂}
+use mathlib.Core.List.{List, [], ◌∷◌, ◌++◌}
 use native.Mathlib.Omega.{arith}
 use native.Mathlib.Numerals.{add-one}
 use lib.ListN.{length, set, drop, length-append, length-drop}
-use lib.Seq.{set-at, drop-cons, append-snoc}
-use Rattle·bundle.specs.Index.{table}
-use Rattle·bundle.proofs.Tables.{table-more, table-length, table-none}
+use lib.Seq.{set_at, drop-cons, append_snoc}
+use Rattle.bundle.specs.Index.{table}
+use Rattle.bundle.proofs.Tables.{table_more, table-length, table_none}
 
 -- one more word behind the front
 pub front-more :
@@ -17,13 +17,13 @@ pub front-more :
     → set (xs ++ drop n words) n v ≡ xs ++ (v ∷ []) ++ drop (suc n) words
 front-more xs words n v e h =
     ap (λ (l : List ℕ). set (xs ++ l) n v) (drop-cons words n 0 h)
-    ∙ set-at xs _ (drop (suc n) words) v n e
-    ∙ sym (append-snoc xs v (drop (suc n) words))
+    ∙ set_at xs _ (drop (suc n) words) v n e
+    ∙ sym (append_snoc xs v (drop (suc n) words))
 
 -- a table written over the front
 module _ (f : ℕ → ℕ) where
   pub table-none-yet : (words : List ℕ) → words ≡ table f 0 ++ drop 0 words
-  table-none-yet words = sym (ap (λ (l : List ℕ). l ++ words) (table-none f))
+  table-none-yet words = sym (ap (λ (l : List ℕ). l ++ words) (table_none f))
 
   pub table-more-yet :
       (words now : List ℕ) (i v : ℕ)
@@ -35,7 +35,7 @@ module _ (f : ℕ → ℕ) where
       rw (add-one i)
       (ap₂ (λ (l : List ℕ) (x : ℕ). set l i x) e q
       ∙ front-more (table f i) words i (f i) (table-length f i) h
-      ∙ ap (λ (l : List ℕ). l ++ drop (suc i) words) (sym (table-more f i)))
+      ∙ ap (λ (l : List ℕ). l ++ drop (suc i) words) (sym (table_more f i)))
 
   -- two words more
   pub table-two-more :

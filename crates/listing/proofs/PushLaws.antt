@@ -1,24 +1,24 @@
 -- Numbers put one after another into lent memory.
-use Prim.Native.Nat.{ℕ, zero, suc, _+_, _*_, _%_, _≤_}
-use mathlib.Core.Path.{_≡_, refl, sym, _∙_, ap, ap₂}
-use mathlib.Core.Bool.{Bool, true, false, cond, _&&_}
-use mathlib.Core.List.{List, [], _∷_, _++_}
+use Prim.Native.Nat.{ℕ, zero, suc, ◌+◌, ◌*◌, ◌%◌, ◌≤◌}
+use mathlib.Core.Path.{◌≡◌, refl, sym, ◌∙◌, ap, ap₂}
+use mathlib.Core.Bool.{Bool, true, false, cond, ◌&&◌}
+use mathlib.Core.List.{List, [], ◌∷◌, ◌++◌}
 use mathlib.Core.Option.{Option, none, some}
 use native.Mathlib.Omega.{arith}
 use native.Mathlib.Nat.{add-zero}
 use lib.Dec.{eqb, ltb}
 use lib.ListN.{length, set, drop, length-append}
-use lib.Seq.{sets, length-sets, sets-eq, set-out}
-use Rattle·bundle.specs.declared.index.Fork.{Fork}
-use Rattle·order.specs.Ranges.{sharedByte}
-use Rattle·order.specs.Pairs.{lowestOf}
-use Rattle·order.specs.declared.range.Lowest.{Lowest}
-use Rattle·order.specs.declared.range.Lowest.the-variants as Lo
-use Rattle·verdict.specs.Working.{accessRowAt}
-use Rattle·verdict.specs.Tallying.{rowRange, unordered}
-use Rattle·verdict.specs.declared.rows.AccessRow.{AccessRow}
-use Rattle·listing·specs.specs.Listing.{numberFor}
-use Rattle·listing·specs.specs.Pushing.{Pushes, byteNumbers, nextNumbers, raceByte, pairNumbers, rowNumbers, allNumbers}
+use lib.Seq.{sets, length-sets, sets-eq, set_out}
+use Rattle.bundle.specs.declared.index.Fork.{Fork}
+use Rattle.order.specs.Ranges.{shared_byte}
+use Rattle.order.specs.Pairs.{lowest_of}
+use Rattle.order.specs.declared.range.Lowest.{Lowest}
+use Rattle.order.specs.declared.range.Lowest.TheVariants as Lo
+use Rattle.verdict.specs.Working.{access_row_at}
+use Rattle.verdict.specs.Tallying.{row_range, unordered}
+use Rattle.verdict.specs.declared.rows.AccessRow.{AccessRow}
+use Rattle.listing.specs.Listing.{number_for}
+use Rattle.listing.specs.Pushing.{Pushes, byte_numbers, next_numbers, race_byte, pair_numbers, row_numbers, all_numbers}
 
 sets-append : (xs ys words : List ℕ) (i : ℕ) → sets words i (xs ++ ys) ≡ sets (sets words i xs) (i + length xs) ys
 sets-append [] ys words i = ap (λ (k : ℕ). sets words k ys) (sym (add-zero i))
@@ -36,73 +36,73 @@ pub pushes-then :
     → Pushes (xs ++ ys) before count after total
 pushes-then {xs} {ys} {before} {count} p q =
     record {
-      counted = omega (arith, p .counted, q .counted, length-append xs ys);
-      words = q .words ∙ ap₂ (λ (l : List ℕ) (k : ℕ). sets l k ys) (p .words) (p .counted) ∙ sym (sets-append xs ys before count);
+      counted = omega (arith, p.counted, q.counted, length-append xs ys);
+      words = q.words ∙ ap₂ (λ (l : List ℕ) (k : ℕ). sets l k ys) p.words p.counted ∙ sym (sets-append xs ys before count);
     }
 
 pub pushes-length : {xs before : List ℕ} {count : ℕ} {after : List ℕ} {total : ℕ} → Pushes xs before count after total → length after ≡ length before
-pushes-length {xs} {before} {count} p = ap length (p .words) ∙ length-sets before count xs
+pushes-length {xs} {before} {count} p = ap length p.words ∙ length-sets before count xs
 
 -- no room, or room for one
 pub push-out : (words : List ℕ) (count x : ℕ) → length words ≤ count → Pushes (x ∷ []) words count words (count + 1)
-push-out words count x h = record { counted = refl; words = sym (set-out words count x h) }
+push-out words count x h = record { counted = refl; words = sym (set_out words count x h) }
 
 pub push-in : (words : List ℕ) (count x : ℕ) → Pushes (x ∷ []) words count (set words count x) (count + 1)
 push-in words count x = record { counted = refl; words = refl }
 
 -- where all have room, they stand in front
-pub pushed-front : {xs before after : List ℕ} {total : ℕ} → Pushes xs before 0 after total → length xs ≤ length before → after ≡ xs ++ drop (length xs) before
-pushed-front {xs} {before} p h =
+pub pushed_front : {xs before after : List ℕ} {total : ℕ} → Pushes xs before 0 after total → length xs ≤ length before → after ≡ xs ++ drop (length xs) before
+pushed_front {xs} {before} p h =
     let q : 0 + length xs ≡ length xs = omega arith in
-    p .words ∙ sets-eq xs before 0 (omega arith) ∙ ap (λ (k : ℕ). xs ++ drop k before) q
+    p.words ∙ sets-eq xs before 0 (omega arith) ∙ ap (λ (k : ℕ). xs ++ drop k before) q
 
 -- the race of two accesses by the answer of the lowest byte
-module _ (i j : ℕ) {l : Lowest} {o : Option ℕ} (e : lowestOf l ≡ o) where
+module _ (i j : ℕ) {l : Lowest} {o : Option ℕ} (e : lowest_of l ≡ o) where
   pub byte-pushed :
       {w number : ℕ} {before : List ℕ} {count : ℕ} {after : List ℕ} {total : ℕ}
       → l ≡ Lo.Byte w
-      → number ≡ numberFor w i j
+      → number ≡ number_for w i j
       → Pushes (number ∷ []) before count after total
-      → Pushes (byteNumbers i j o) before count after total
-  byte-pushed {w} h q p = rw (sym e ∙ ap lowestOf h, ← q) p
+      → Pushes (byte_numbers i j o) before count after total
+  byte-pushed {w} h q p = rw (sym e ∙ ap lowest_of h, ← q) p
 
-  pub byte-none : {before : List ℕ} {count : ℕ} → l ≡ Lo.Nothing → Pushes (byteNumbers i j o) before count before count
-  byte-none {before} {count} h = rw (sym e ∙ ap lowestOf h) (pushes-none before count)
+  pub byte-none : {before : List ℕ} {count : ℕ} → l ≡ Lo.Nothing → Pushes (byte_numbers i j o) before count before count
+  byte-none {before} {count} h = rw (sym e ∙ ap lowest_of h) (pushes-none before count)
 
 -- the same behind the tests
 module _ (m : List ℕ) (one other : AccessRow) (left i j : ℕ) {t : Bool}
-    (e : t ≡ (ltb i j && (eqb (left % 2) 1 && unordered m (one .segment) (other .segment)))) where
-  pub next-none : {before : List ℕ} {count : ℕ} → t ≡ false → Pushes (nextNumbers m one other left i j) before count before count
+    (e : t ≡ (ltb i j && (eqb (left % 2) 1 && unordered m one.segment other.segment))) where
+  pub next-none : {before : List ℕ} {count : ℕ} → t ≡ false → Pushes (next_numbers m one other left i j) before count before count
   next-none {before} {count} h = rw (sym e ∙ h) (pushes-none before count)
 
   pub next-pushed :
       {before : List ℕ} {count : ℕ} {after : List ℕ} {total : ℕ} {row : AccessRow}
       → t ≡ true
       → row ≡ other
-      → Pushes (byteNumbers i j (sharedByte (rowRange one) (rowRange row))) before count after total
-      → Pushes (nextNumbers m one other left i j) before count after total
+      → Pushes (byte_numbers i j (shared_byte (row_range one) (row_range row))) before count after total
+      → Pushes (next_numbers m one other left i j) before count after total
   next-pushed h q p = rw (sym e ∙ h, ← q) p
 
 -- how many there can be
-byte-few : (i j : ℕ) (o : Option ℕ) → length (byteNumbers i j o) ≤ 1
+byte-few : (i j : ℕ) (o : Option ℕ) → length (byte_numbers i j o) ≤ 1
 byte-few i j none = omega arith
 byte-few i j (some w) = omega arith
 
 module _ (m : List ℕ) (fs : List Fork) (rows : List ℕ) where
-  pub pair-few : (i j : ℕ) → length (pairNumbers m fs rows i j) ≤ 1
-  unfolding pairNumbers
-  pair-few i j = go (ltb i j) (raceByte m fs (accessRowAt rows i) (accessRowAt rows j))
+  pub pair-few : (i j : ℕ) → length (pair_numbers m fs rows i j) ≤ 1
+  unfolding pair_numbers
+  pair-few i j = go (ltb i j) (race_byte m fs (access_row_at rows i) (access_row_at rows j))
     where
-      go : (t : Bool) (o : Option ℕ) → length (cond t (byteNumbers i j o) []) ≤ 1
+      go : (t : Bool) (o : Option ℕ) → length (cond t (byte_numbers i j o) []) ≤ 1
       go true o = byte-few i j o
       go false o = omega arith
 
-  pub row-few : (i j : ℕ) → length (rowNumbers m fs rows i j) ≤ j
-  unfolding rowNumbers
+  pub row-few : (i j : ℕ) → length (row_numbers m fs rows i j) ≤ j
+  unfolding row_numbers
   row-few i zero = omega arith
-  row-few i (suc j) = omega (arith, row-few i j, pair-few i j, length-append (rowNumbers m fs rows i j) (pairNumbers m fs rows i j))
+  row-few i (suc j) = omega (arith, row-few i j, pair-few i j, length-append (row_numbers m fs rows i j) (pair_numbers m fs rows i j))
 
-  pub all-few : (n i : ℕ) → n ≤ 1024 → length (allNumbers m fs rows n i) ≤ 1024 * i
-  unfolding allNumbers
+  pub all-few : (n i : ℕ) → n ≤ 1024 → length (all_numbers m fs rows n i) ≤ 1024 * i
+  unfolding all_numbers
   all-few n zero h = omega arith
-  all-few n (suc i) h = omega (arith, all-few n i h, row-few i n, length-append (allNumbers m fs rows n i) (rowNumbers m fs rows i n))
+  all-few n (suc i) h = omega (arith, all-few n i h, row-few i n, length-append (all_numbers m fs rows n i) (row_numbers m fs rows i n))

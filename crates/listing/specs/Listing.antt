@@ -1,93 +1,88 @@
 -- All races of a bundle, in their order, as numbers.
-use Prim.Native.Nat.{ℕ, _+_, _*_, _/_, _%_}
-use mathlib.Core.Path.{_≡_}
-use mathlib.Core.Bool.{Bool, true, false, cond, _&&_}
-use mathlib.Core.List.{List, [], _∷_, _++_, map}
-use lib.Dec.{eqb, ltb, leb}
-use lib.ListN.{length, getD, take, drop, replicate}
-use Rattle·sorting.specs.Order.{sorted}
-use Rattle·sorting.specs.Searching.{indexOf}
-use Rattle·bundle.specs.Answer.{Answer, gives, refuses, numberOf}
-use Rattle·bundle.specs.Lists.{concatMap}
-use Rattle·bundle.specs.Chunks.{Chunk, chunksOf}
-use Rattle·bundle.specs.Check.{checkOf}
-use Rattle·order.specs.Pairs.{elementFrom}
-use Rattle·verdict.specs.Graph.{segmentsOf}
-use Rattle·verdict.specs.Races.{NamedAccess, accessesOf, racesOf}
-use Rattle·verdict.specs.Tallying.{packed, nameIn}
-use Rattle·verdict.specs.declared.race.Name.{Name}
-use Rattle·verdict.specs.declared.race.Race.{Race}
-use Rattle·listing·specs.specs.declared.list.Totals.{Totals}
-use Rattle·listing·specs.specs.declared.list.Listed.{Listed}
-use Rattle·listing·specs.specs.declared.list.Listed.the-variants as Lis
+use Rattle.std.specs.Prelude.{ℕ, ◌+◌, ◌*◌, ◌/◌, ◌%◌, ◌≡◌, Bool, true, false, cond, ◌&&◌, List, [], ◌∷◌, ◌++◌, map, eqb, ltb, leb, length, get_or, take, drop, replicate}
+use Rattle.sorting.specs.Order.{sorted}
+use Rattle.sorting.specs.Searching.{index_of}
+use Rattle.bundle.specs.Answer.{Answer, gives, refuses, number_of}
+use Rattle.bundle.specs.Lists.{concat_map}
+use Rattle.bundle.specs.Chunks.{Chunk, chunks_of}
+use Rattle.bundle.specs.Check.{check_of}
+use Rattle.order.specs.Pairs.{element_from}
+use Rattle.verdict.specs.Graph.{segments_of}
+use Rattle.verdict.specs.Races.{NamedAccess, accesses_of, races_of}
+use Rattle.verdict.specs.Tallying.{packed, name_in}
+use Rattle.verdict.specs.declared.race.Name.{Name}
+use Rattle.verdict.specs.declared.race.Race.{Race}
+use Rattle.listing.specs.declared.list.Totals.{Totals}
+use Rattle.listing.specs.declared.list.Listed.{Listed}
+use Rattle.listing.specs.declared.list.Listed.TheVariants as Lis
 
 -- an access in two words of 64 bits: its name with the size and the stride of its range; the range's base with its site
-abbrev pub sideOf : NamedAccess → ℕ
-sideOf x = packed (x .name) * 16777216 + x .access .range .size * 65536 + x .access .range .stride
+abbrev pub side_of : NamedAccess → ℕ
+side_of x = packed x.name * 16777216 + x.access.range.size * 65536 + x.access.range.stride
 
-abbrev pub spotOf : NamedAccess → ℕ
-spotOf x = x .access .range .base * 4294967296 + x .access .site
+abbrev pub spot_of : NamedAccess → ℕ
+spot_of x = x.access.range.base * 4294967296 + x.access.site
 
 -- both as one number of 128 bits; the order of these numbers is that of the names
-abbrev pub doubleWord : NamedAccess → ℕ
-doubleWord x = sideOf x * 18446744073709551616 + spotOf x
+abbrev pub double_word : NamedAccess → ℕ
+double_word x = side_of x * 18446744073709551616 + spot_of x
 
 -- all accesses, in the order of their names
-unfoldable pub doubleWords : List Chunk → List ℕ
-doubleWords cs = sorted (map doubleWord (accessesOf cs))
+unfoldable pub double_words : List Chunk → List ℕ
+double_words cs = sorted (map double_word (accesses_of cs))
 
 -- the two words of each
-unfoldable pub namesOf : List Chunk → List ℕ
-namesOf cs = concatMap (λ double. double / 18446744073709551616 ∷ double % 18446744073709551616 ∷ []) (doubleWords cs)
+unfoldable pub names_of : List Chunk → List ℕ
+names_of cs = concat_map (λ double. double / 18446744073709551616 ∷ double % 18446744073709551616 ∷ []) (double_words cs)
 
 -- the rank of a name: its place among them
-unfoldable pub rankIn : List ℕ → Name → ℕ
-rankIn doubles n = indexOf (eqb (packed n)) (map (λ double. double / 18446744073709551616 / 16777216) doubles)
+unfoldable pub rank_in : List ℕ → Name → ℕ
+rank_in doubles n = index_of (eqb (packed n)) (map (λ double. double / 18446744073709551616 / 16777216) doubles)
 
 -- a race as one number: its witness, and the ranks of its names
-abbrev pub numberFor : ℕ → ℕ → ℕ → ℕ
-numberFor witness first second = witness * 1048576 + first * 1024 + second
+abbrev pub number_for : ℕ → ℕ → ℕ → ℕ
+number_for witness first second = witness * 1048576 + first * 1024 + second
 
-unfoldable pub raceNumber : List ℕ → Race → ℕ
-raceNumber doubles r = numberFor (r .witness) (rankIn doubles (r .first)) (rankIn doubles (r .second))
+unfoldable pub race_number : List ℕ → Race → ℕ
+race_number doubles r = number_for r.witness (rank_in doubles r.first) (rank_in doubles r.second)
 
 -- what stands in the two words of an access: its name, its site, and the lowest element that covers a byte
-abbrev pub nameOf : ℕ → Name
-nameOf side = nameIn (side / 256)
+abbrev pub name_of : ℕ → Name
+name_of side = name_in (side / 256)
 
-abbrev pub siteOf : ℕ → ℕ
-siteOf spot = spot % 4294967296
+abbrev pub site_of : ℕ → ℕ
+site_of spot = spot % 4294967296
 
-abbrev pub elementIn : ℕ → ℕ → ℕ → ℕ
-elementIn side spot byte = elementFrom (spot / 4294967296 + side / 65536 % 256) (side % 65536) byte
+abbrev pub element_in : ℕ → ℕ → ℕ → ℕ
+element_in side spot byte = element_from (spot / 4294967296 + side / 65536 % 256) (side % 65536) byte
 
 -- the race that a number stands for
-unfoldable pub raceIn : List ℕ → ℕ → Race
-raceIn names number =
+unfoldable pub race_in : List ℕ → ℕ → Race
+race_in names number =
     let one = number / 1024 % 1024 in
     let other = number % 1024 in
     let witness = number / 1048576 % 4294967296 in
     record {
       witness = witness;
-      first = nameOf (getD names (2 * one) 0);
-      «first_site» = siteOf (getD names (2 * one + 1) 0);
-      «first_element» = elementIn (getD names (2 * one) 0) (getD names (2 * one + 1) 0) witness;
-      second = nameOf (getD names (2 * other) 0);
-      «second_site» = siteOf (getD names (2 * other + 1) 0);
-      «second_element» = elementIn (getD names (2 * other) 0) (getD names (2 * other + 1) 0) witness;
+      first = name_of (get_or names (2 * one) 0);
+      first_site = site_of (get_or names (2 * one + 1) 0);
+      first_element = element_in (get_or names (2 * one) 0) (get_or names (2 * one + 1) 0) witness;
+      second = name_of (get_or names (2 * other) 0);
+      second_site = site_of (get_or names (2 * other + 1) 0);
+      second_element = element_in (get_or names (2 * other) 0) (get_or names (2 * other + 1) 0) witness;
     }
 
 -- the numbers of all races, in the order of the races
-unfoldable pub numbersOf : List Chunk → List ℕ
-numbersOf cs = map (raceNumber (doubleWords cs)) (racesOf cs)
+unfoldable pub numbers_of : List Chunk → List ℕ
+numbers_of cs = map (race_number (double_words cs)) (races_of cs)
 
-unfoldable pub totalsOf : List Chunk → Totals
-totalsOf cs =
+unfoldable pub totals_of : List Chunk → Totals
+totals_of cs =
     record {
       chunks = length cs;
-      segments = length (segmentsOf cs);
-      accesses = length (accessesOf cs);
-      races = length (racesOf cs);
+      segments = length (segments_of cs);
+      accesses = length (accesses_of cs);
+      races = length (races_of cs);
     }
 
 -- what a listing gives, and what the lent memory holds afterwards
@@ -107,26 +102,26 @@ abbrev pub over : List ℕ → List ℕ → List ℕ
 over xs words = xs ++ drop (length xs) words
 
 -- whether all races fit into the lent memory, with room to sort them
-unfoldable pub fitsIn : List Chunk → List ℕ → List ℕ → List ℕ → Bool
-fitsIn cs names numbers spare =
-    let races = length (racesOf cs) in
-    leb (2 * length (accessesOf cs)) (length names) && (leb races (length numbers) && leb (races / 2) (length spare))
+unfoldable pub fits_in : List Chunk → List ℕ → List ℕ → List ℕ → Bool
+fits_in cs names numbers spare =
+    let races = length (races_of cs) in
+    leb (2 * length (accesses_of cs)) (length names) && (leb races (length numbers) && leb (races / 2) (length spare))
 
 -- an accepted bundle: all its races, or nothing where they do not fit
-unfoldable pub allRaces : List Chunk → List ℕ → List ℕ → List ℕ → List ℕ → Outcome
-allRaces cs work names numbers spare =
-    let fit = fitsIn cs names numbers spare in
+unfoldable pub all_races : List Chunk → List ℕ → List ℕ → List ℕ → List ℕ → Outcome
+all_races cs work names numbers spare =
+    let fit = fits_in cs names numbers spare in
     record {
-      answer = gives (fit, totalsOf cs);
+      answer = gives (fit, totals_of cs);
       work = work;
-      names = cond fit (over (namesOf cs) names) (zeros names);
-      numbers = cond fit (over (numbersOf cs) numbers) (zeros numbers);
+      names = cond fit (over (names_of cs) names) (zeros names);
+      numbers = cond fit (over (numbers_of cs) numbers) (zeros numbers);
       spare = zeros spare;
     }
 
 -- a refusal leaves the lent memory as it was
-abbrev pub refusedWith : ℕ → ℕ → List ℕ → List ℕ → List ℕ → List ℕ → Outcome
-refusedWith number place work names numbers spare =
+abbrev pub refused_with : ℕ → ℕ → List ℕ → List ℕ → List ℕ → List ℕ → Outcome
+refused_with number place work names numbers spare =
     record { answer = refuses number place; work = work; names = names; numbers = numbers; spare = spare }
 
 -- what is made of an answer, and what of a refusal
@@ -135,35 +130,35 @@ whichever (gives a) f g = f a
 whichever (refuses n p) f g = g n p
 
 -- as check, else all races
-unfoldable pub listedOf : List ℕ → List ℕ → List ℕ → List ℕ → List ℕ → Outcome
-listedOf s work names numbers spare =
-    whichever (checkOf s)
-    (λ u. allRaces (chunksOf s) work names numbers spare)
-    (λ n p. refusedWith n p work names numbers spare)
+unfoldable pub listed_of : List ℕ → List ℕ → List ℕ → List ℕ → List ℕ → Outcome
+listed_of s work names numbers spare =
+    whichever (check_of s)
+    (λ u. all_races (chunks_of s) work names numbers spare)
+    (λ n p. refused_with n p work names numbers spare)
 
 -- 13 as for the judge, with all memory untouched; after every other outcome the work area is 0
-unfoldable pub listingOf : List ℕ → List ℕ → List ℕ → List ℕ → List ℕ → Outcome
-listingOf s work names numbers spare =
+unfoldable pub listing_of : List ℕ → List ℕ → List ℕ → List ℕ → List ℕ → Outcome
+listing_of s work names numbers spare =
     cond (ltb (length work) 16384)
-    (refusedWith 13 0 work names numbers spare)
-    (listedOf s (zeros work) names numbers spare)
+    (refused_with 13 0 work names numbers spare)
+    (listed_of s (zeros work) names numbers spare)
 
 -- what the code's answer says: whether all races stand in the lent memory, and the counts
-abbrev pub reportOf : Listed → Answer (Bool × Totals)
-reportOf (Lis.Whole t) = gives (true, t)
-reportOf (Lis.TooMany t) = gives (false, t)
-reportOf (Lis.Refused place cause) = refuses (numberOf cause) place
+abbrev pub report_of : Listed → Answer (Bool × Totals)
+report_of (Lis.Whole t) = gives (true, t)
+report_of (Lis.TooMany t) = gives (false, t)
+report_of (Lis.Refused place cause) = refuses (number_of cause) place
 
-abbrev pub outcomeOf : Listed → List ℕ → List ℕ → List ℕ → List ℕ → Outcome
-outcomeOf r work names numbers spare =
-    record { answer = reportOf r; work = work; names = names; numbers = numbers; spare = spare }
+abbrev pub outcome_of : Listed → List ℕ → List ℕ → List ℕ → List ℕ → Outcome
+outcome_of r work names numbers spare =
+    record { answer = report_of r; work = work; names = names; numbers = numbers; spare = spare }
 
 -- the races that stand in the lent memory, where it holds them all
-abbrev pub racesIn : Totals → List ℕ → List ℕ → List Race
-racesIn t names numbers = map (raceIn names) (take (t .races) numbers)
+abbrev pub races_in : Totals → List ℕ → List ℕ → List Race
+races_in t names numbers = map (race_in names) (take t.races numbers)
 
 -- a whole listing reads as the bundle's races, in their order
 abbrev pub Readable : List ℕ → Listed → List ℕ → List ℕ → Type 0
-Readable s (Lis.Whole t) names numbers = racesIn t names numbers ≡ racesOf (chunksOf s)
+Readable s (Lis.Whole t) names numbers = races_in t names numbers ≡ races_of (chunks_of s)
 Readable s (Lis.TooMany t) names numbers = Unit {0}
 Readable s (Lis.Refused place cause) names numbers = Unit {0}

@@ -1,35 +1,27 @@
 // All races of a bundle, in their order.
-use crate::names::by_name;
-use crate::names::put_names;
+ghost use Rattle.std.specs.Prelude.{◌≡◌, true, false, ◌&&◌, leb, ◌*◌, ◌/◌, ◌≤◌, length, replicate};
+ghost use Rattle.bundle.specs.Check.{Accepted};
+ghost use Rattle.verdict.specs.Tallying.{TablesFit};
+ghost use Rattle.verdict.specs.Linking.{forks_in, LineagesFit};
+ghost use Rattle.verdict.specs.Census.{matrix_part, rows_part, RegionsOf};
+ghost use Rattle.listing.specs.Listing.{zeros, listed_of, listing_of, outcome_of, Readable};
+ghost use Rattle.listing.specs.Ranking.{RowsIn, order_of, Copied};
+ghost use Rattle.listing.specs.Pushing.{Pushes, all_numbers};
+ghost use Rattle.listing.specs.Settling.{AllPut, Settled, Kept, listed_in};
+
+use crate::names::{by_name, put_names};
 use crate::pairs::push_all;
-use bundle::check::Indexing;
-use bundle::check::index_bundle;
-use bundle::limits::CHUNK_WORDS;
-use bundle::limits::FORK_WORDS;
+use bundle::check::{Indexing, index_bundle};
+use bundle::limits::{CHUNK_WORDS, FORK_WORDS};
 use bundle::refusal::Cause;
 use sorting::sort::sort;
-use verdict::judge::MATRIX_WORDS;
-use verdict::judge::WORK_WORDS;
-use verdict::judge::clear;
-use verdict::judge::fill_area;
-ghost use mathlib.Core.Path.{_≡_};
-ghost use mathlib.Core.Bool.{true, false, _&&_};
-ghost use lib.Dec.{leb};
-ghost use Prim.Native.Nat.{_*_, _/_, _≤_};
-ghost use lib.ListN.{length, replicate};
-ghost use Rattle·bundle.specs.Check.{Accepted};
-ghost use Rattle·verdict.specs.Tallying.{TablesFit};
-ghost use Rattle·verdict.specs.Linking.{forksIn, LineagesFit};
-ghost use Rattle·verdict.specs.Census.{matrixPart, rowsPart, RegionsOf};
-ghost use Rattle·listing·specs.specs.Listing.{zeros, listedOf, listingOf, outcomeOf, Readable};
-ghost use Rattle·listing·specs.specs.Ranking.{RowsIn, orderOf, Copied};
-ghost use Rattle·listing·specs.specs.Pushing.{Pushes, allNumbers};
-ghost use Rattle·listing·specs.specs.Settling.{AllPut, Settled, Kept, listedIn};
+use verdict::judge::{MATRIX_WORDS, WORK_WORDS, clear, fill_area};
 
 // The words of `names` that suffice for any bundle: two for each of 1,024 accesses.
 pub const MOST_NAME_WORDS: usize = 2048;
 
 // The counts of a bundle's chunks, segments, accesses and races.
+#[derive(Clone, Copy)]
 pub struct Totals {
     pub chunks: u32,
     pub segments: u32,
@@ -37,6 +29,7 @@ pub struct Totals {
     pub races: u32,
 }
 
+#[derive(Clone, Copy)]
 pub enum Listed {
     // All races stand in the lent memory.
     Whole(Totals),
@@ -46,6 +39,7 @@ pub enum Listed {
 }
 
 // What stands in the lent memory: so many segments, accesses and races, and whether all of them.
+#[derive(Clone, Copy)]
 pub struct Found {
     pub segments: u32,
     pub accesses: u32,
@@ -55,7 +49,7 @@ pub struct Found {
 
 // Every word is 0 afterwards.
 fn clear_words(words: &mut [u64])
-    ensures { λ _. ⌜ now (words .exit) ≡ replicate (length (now (words .entry))) 0 ⌝ }
+    ensures { words.new ≡ replicate (length words.old) 0 }
 {
     let mut i = 0;
     while i < words.len() {
@@ -65,14 +59,14 @@ fn clear_words(words: &mut [u64])
 }
 
 fn fits(words: usize, races: usize, names: usize, numbers: usize, spare: usize) -> bool
-    ensures { λ r. ⌜ r ≡ (leb words names && (leb races numbers && leb (races / 2) spare)) ⌝ }
+    ensures { result ≡ (leb words names && (leb races numbers && leb (races / 2) spare)) }
 {
     (words <= names) & ((races <= numbers) & (races / 2 <= spare))
 }
 
 // Nothing stands in the lent memory.
 fn clear_all(names: &mut [u64], numbers: &mut [u64], spare: &mut [u64])
-    ensures { λ _. ⌜ (now (names .exit) ≡ zeros (now (names .entry))) × (now (numbers .exit) ≡ zeros (now (numbers .entry))) × (now (spare .exit) ≡ zeros (now (spare .entry))) ⌝ }
+    ensures { (names.new ≡ zeros names.old) × (numbers.new ≡ zeros numbers.old) × (spare.new ≡ zeros spare.old) }
 {
     clear_words(names);
     clear_words(numbers);
@@ -88,8 +82,8 @@ fn put_all(
     numbers: &mut [u64],
     spare: &mut [u64],
 )
-    requires { ⌜ RowsIn (now rows) accesses × (2 * accesses ≤ length (now names)) × (races ≤ length (now numbers)) × (races / 2 ≤ length (now spare)) ⌝ }
-    ensures { λ _. ⌜ AllPut (now (rows .entry)) accesses races (now (names .entry)) (now (numbers .entry)) (now (spare .entry)) (now (names .exit)) (now (numbers .exit)) (now (spare .exit)) ⌝ }
+    requires { RowsIn rows.now accesses × (2 * accesses ≤ length names.old) × (races ≤ length numbers.old) × (races / 2 ≤ length spare.old) }
+    ensures { AllPut rows.now accesses races names.old numbers.old spare.old names.new numbers.new spare.new }
 {
     put_names(rows, accesses, names);
     sort(&mut numbers[..races], spare);
@@ -105,8 +99,8 @@ fn settle(
     numbers: &mut [u64],
     spare: &mut [u64],
 ) -> bool
-    requires { ⌜ RowsIn (now rows) accesses ⌝ }
-    ensures { λ r. ⌜ Settled (now (rows .entry)) accesses races r (now (names .entry)) (now (numbers .entry)) (now (spare .entry)) (now (names .exit)) (now (numbers .exit)) (now (spare .exit)) ⌝ }
+    requires { RowsIn rows.now accesses }
+    ensures { Settled rows.now accesses races result names.old numbers.old spare.old names.new numbers.new spare.new }
 {
     if !fits(
         2 * accesses as usize,
@@ -124,8 +118,8 @@ fn settle(
 
 // The rows of the accesses in a filled area, in the order of their names.
 fn order_area(area: &[u32], n: u32, rows: &mut [u32])
-    requires { ⌜ (16384 ≤ length (now area)) × (n ≤ 1024) × (length (now rows) ≡ 8192) ⌝ }
-    ensures { λ _. ⌜ Copied (rowsPart (now (area .entry))) (orderOf (rowsPart (now (area .entry))) n) n (now (rows .entry)) (now (rows .exit)) ⌝ }
+    requires { (16384 ≤ length area.now) × (n ≤ 1024) × (length rows.old ≡ 8192) }
+    ensures { Copied (rows_part area.now) (order_of (rows_part area.now) n) n rows.old rows.new }
 {
     by_name(&area[MATRIX_WORDS..WORK_WORDS], n, rows);
 }
@@ -139,8 +133,8 @@ fn push_area(
     regions: u32,
     numbers: &mut [u64],
 ) -> usize
-    requires { ⌜ TablesFit (matrixPart (now area)) (now rows) n × LineagesFit (now rows) (now forks) regions n × (16384 ≤ length (now area)) ⌝ }
-    ensures { λ r. ⌜ Pushes (allNumbers (matrixPart (now (area .entry))) (forksIn (now (forks .entry)) regions) (now (rows .entry)) n n) (now (numbers .entry)) 0 (now (numbers .exit)) r ⌝ }
+    requires { TablesFit (matrix_part area.now) rows.now n × LineagesFit rows.now forks.now regions n × (16384 ≤ length area.now) }
+    ensures { Pushes (all_numbers (matrix_part area.now) (forks_in forks.now regions) rows.now n n) numbers.old 0 numbers.new result }
 {
     push_all(&area[..MATRIX_WORDS], rows, n, forks, regions, numbers)
 }
@@ -155,8 +149,8 @@ fn list_accepted(
     numbers: &mut [u64],
     spare: &mut [u64],
 ) -> Found
-    requires { ⌜ Accepted (now bytes) × RegionsOf (now bytes) (now forks) regions × (16384 ≤ length (now area)) ⌝ }
-    ensures { λ r. ⌜ Kept (now (bytes .entry)) r (now (names .entry)) (now (numbers .entry)) (now (spare .entry)) (now (names .exit)) (now (numbers .exit)) (now (spare .exit)) × (length (now (area .exit)) ≡ length (now (area .entry))) ⌝ }
+    requires { Accepted bytes.now × RegionsOf bytes.now forks.now regions × (16384 ≤ length area.old) }
+    ensures { Kept bytes.now result names.old numbers.old spare.old names.new numbers.new spare.new × (length area.new ≡ length area.old) }
 {
     let counts = fill_area(bytes, area);
     let accesses = counts.accesses;
@@ -173,7 +167,7 @@ fn list_accepted(
 }
 
 fn listed_of(chunks: u32, found: Found) -> Listed
-    ensures { λ r. ⌜ r ≡ listedIn chunks found ⌝ }
+    ensures { result ≡ listed_in chunks found }
 {
     let totals = Totals {
         chunks,
@@ -195,8 +189,8 @@ fn list_in(
     numbers: &mut [u64],
     spare: &mut [u64],
 ) -> Listed
-    requires { ⌜ 16384 ≤ length (now area) ⌝ }
-    ensures { λ r. ⌜ (outcomeOf r (now (area .entry)) (now (names .exit)) (now (numbers .exit)) (now (spare .exit)) ≡ listedOf (now (bytes .entry)) (now (area .entry)) (now (names .entry)) (now (numbers .entry)) (now (spare .entry))) × (length (now (area .exit)) ≡ length (now (area .entry))) × Readable (now (bytes .entry)) r (now (names .exit)) (now (numbers .exit)) ⌝ }
+    requires { 16384 ≤ length area.old }
+    ensures { (outcome_of result area.old names.new numbers.new spare.new ≡ listed_of bytes.now area.old names.old numbers.old spare.old) × (length area.new ≡ length area.old) × Readable bytes.now result names.new numbers.new }
 {
     let mut chunks = [0u64; CHUNK_WORDS];
     let mut forks = [0u64; FORK_WORDS];
@@ -222,8 +216,8 @@ pub fn list_races(
     numbers: &mut [u64],
     spare: &mut [u64],
 ) -> Listed
-    ensures { λ r. ⌜ listingOf (now (bytes .entry)) (now (work .entry)) (now (names .entry)) (now (numbers .entry)) (now (spare .entry)) ≡ outcomeOf r (now (work .exit)) (now (names .exit)) (now (numbers .exit)) (now (spare .exit)) ⌝ }
-    ensures readable { λ r. ⌜ Readable (now (bytes .entry)) r (now (names .exit)) (now (numbers .exit)) ⌝ }
+    ensures spare_value { listing_of bytes.now work.old names.old numbers.old spare.old ≡ outcome_of result work.new names.new numbers.new spare.new }
+    ensures readable { Readable bytes.now result names.new numbers.new }
 {
     if work.len() < WORK_WORDS {
         return Listed::Refused {

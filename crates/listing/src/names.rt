@@ -1,20 +1,16 @@
 // The accesses of a bundle in the order of their names.
+ghost use Rattle.std.specs.Prelude.{◌≡◌, ◌++◌, ◌+◌, ◌*◌, ◌≤◌, ◌<◌, length, drop, set};
+ghost use Rattle.bundle.specs.Index.{table};
+ghost use Rattle.verdict.specs.Tallying.{packed, row_name};
+ghost use Rattle.listing.specs.Ranking.{RowsIn, name_word, order_of, Copied, side_of_row, spot_of_row, word_of};
+
 use sorting::sort::sort;
-use verdict::rows::AccessRow;
-use verdict::rows::access_at;
-use verdict::rows::add_access;
-ghost use mathlib.Core.Path.{_≡_};
-ghost use mathlib.Core.List.{_++_};
-ghost use Prim.Native.Nat.{_+_, _*_, _≤_, _<_};
-ghost use lib.ListN.{length, drop, set};
-ghost use Rattle·bundle.specs.Index.{table};
-ghost use Rattle·verdict.specs.Tallying.{packed, rowName};
-ghost use Rattle·listing·specs.specs.Ranking.{RowsIn, nameWord, orderOf, Copied, sideOfRow, spotOfRow, wordOf};
+use verdict::rows::{AccessRow, access_at, add_access};
 
 // An access's name and its place in the table as one number: in the order of these numbers the names are in order.
 fn name_word(row: AccessRow, place: u32) -> u64
-    requires { ⌜ place < 1024 ⌝ }
-    ensures { λ r. ⌜ r ≡ packed (rowName row) * 1024 + place ⌝ }
+    requires { place < 1024 }
+    ensures { result ≡ packed (row_name row) * 1024 + place }
 {
     let team = row.team as u64;
     let member = row.member as u64;
@@ -24,8 +20,8 @@ fn name_word(row: AccessRow, place: u32) -> u64
 
 // The words of the first n accesses.
 fn fill_words(rows: &[u32], n: u32, words: &mut [u64])
-    requires { ⌜ RowsIn (now rows) n × (n ≤ length (now words)) ⌝ }
-    ensures { λ _. ⌜ now (words .exit) ≡ table (nameWord (now (rows .entry))) n ++ drop n (now (words .entry)) ⌝ }
+    requires { RowsIn rows.now n × (n ≤ length words.old) }
+    ensures { words.new ≡ table (name_word rows.now) n ++ drop n words.old }
 {
     let mut i = 0;
     while i < n {
@@ -36,8 +32,8 @@ fn fill_words(rows: &[u32], n: u32, words: &mut [u64])
 
 // The words of the first n accesses in ascending order.
 fn order_words(rows: &[u32], n: u32, words: &mut [u64])
-    requires { ⌜ RowsIn (now rows) n × (n ≤ length (now words)) ⌝ }
-    ensures { λ _. ⌜ now (words .exit) ≡ orderOf (now (rows .entry)) n ++ drop n (now (words .entry)) ⌝ }
+    requires { RowsIn rows.now n × (n ≤ length words.old) }
+    ensures { words.new ≡ order_of rows.now n ++ drop n words.old }
 {
     let mut spare = [0u64; 512];
     let count = n as usize;
@@ -47,8 +43,8 @@ fn order_words(rows: &[u32], n: u32, words: &mut [u64])
 
 // Copies the rows that the words name.
 fn copy_rows(rows: &[u32], words: &[u64], n: u32, ordered: &mut [u32])
-    requires { ⌜ RowsIn (now rows) n × RowsIn (now ordered) n × (n ≤ length (now words)) ⌝ }
-    ensures { λ _. ⌜ Copied (now (rows .entry)) (now (words .entry)) n (now (ordered .entry)) (now (ordered .exit)) ⌝ }
+    requires { RowsIn rows.now n × RowsIn ordered.old n × (n ≤ length words.now) }
+    ensures { Copied rows.now words.now n ordered.old ordered.new }
 {
     let mut i = 0;
     while i < n {
@@ -60,8 +56,8 @@ fn copy_rows(rows: &[u32], words: &[u64], n: u32, ordered: &mut [u32])
 
 // The rows of the first n accesses in the order of their names.
 pub fn by_name(rows: &[u32], n: u32, ordered: &mut [u32])
-    requires { ⌜ RowsIn (now rows) n × RowsIn (now ordered) n ⌝ }
-    ensures { λ _. ⌜ Copied (now (rows .entry)) (orderOf (now (rows .entry)) n) n (now (ordered .entry)) (now (ordered .exit)) ⌝ }
+    requires { RowsIn rows.now n × RowsIn ordered.old n }
+    ensures { Copied rows.now (order_of rows.now n) n ordered.old ordered.new }
 {
     let mut words = [0u64; 1024];
     order_words(rows, n, &mut words);
@@ -70,7 +66,7 @@ pub fn by_name(rows: &[u32], n: u32, ordered: &mut [u32])
 
 // An access's name with the size and the stride of its range as one number.
 fn side_of(row: AccessRow) -> u64
-    ensures { λ r. ⌜ r ≡ sideOfRow row ⌝ }
+    ensures { result ≡ side_of_row row }
 {
     let team = row.team as u64;
     let member = row.member as u64;
@@ -81,15 +77,15 @@ fn side_of(row: AccessRow) -> u64
 
 // The base of its range and its site as one number.
 fn spot_of(row: AccessRow) -> u64
-    ensures { λ r. ⌜ r ≡ spotOfRow row ⌝ }
+    ensures { result ≡ spot_of_row row }
 {
     row.base as u64 * 4294967296 + row.site as u64
 }
 
 // Writes the two words of the i-th access.
 fn put_access(names: &mut [u64], i: u32, row: AccessRow)
-    requires { ⌜ 2 * i + 1 < length (now names) ⌝ }
-    ensures { λ _. ⌜ now (names .exit) ≡ set (set (now (names .entry)) (2 * i) (sideOfRow row)) (2 * i + 1) (spotOfRow row) ⌝ }
+    requires { 2 * i + 1 < length names.old }
+    ensures { names.new ≡ set (set names.old (2 * i) (side_of_row row)) (2 * i + 1) (spot_of_row row) }
 {
     let at = 2 * i as usize;
     names[at] = side_of(row);
@@ -98,8 +94,8 @@ fn put_access(names: &mut [u64], i: u32, row: AccessRow)
 
 // Writes the words of the first n accesses over the front of `names`.
 pub fn put_names(rows: &[u32], n: u32, names: &mut [u64])
-    requires { ⌜ RowsIn (now rows) n × (2 * n ≤ length (now names)) ⌝ }
-    ensures { λ _. ⌜ now (names .exit) ≡ table (wordOf (now (rows .entry))) (2 * n) ++ drop (2 * n) (now (names .entry)) ⌝ }
+    requires { RowsIn rows.now n × (2 * n ≤ length names.old) }
+    ensures { names.new ≡ table (word_of rows.now) (2 * n) ++ drop (2 * n) names.old }
 {
     let mut i = 0;
     while i < n {

@@ -1,21 +1,21 @@
 // A race as one number, in whose order the races are: the witness, and the ranks of the two names among all.
+ghost use Rattle.std.specs.Prelude.{◌≡◌, get_or};
+ghost use Rattle.listing.specs.Listing.{number_for, element_in, race_in};
+
 use order::range::element_from;
 use verdict::pairs::name_in;
 use verdict::race::Race;
-ghost use mathlib.Core.Path.{_≡_};
-ghost use lib.ListN.{getD};
-ghost use Rattle·listing·specs.specs.Listing.{numberFor, elementIn, raceIn};
 
 // The number of a race: 32 bits, and 10 and 10 for ranks below 1,024.
 pub fn number_of(witness: u32, first: u32, second: u32) -> u64
-    ensures { λ r. ⌜ r ≡ numberFor witness first second ⌝ }
+    ensures { result ≡ number_for witness first second }
 {
     witness as u64 * 1048576 + first as u64 * 1024 + second as u64
 }
 
 // A word of the table of names; 0 where there is none.
 fn word_at(names: &[u64], place: usize) -> u64
-    ensures { λ r. ⌜ r ≡ getD (now (names .entry)) place 0 ⌝ }
+    ensures { result ≡ get_or names.now place 0 }
 {
     if place < names.len() {
         return names[place];
@@ -25,7 +25,7 @@ fn word_at(names: &[u64], place: usize) -> u64
 
 // The lowest element of an access that covers a byte, by its two words.
 fn element_in(side: u64, spot: u64, byte: u32) -> u32
-    ensures { λ r. ⌜ r ≡ elementIn side spot byte ⌝ }
+    ensures { result ≡ element_in side spot byte }
 {
     element_from(
         spot / 4294967296 + side / 65536 % 256,
@@ -36,7 +36,7 @@ fn element_in(side: u64, spot: u64, byte: u32) -> u32
 
 // The race that a number stands for.
 pub fn race_in(names: &[u64], number: u64) -> Race
-    ensures { λ r. ⌜ r ≡ raceIn (now (names .entry)) number ⌝ }
+    ensures { result ≡ race_in names.now number }
 {
     let one = (number / 1024 % 1024) as usize;
     let other = (number % 1024) as usize;

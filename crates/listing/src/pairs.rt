@@ -1,31 +1,22 @@
 // The races of all pairs of accesses as numbers, in lent memory. The accesses stand in the order of their names, and so do the pairs.
+ghost use Rattle.std.specs.Prelude.{◌≡◌, ◌&&◌, [], ◌∷◌, eqb, ltb, ◌+◌, ◌%◌, ◌≤◌, ◌<◌};
+ghost use Rattle.verdict.specs.Matrix.{Within};
+ghost use Rattle.verdict.specs.Working.{access_row_at, RowIn};
+ghost use Rattle.order.specs.Ranges.{shared_byte};
+ghost use Rattle.verdict.specs.Linking.{forks_in, AllAround, Around, LineagesFit};
+ghost use Rattle.verdict.specs.Tallying.{row_range, unordered, RowFits, TablesFit, BlockIn, ClashWord};
+ghost use Rattle.listing.specs.Pushing.{Pushes, byte_numbers, next_numbers, row_numbers, all_numbers, NextFits, BlockFits, BlockPushed};
+
 use crate::numbers::number_of;
 use order::range::Lowest;
-use verdict::lineage::LINK_WORDS;
-use verdict::lineage::link;
-use verdict::pairs::block_end;
-use verdict::pairs::clash;
-use verdict::pairs::clashing;
-use verdict::pairs::lowest;
-use verdict::pairs::some_meet;
-use verdict::rows::AccessRow;
-use verdict::rows::access_at;
-ghost use mathlib.Core.Path.{_≡_};
-ghost use mathlib.Core.Bool.{_&&_};
-ghost use mathlib.Core.List.{[], _∷_};
-ghost use lib.Dec.{eqb, ltb};
-ghost use Prim.Native.Nat.{_+_, _%_, _≤_, _<_};
-ghost use Rattle·verdict.specs.Matrix.{Within};
-ghost use Rattle·verdict.specs.Working.{accessRowAt, RowIn};
-ghost use Rattle·order.specs.Ranges.{sharedByte};
-ghost use Rattle·verdict.specs.Linking.{forksIn, AllAround, Around, LineagesFit};
-ghost use Rattle·verdict.specs.Tallying.{rowRange, unordered, RowFits, TablesFit, BlockIn, ClashWord};
-ghost use Rattle·listing·specs.specs.Pushing.{Pushes, byteNumbers, nextNumbers, rowNumbers, allNumbers, NextFits, BlockFits, BlockPushed};
+use verdict::lineage::{LINK_WORDS, link};
+use verdict::pairs::{block_end, clash, clashing, lowest, some_meet};
+use verdict::rows::{AccessRow, access_at};
 
 // Puts a number behind the first `count`, where there is room; it is counted anyway.
 fn push(numbers: &mut [u64], count: usize, number: u64) -> usize
-    requires { ⌜ count < 4294967295 ⌝ }
-    ensures { λ r. ⌜ Pushes (number ∷ []) (now (numbers .entry)) count (now (numbers .exit)) r ⌝ }
+    requires { count < 4294967295 }
+    ensures { Pushes (number ∷ []) numbers.old count numbers.new result }
 {
     if numbers.len() <= count {
         return count + 1;
@@ -43,8 +34,8 @@ fn push_clash(
     numbers: &mut [u64],
     count: usize,
 ) -> usize
-    requires { ⌜ RowFits one × RowFits other × (i < 1024) × (j < 1024) × (count < 4294967295) ⌝ }
-    ensures { λ r. ⌜ Pushes (byteNumbers i j (sharedByte (rowRange one) (rowRange other))) (now (numbers .entry)) count (now (numbers .exit)) r ⌝ }
+    requires { RowFits one × RowFits other × (i < 1024) × (j < 1024) × (count < 4294967295) }
+    ensures { Pushes (byte_numbers i j (shared_byte (row_range one) (row_range other))) numbers.old count numbers.new result }
 {
     match lowest(one, other) {
         Lowest::Byte(byte) => push(numbers, count, number_of(byte as u32, i, j)),
@@ -54,8 +45,8 @@ fn push_clash(
 
 // Whether the j-th access stands behind the i-th and the two race if they share a byte; the lowest bit of `left` is the j-th's.
 fn clash_behind(matrix: &[u32], rows: &[u32], one: AccessRow, left: u32, i: u32, j: u32) -> bool
-    requires { ⌜ RowIn (now rows) j × Within (now matrix) (one .segment) (accessRowAt (now rows) j .segment) ⌝ }
-    ensures { λ r. ⌜ r ≡ (ltb i j && (eqb (left % 2) 1 && unordered (now (matrix .entry)) (one .segment) (accessRowAt (now (rows .entry)) j .segment))) ⌝ }
+    requires { RowIn rows.now j × Within matrix.now one.segment (access_row_at rows.now j).segment }
+    ensures { result ≡ (ltb i j && (eqb (left % 2) 1 && unordered matrix.now one.segment (access_row_at rows.now j).segment)) }
 {
     if j <= i {
         return false;
@@ -74,8 +65,8 @@ fn push_next(
     numbers: &mut [u64],
     count: usize,
 ) -> usize
-    requires { ⌜ NextFits (now matrix) (now rows) one i j count ⌝ }
-    ensures { λ r. ⌜ Pushes (nextNumbers (now (matrix .entry)) one (accessRowAt (now (rows .entry)) j) left i j) (now (numbers .entry)) count (now (numbers .exit)) r ⌝ }
+    requires { NextFits matrix.now rows.now one i j count }
+    ensures { Pushes (next_numbers matrix.now one (access_row_at rows.now j) left i j) numbers.old count numbers.new result }
 {
     if !clash_behind(matrix, rows, one, left, i, j) {
         return count;
@@ -97,8 +88,8 @@ fn push_passing(
     numbers: &mut [u64],
     before: usize,
 ) -> usize
-    requires { ⌜ BlockFits (now matrix) (now rows) one i first end before × ClashWord (now matrix) (forksIn (now forks) regions) (now rows) one first end word ⌝ }
-    ensures { λ r. ⌜ BlockPushed (now (matrix .entry)) (forksIn (now (forks .entry)) regions) (now (rows .entry)) i first end (now (numbers .entry)) before (now (numbers .exit)) r ⌝ }
+    requires { BlockFits matrix.now rows.now one i first end before × ClashWord matrix.now (forks_in forks.now regions) rows.now one first end word }
+    ensures { BlockPushed matrix.now (forks_in forks.now regions) rows.now i first end numbers.old before numbers.new result }
 {
     let mut count = before;
     let mut left = word;
@@ -129,36 +120,17 @@ fn push_block(
     numbers: &mut [u64],
     count: usize,
 ) -> usize
-    requires { ⌜ BlockFits (now matrix) (now rows) one i first end count × BlockIn (now rows) first × Around (now rows) (now forks) (now links) regions held i end ⌝ }
-    ensures { λ r. ⌜ BlockPushed (now (matrix .entry)) (forksIn (now (forks .entry)) regions) (now (rows .entry)) i first end (now (numbers .entry)) count (now (numbers .exit)) r ⌝ }
+    requires { BlockFits matrix.now rows.now one i first end count × BlockIn rows.now first × Around rows.now forks.now links.now regions held i end }
+    ensures { BlockPushed matrix.now (forks_in forks.now regions) rows.now i first end numbers.old count numbers.new result }
 {
     if !some_meet(rows, first as usize, one) {
         return count;
     }
     let word = clashing(
-        matrix,
-        rows,
-        forks,
-        regions,
-        links,
-        held,
-        one,
-        i,
-        first,
-        end,
+        matrix, rows, forks, regions, links, held, one, i, first, end,
     );
     push_passing(
-        matrix,
-        rows,
-        forks,
-        regions,
-        one,
-        i,
-        word,
-        first,
-        end,
-        numbers,
-        count,
+        matrix, rows, forks, regions, one, i, word, first, end, numbers, count,
     )
 }
 
@@ -175,8 +147,8 @@ fn push_row(
     numbers: &mut [u64],
     before: usize,
 ) -> usize
-    requires { ⌜ TablesFit (now matrix) (now rows) n × AllAround (now rows) (now forks) (now links) regions held n × (i < n) × (before ≤ 1048576) ⌝ }
-    ensures { λ r. ⌜ Pushes (rowNumbers (now (matrix .entry)) (forksIn (now (forks .entry)) regions) (now (rows .entry)) i n) (now (numbers .entry)) before (now (numbers .exit)) r ⌝ }
+    requires { TablesFit matrix.now rows.now n × AllAround rows.now forks.now links.now regions held n × (i < n) × (before ≤ 1048576) }
+    ensures { Pushes (row_numbers matrix.now (forks_in forks.now regions) rows.now i n) numbers.old before numbers.new result }
 {
     let one = access_at(rows, i);
     let mut count = before;
@@ -213,23 +185,14 @@ fn push_rows(
     held: bool,
     numbers: &mut [u64],
 ) -> usize
-    requires { ⌜ TablesFit (now matrix) (now rows) n × AllAround (now rows) (now forks) (now links) regions held n ⌝ }
-    ensures { λ r. ⌜ Pushes (allNumbers (now (matrix .entry)) (forksIn (now (forks .entry)) regions) (now (rows .entry)) n n) (now (numbers .entry)) 0 (now (numbers .exit)) r ⌝ }
+    requires { TablesFit matrix.now rows.now n × AllAround rows.now forks.now links.now regions held n }
+    ensures { Pushes (all_numbers matrix.now (forks_in forks.now regions) rows.now n n) numbers.old 0 numbers.new result }
 {
     let mut count = 0;
     let mut i = 0;
     while i < n {
         count = push_row(
-            matrix,
-            rows,
-            forks,
-            regions,
-            links,
-            held,
-            i,
-            n,
-            numbers,
-            count,
+            matrix, rows, forks, regions, links, held, i, n, numbers, count,
         );
         i += 1;
     }
@@ -245,8 +208,8 @@ pub fn push_all(
     regions: u32,
     numbers: &mut [u64],
 ) -> usize
-    requires { ⌜ TablesFit (now matrix) (now rows) n × LineagesFit (now rows) (now forks) regions n ⌝ }
-    ensures { λ r. ⌜ Pushes (allNumbers (now (matrix .entry)) (forksIn (now (forks .entry)) regions) (now (rows .entry)) n n) (now (numbers .entry)) 0 (now (numbers .exit)) r ⌝ }
+    requires { TablesFit matrix.now rows.now n × LineagesFit rows.now forks.now regions n }
+    ensures { Pushes (all_numbers matrix.now (forks_in forks.now regions) rows.now n n) numbers.old 0 numbers.new result }
 {
     let mut links = [0u32; LINK_WORDS];
     let held = link(rows, n, forks, regions, &mut links);

@@ -1,25 +1,23 @@
 -- The bytes that a range touches, the lowest byte that two ranges share, and the elements that cover it. The lists that compute them stand in
 -- `SharedBytes`.
-use Prim.Native.Nat.{ℕ, _+_, _*_, _≤_, _<_}
-use mathlib.Core.Path.{_≡_}
-use mathlib.Core.Bool.{cond}
-use mathlib.Core.Option.{Option, none, some}
-use Rattle·bundle.specs.Answer.{Answer, gives, refuses, numberOf}
-use Rattle·bundle.specs.Commands.{rangeOk}
-use Rattle·bundle.specs.declared.command.Range.{Range}
+use Rattle.std.specs.Prelude.{ℕ, ◌+◌, ◌*◌, ◌≤◌, ◌<◌, ◌≡◌, cond}
+use Rattle.std.proofs.Math.Option.{Option, none, some}
+use Rattle.bundle.specs.Answer.{Answer, gives, refuses, number_of}
+use Rattle.bundle.specs.Commands.{range_ok}
+use Rattle.bundle.specs.declared.command.Range.{Range}
 -- here and in the layers above
-unfoldable pub use Rattle·order·specs.specs.SharedBytes.{sharedByte, lowestElement, overlapOf}
-use Rattle·order·specs.specs.declared.range.Overlap.{Overlap}
-use Rattle·order·specs.specs.declared.range.Shared.{Shared}
-use Rattle·order·specs.specs.declared.range.Shared.the-variants as Sh
+unfoldable pub use Rattle.order.specs.SharedBytes.{shared_byte, lowest_element, overlap_of}
+use Rattle.order.specs.declared.range.Overlap.{Overlap}
+use Rattle.order.specs.declared.range.Shared.{Shared}
+use Rattle.order.specs.declared.range.Shared.TheVariants as Sh
 
 -- "It touches the bytes base + k times stride + j, with k below count and j below size"
 pub record Touches (r : Range) (byte : ℕ) : Type 0 where
   pub element : ℕ
   pub within : ℕ
-  pub element-below : element < r .count
-  pub within-below : within < r .size
-  pub at : byte ≡ r .base + element * r .stride + within
+  pub element_below : element < r.count
+  pub within_below : within < r.size
+  pub at : byte ≡ r.base + element * r.stride + within
 
 -- the lowest byte that both touch: a race's "witness is the lowest shared byte"
 pub record LeastShared (a b : Range) (w : ℕ) : Type 0 where
@@ -29,9 +27,9 @@ pub record LeastShared (a b : Range) (w : ℕ) : Type 0 where
 
 -- an element k of a range covers a byte: one of its bytes base + k times stride + j
 pub record Covers (r : Range) (byte element : ℕ) : Type 0 where
-  pub element-below : element < r .count
-  pub from : r .base + element * r .stride ≤ byte
-  pub to : byte < r .base + element * r .stride + r .size
+  pub element_below : element < r.count
+  pub from : r.base + element * r.stride ≤ byte
+  pub to : byte < r.base + element * r.stride + r.size
 
 -- A.2: "the lowest element number covering that byte"
 pub record LowestElement (r : Range) (byte element : ℕ) : Type 0 where
@@ -40,11 +38,11 @@ pub record LowestElement (r : Range) (byte element : ℕ) : Type 0 where
 
 -- "Lowest shared byte of two ranges": 5 at 1 or 2 for the first bad range, else the byte or none; A.2: "also gives, for each range, the lowest
 -- element number covering that byte"
-unfoldable pub sharedOf : Range → Range → Answer (Option Overlap)
-sharedOf a b = cond (rangeOk a) (cond (rangeOk b) (gives (overlapOf a b)) (refuses 5 2)) (refuses 5 1)
+unfoldable pub shared_of : Range → Range → Answer (Option Overlap)
+shared_of a b = cond (range_ok a) (cond (range_ok b) (gives (overlap_of a b)) (refuses 5 2)) (refuses 5 1)
 
 -- what the code's answer says
-abbrev pub sharingOf : Shared → Answer (Option Overlap)
-sharingOf (Sh.Byte o) = gives (some o)
-sharingOf Sh.Nothing = gives none
-sharingOf (Sh.Refused place cause) = refuses (numberOf cause) place
+abbrev pub sharing_of : Shared → Answer (Option Overlap)
+sharing_of (Sh.Byte o) = gives (some o)
+sharing_of Sh.Nothing = gives none
+sharing_of (Sh.Refused place cause) = refuses (number_of cause) place

@@ -1,12 +1,10 @@
 -- Swapping two labels (A.8): the comparison of the second with the first, from that of the first with the second.
-use mathlib.Core.Path.{_≡_}
-use mathlib.Core.Bool.{Bool, cond}
-use lib.Dec.{eqb}
-use Rattle·bundle.specs.Answer.{Answer, gives, refuses}
-use Rattle·order·specs.specs.Labels.{labelOk, compareOf}
-use Rattle·order·specs.specs.declared.label.Label.{Label}
-use Rattle·order·specs.specs.declared.label.Order.{Order}
-use Rattle·order·specs.specs.declared.label.Order.the-variants as Ord
+use Rattle.std.specs.Prelude.{◌≡◌, Bool, cond, eqb}
+use Rattle.bundle.specs.Answer.{Answer, gives, refuses}
+use Rattle.order.specs.Labels.{label_ok, compare_of}
+use Rattle.order.specs.declared.label.Label.{Label}
+use Rattle.order.specs.declared.label.Order.{Order}
+use Rattle.order.specs.declared.label.Order.TheVariants as Ord
 
 -- "Swapping two labels turns before into after and leaves same and concurrent"
 unfoldable pub reversed : Order → Order
@@ -23,4 +21,4 @@ swapped secondOk (refuses number place) = refuses number (cond (eqb number 15) (
 
 -- for any two labels, also those of no segment
 abbrev pub Swapping : Type 0
-Swapping = (first second : Label) → compareOf second first ≡ swapped (labelOk second) (compareOf first second)
+Swapping = (first second : Label) → compare_of second first ≡ swapped (label_ok second) (compare_of first second)

@@ -1,31 +1,26 @@
 // The label of a segment, found by climbing from its team to the root.
-use crate::label::Label;
-use crate::label::Triple;
-use bundle::check::Indexing;
-use bundle::check::index_bundle;
+ghost use Rattle.std.specs.Prelude.{◌≡◌, [], ◌≤◌, ◌<◌};
+ghost use Rattle.bundle.specs.Answer.{refuses, number_of};
+ghost use Rattle.bundle.specs.Index.{table, chunk_row_at, fork_row_at};
+ghost use Rattle.order.specs.Labels.{holding, segment_label, label_of, Labelled};
+ghost use Rattle.order.specs.Climbing.{joins_before, joined_before, label_by_rows, Climbable, Joinable, triple_of, extended, chunk_label_of};
+
+use crate::label::{Label, Triple};
+use bundle::check::{Indexing, index_bundle};
 use bundle::chunk::ChunkState;
-use bundle::index::chunk_at;
-use bundle::index::chunk_of;
-use bundle::index::fork_at;
-use bundle::index::fork_of;
-use bundle::limits::CHUNK_WORDS;
-use bundle::limits::FORK_WORDS;
+use bundle::index::{chunk_at, chunk_of, fork_at, fork_of};
+use bundle::limits::{CHUNK_WORDS, FORK_WORDS};
 use bundle::refusal::Cause;
-ghost use mathlib.Core.Path.{_≡_};
-ghost use mathlib.Core.List.{[]};
-ghost use Prim.Native.Nat.{_≤_, _<_};
-ghost use Rattle·bundle.specs.Answer.{refuses, numberOf};
-ghost use Rattle·bundle.specs.Index.{table, chunkRowAt, forkRowAt};
-ghost use Rattle·order·specs.specs.Labels.{holding, segmentLabel, labelOf, Labelled};
-ghost use Rattle·order·specs.specs.Climbing.{joinsBefore, joinedBefore, labelByRows, Climbable, Joinable, tripleOf, extended, chunkLabelOf};
 
 // What is answered for a segment's label: that it is found, and stands beside this, or a refusal.
+#[derive(Clone, Copy)]
 pub enum LabelAnswer {
     Found,
     Refused { place: usize, cause: Cause },
 }
 
 // An answer and the label beside it, whose triples past its count are 0; refused, the label has no triples.
+#[derive(Clone, Copy)]
 pub struct Labelling {
     pub answer: LabelAnswer,
     pub label: Label,
@@ -33,6 +28,7 @@ pub struct Labelling {
 
 // What the labels of a chunk's segments have in common: the label of the segment that forked the team, empty for the root,
 // and the team's size.
+#[derive(Clone, Copy)]
 struct ChunkLabel {
     label: Label,
     size: u8,
@@ -40,7 +36,7 @@ struct ChunkLabel {
 
 // 1 for the i-th REGION where it is of a member's chunk and stands before the segment of a number is opened; else 0.
 fn joins(forks: &[u64], i: u32, team: u16, member: u8, number: u32) -> u32
-    ensures { λ r. ⌜ r ≡ joinsBefore team member number (forkRowAt (now (forks .entry)) i) ⌝ }
+    ensures { result ≡ joins_before team member number (fork_row_at forks.now i) }
 {
     let fork = fork_at(forks, i);
     let state = fork.state;
@@ -53,7 +49,7 @@ fn joins(forks: &[u64], i: u32, team: u16, member: u8, number: u32) -> u32
 
 // How many regions a member has joined where its segment of a number is opened.
 fn joined_before(forks: &[u64], count: u32, team: u16, member: u8, number: u32) -> u32
-    ensures { λ r. ⌜ r ≡ joinedBefore (table (forkRowAt (now (forks .entry))) count) team member number ⌝ }
+    ensures { result ≡ joined_before (table (fork_row_at forks.now) count) team member number }
 {
     let mut joined = 0;
     let mut i = 0;
@@ -66,8 +62,8 @@ fn joined_before(forks: &[u64], count: u32, team: u16, member: u8, number: u32) 
 
 // The last triple of a segment's label.
 fn last_triple(member: u8, state: ChunkState, size: u8) -> Triple
-    requires { ⌜ state .regions ≤ 65536 ⌝ }
-    ensures { λ r. ⌜ r ≡ tripleOf member state size ⌝ }
+    requires { state.regions ≤ 65536 }
+    ensures { result ≡ triple_of member state size }
 {
     let span = size as u32;
     Triple {
@@ -79,7 +75,7 @@ fn last_triple(member: u8, state: ChunkState, size: u8) -> Triple
 
 // The label without triples; past a label's count all is 0.
 fn empty_label() -> Label
-    ensures { λ r. ⌜ r ≡ holding [] ⌝ }
+    ensures { result ≡ holding [] }
 {
     let blank = Triple {
         offset: 0,
@@ -94,8 +90,8 @@ fn empty_label() -> Label
 
 // A label with one triple more.
 fn extend(label: Label, triple: Triple) -> Label
-    requires { ⌜ label .count < 5 ⌝ }
-    ensures { λ r. ⌜ r ≡ extended label triple ⌝ }
+    requires { label.count < 5 }
+    ensures { result ≡ extended label triple }
 {
     let count = label.count;
     let mut triples = label.triples;
@@ -107,9 +103,10 @@ fn extend(label: Label, triple: Triple) -> Label
 }
 
 // A chunk wants the label of the segment that forked its team: the team number falls.
+#[cycle(label_at_label_of_chunk)]
 fn label_of_chunk(forks: &[u64], count: u32, team: u16) -> ChunkLabel
-    requires { ⌜ Climbable (table (forkRowAt (now forks)) count) ⌝ }
-    ensures { λ r. ⌜ r ≡ chunkLabelOf (table (forkRowAt (now (forks .entry))) count) team ⌝ }
+    requires { Climbable (table (fork_row_at forks.now) count) }
+    ensures { result ≡ chunk_label_of (table (fork_row_at forks.now) count) team }
 {
     if team == 0 {
         return ChunkLabel {
@@ -132,9 +129,10 @@ fn label_of_chunk(forks: &[u64], count: u32, team: u16) -> ChunkLabel
 }
 
 // A segment wants the label of its own chunk, and puts its last triple behind it.
+#[cycle(label_at_label_of_chunk)]
 fn label_at(forks: &[u64], count: u32, team: u16, member: u8, state: ChunkState) -> Label
-    requires { ⌜ Climbable (table (forkRowAt (now forks)) count) × (state .regions ≤ 65536) ⌝ }
-    ensures { λ r. ⌜ r ≡ holding (segmentLabel (table (forkRowAt (now (forks .entry))) count) team member state) ⌝ }
+    requires { Climbable (table (fork_row_at forks.now) count) × (state.regions ≤ 65536) }
+    ensures { result ≡ holding (segment_label (table (fork_row_at forks.now) count) team member state) }
 {
     let chunk = label_of_chunk(forks, count, team);
     let label = chunk.label;
@@ -142,7 +140,7 @@ fn label_at(forks: &[u64], count: u32, team: u16, member: u8, state: ChunkState)
 }
 
 fn refused(place: usize, cause: Cause) -> Labelling
-    ensures { λ r. ⌜ Labelled r (refuses (numberOf cause) place) ⌝ }
+    ensures { Labelled result (refuses (number_of cause) place) }
 {
     Labelling {
         answer: LabelAnswer::Refused { place, cause },
@@ -161,9 +159,9 @@ fn label_by_rows(
     member: u8,
     number: u32,
 ) -> Labelling
-    requires { ⌜ Climbable (table (forkRowAt (now forks)) regions)
-        × Joinable (table (forkRowAt (now forks)) regions) team member number ⌝ }
-    ensures { λ r. ⌜ Labelled r (labelByRows (table (chunkRowAt (now (chunks .entry))) count) (table (forkRowAt (now (forks .entry))) regions) team member number) ⌝ }
+    requires { Climbable (table (fork_row_at forks.now) regions)
+        × Joinable (table (fork_row_at forks.now) regions) team member number }
+    ensures { Labelled result (label_by_rows (table (chunk_row_at chunks.now) count) (table (fork_row_at forks.now) regions) team member number) }
 {
     let i = chunk_of(chunks, count, team, member);
     if count <= i {
@@ -188,7 +186,7 @@ fn label_by_rows(
 
 // "Label of a segment (team, member, segment number)": as check, then 14 at 0, else the segment's label.
 pub fn label_of_segment(bytes: &[u8], team: u16, member: u8, segment: u32) -> Labelling
-    ensures { λ r. ⌜ Labelled r (labelOf (now (bytes .entry)) team member segment) ⌝ }
+    ensures { Labelled result (label_of bytes.now team member segment) }
 {
     let mut chunks = [0u64; CHUNK_WORDS];
     let mut forks = [0u64; FORK_WORDS];

@@ -1,12 +1,12 @@
 // Offset-span labels and their comparison.
+ghost use Rattle.std.specs.Prelude.{◌≡◌, true, ◌≤◌};
+ghost use Rattle.bundle.specs.Lists.{all};
+ghost use Rattle.order.specs.Labels.{counted, span_ok, label_ok, same_triple, compare_triples, compare_from, compare_of, comparison_of};
+
 use bundle::refusal::Cause;
-ghost use mathlib.Core.Path.{_≡_};
-ghost use mathlib.Core.Bool.{true};
-ghost use Prim.Native.Nat.{_≤_};
-ghost use Rattle·bundle.specs.Lists.{all};
-ghost use Rattle·order·specs.specs.Labels.{counted, spanOk, labelOk, sameTriple, compareTriples, compareFrom, compareOf, comparisonOf};
 
 // One level of a label.
+#[derive(Clone, Copy)]
 pub struct Triple {
     pub offset: u32,
     pub span: u32,
@@ -14,12 +14,14 @@ pub struct Triple {
 }
 
 // The first `count` triples are the label, the root's first; those past the count are not looked at.
+#[derive(Clone, Copy)]
 pub struct Label {
     pub count: u32,
     pub triples: [Triple; 5],
 }
 
 // How the first of two labels stands to the second.
+#[derive(Clone, Copy)]
 pub enum Order {
     Same,
     Before,
@@ -28,6 +30,7 @@ pub enum Order {
 }
 
 // What comparing two labels gives.
+#[derive(Clone, Copy)]
 pub enum Comparison {
     Compared(Order),
     Refused { place: usize, cause: Cause },
@@ -35,7 +38,7 @@ pub enum Comparison {
 
 // Whether a span is 1 to 64.
 fn span_ok(triple: Triple) -> bool
-    ensures { λ r. ⌜ r ≡ spanOk triple ⌝ }
+    ensures { result ≡ span_ok triple }
 {
     let span = triple.span;
     (1 <= span) & (span <= 64)
@@ -43,8 +46,8 @@ fn span_ok(triple: Triple) -> bool
 
 // Whether every counted span is 1 to 64.
 fn spans_ok(label: Label) -> bool
-    requires { ⌜ label .count ≤ 5 ⌝ }
-    ensures { λ r. ⌜ r ≡ all spanOk (counted label) ⌝ }
+    requires { label.count ≤ 5 }
+    ensures { result ≡ all span_ok (counted label) }
 {
     let count = label.count as usize;
     let triples = label.triples;
@@ -61,7 +64,7 @@ fn spans_ok(label: Label) -> bool
 
 // Whether a label has 1 to 5 triples, each span in its range, and the first span 1.
 fn label_ok(label: Label) -> bool
-    ensures { λ r. ⌜ r ≡ labelOk label ⌝ }
+    ensures { result ≡ label_ok label }
 {
     let count = label.count;
     if count < 1 {
@@ -76,7 +79,7 @@ fn label_ok(label: Label) -> bool
 }
 
 fn same_triple(first: Triple, second: Triple) -> bool
-    ensures { λ r. ⌜ r ≡ sameTriple first second ⌝ }
+    ensures { result ≡ same_triple first second }
 {
     (first.offset == second.offset)
         & (first.span == second.span)
@@ -85,8 +88,8 @@ fn same_triple(first: Triple, second: Triple) -> bool
 
 // Two labels by the first triples in which they differ, which have this number.
 fn compare_triples(number: usize, first: Triple, second: Triple) -> Comparison
-    requires { ⌜ 1 ≤ first .span ⌝ }
-    ensures { λ r. ⌜ comparisonOf r ≡ compareTriples number first second ⌝ }
+    requires { 1 ≤ first.span }
+    ensures { comparison_of result ≡ compare_triples number first second }
 {
     let span = first.span;
     if span != second.span {
@@ -112,8 +115,8 @@ fn compare_triples(number: usize, first: Triple, second: Triple) -> Comparison
 
 // Two labels that are not refused, triple by triple.
 fn compare_counted(first: Label, second: Label) -> Comparison
-    requires { ⌜ (labelOk first ≡ true) × (labelOk second ≡ true) ⌝ }
-    ensures { λ r. ⌜ comparisonOf r ≡ compareFrom 0 (counted first) (counted second) ⌝ }
+    requires { (label_ok first ≡ true) × (label_ok second ≡ true) }
+    ensures { comparison_of result ≡ compare_from 0 (counted first) (counted second) }
 {
     let first_count = first.count as usize;
     let second_count = second.count as usize;
@@ -140,7 +143,7 @@ fn compare_counted(first: Label, second: Label) -> Comparison
 
 // How the first label stands to the second: 15 for a bad label, at 1 or 2; then 16 for unequal spans, at the triple's number.
 pub fn compare(first: Label, second: Label) -> Comparison
-    ensures { λ r. ⌜ comparisonOf r ≡ compareOf first second ⌝ }
+    ensures { comparison_of result ≡ compare_of first second }
 {
     if !label_ok(first) {
         return Comparison::Refused {

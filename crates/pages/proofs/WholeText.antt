@@ -1,51 +1,51 @@
 -- Pages one after another make the whole text of a listing. Assumes nothing.
-use mathlib.Core.Path.{_≡_, refl, sym, ap, _∙_}
+use mathlib.Core.Path.{◌≡◌, refl, sym, ap, ◌∙◌}
 use mathlib.Core.Bool.{Bool, true, false}
-use mathlib.Core.List.{List, [], _∷_, _++_}
-use Prim.Native.Nat.{ℕ, zero, suc, _+_, _-_, _≤_, _<_}
-use native.Mathlib.Decide.{decLt}
+use mathlib.Core.List.{List, [], ◌∷◌, ◌++◌}
+use Prim.Native.Nat.{ℕ, zero, suc, ◌+◌, ◌-◌, ◌≤◌, ◌<◌}
+use native.Mathlib.Decide.{dec_lt}
 use native.Mathlib.Omega.{arith}
 use borrow.Author.Tests.{leb-true, le-leb}
 use lib.Dec.{leb}
-use lib.ListN.{length, getD, drop, length-append, drop-of-length-le}
+use lib.ListN.{length, get_or, drop, length-append, drop_of_length-le}
 use lib.Seq.{drop-cons, drop-drop}
-use Rattle·bundle.specs.Lists.{backToBack}
-use Rattle·bundle.specs.Chunks.{chunksOf}
-use Rattle·bundle.specs.Check.{Accepted}
-use Rattle·bundle.specs.Commands.{written, puttingOf}
-use Rattle·bundle.specs.declared.command.Putting.{Putting}
-use Rattle·bundle.specs.declared.command.Putting.the-variants as Put
-use Rattle·verdict.specs.Races.{racesOf}
-use Rattle·text.specs.Lines.{printedAt}
-use Rattle·text.proofs.Making.{word-written}
-use Rattle·listing.specs.Listing.{racesIn, totalsOf, over}
-use Rattle·pages·specs.specs.declared.fill.Page.{Page}
-use Rattle·pages·specs.specs.Listings.{listingText, linesOf, linesIn, pageOf, Filled, pageFrom}
-use Rattle·pages·specs.specs.Inner.{PutNext}
-use Rattle·pages·proofs.proofs.Paging.{page-more, page-none, page-over, back-append, over-length, next-written}
-use Rattle·pages·proofs.proofs.Lengths.{line-within}
-use Rattle·pages·proofs.proofs.Counts.{counts-small}
+use Rattle.bundle.specs.Lists.{back_to_back}
+use Rattle.bundle.specs.Chunks.{chunks_of}
+use Rattle.bundle.specs.Check.{Accepted}
+use Rattle.bundle.specs.Commands.{written, putting_of}
+use Rattle.bundle.specs.declared.command.Putting.{Putting}
+use Rattle.bundle.specs.declared.command.Putting.TheVariants as Put
+use Rattle.verdict.specs.Races.{races_of}
+use Rattle.text.specs.Lines.{printed_at}
+use Rattle.text.proofs.Making.{word-written}
+use Rattle.listing.specs.Listing.{races_in, totals_of, over}
+use Rattle.pages.specs.declared.fill.Page.{Page}
+use Rattle.pages.specs.Listings.{listing_text, lines_of, lines_in, page_of, Filled, page_from}
+use Rattle.pages.specs.Inner.{PutNext}
+use Rattle.pages.proofs.Paging.{page-more, page-none, page-over, back-append, over-length, next-written}
+use Rattle.pages.proofs.Lengths.{line-within}
+use Rattle.pages.proofs.Counts.{counts-small}
 
 -- a page takes no more than its room
-pub page-room : (lines : List (List ℕ)) (room : ℕ) → length (backToBack (pageOf room lines)) ≤ room
+pub page-room : (lines : List (List ℕ)) (room : ℕ) → length (back_to_back (page_of room lines)) ≤ room
 page-room [] room = rw (page-over room) (omega arith)
 page-room (line ∷ lines) room = go (page-room lines (room - length line)) (leb (length line) room) refl
   where
-    go : length (backToBack (pageOf (room - length line) lines)) ≤ room - length line → (t : Bool) → leb (length line) room ≡ t
-        → length (backToBack (pageOf room (line ∷ lines))) ≤ room
+    go : length (back_to_back (page_of (room - length line) lines)) ≤ room - length line → (t : Bool) → leb (length line) room ≡ t
+        → length (back_to_back (page_of room (line ∷ lines))) ≤ room
     go rest true e =
         rw (page-more room line lines e)
-        (omega (arith, leb-true (length line) room e, length-append line (backToBack (pageOf (room - length line) lines))))
+        (omega (arith, leb-true (length line) room e, length-append line (back_to_back (page_of (room - length line) lines))))
     go rest false e = rw (page-none room line lines e) (omega arith)
 
 -- what is handed back lies in the buffer
-pub filled-fits : (lines : List (List ℕ)) (from : ℕ) (s t : List ℕ) (r : Page) → pageFrom lines from s ≡ record { page = r; buffer = t } → r .size ≤ length t
-unfolding pageFrom
+pub filled-fits : (lines : List (List ℕ)) (from : ℕ) (s t : List ℕ) (r : Page) → page_from lines from s ≡ record { page = r; buffer = t } → r.size ≤ length t
+unfolding page_from
 filled-fits lines from s t r e =
-    let b = backToBack (pageOf (length s) (drop from lines)) in
+    let b = back_to_back (page_of (length s) (drop from lines)) in
     let room : length b ≤ length s = page-room (drop from lines) (length s) in
-    let size : length b ≡ r .size = ap (λ (f : Filled). f .page .size) e in
-    let long : length (over b s) ≡ length t = ap (λ (f : Filled). length (f .buffer)) e in
+    let size : length b ≡ r.size = ap (λ (f : Filled). f.page.size) e in
+    let long : length (over b s) ≡ length t = ap (λ (f : Filled). length f.buffer) e in
     omega (arith, room, size, long, over-length b s room)
 
 pub put-fits : {line s t : List ℕ} {r : ℕ} → PutNext line s 0 r t → r ≤ length t
@@ -54,51 +54,51 @@ put-fits {line} {s} {t} {r} put = go (leb (length line) (length s - 0)) refl
     go : (b : Bool) → leb (length line) (length s - 0) ≡ b → r ≤ length t
     go true e =
         let room : length line ≤ length s - 0 = leb-true (length line) (length s - 0) e in
-        let bytes : t ≡ written s 0 line = put .bytes ∙ rw e in
-        let next : r ≡ 0 + length line = put .next ∙ rw e in
-        omega (arith, next, room, word-written s line 0 (omega (arith, room)) bytes .kept)
+        let bytes : t ≡ written s 0 line = put.bytes ∙ rw e in
+        let next : r ≡ 0 + length line = put.next ∙ rw e in
+        omega (arith, next, room, (word-written s line 0 (omega (arith, room)) bytes).kept)
     go false e =
-        let next : r ≡ 0 = put .next ∙ rw e in
+        let next : r ≡ 0 = put.next ∙ rw e in
         omega (arith, next)
 
-pub written-fits : (line s : List ℕ) {t : List ℕ} (r : Putting) {size : ℕ} → printedAt line s 0 ≡ record { answer = puttingOf r; buffer = t } → r ≡ Put.Written size → size ≤ length t
+pub written-fits : (line s : List ℕ) {t : List ℕ} (r : Putting) {size : ℕ} → printed_at line s 0 ≡ record { answer = putting_of r; buffer = t } → r ≡ Put.Written size → size ≤ length t
 written-fits line s r e q = put-fits (next-written r e q)
 
 -- a page is the first lines, and the others follow
-pub page-first : (lines : List (List ℕ)) (room : ℕ) → lines ≡ pageOf room lines ++ drop (length (pageOf room lines)) lines
+pub page-first : (lines : List (List ℕ)) (room : ℕ) → lines ≡ page_of room lines ++ drop (length (page_of room lines)) lines
 page-first [] room = rw (page-over room)
 page-first (line ∷ lines) room = go (page-first lines (room - length line)) (leb (length line) room) refl
   where
-    go : lines ≡ pageOf (room - length line) lines ++ drop (length (pageOf (room - length line) lines)) lines → (t : Bool) → leb (length line) room ≡ t
-        → line ∷ lines ≡ pageOf room (line ∷ lines) ++ drop (length (pageOf room (line ∷ lines))) (line ∷ lines)
+    go : lines ≡ page_of (room - length line) lines ++ drop (length (page_of (room - length line) lines)) lines → (t : Bool) → leb (length line) room ≡ t
+        → line ∷ lines ≡ page_of room (line ∷ lines) ++ drop (length (page_of room (line ∷ lines))) (line ∷ lines)
     go rest true e = rw (page-more room line lines e) (ap (λ (l : List (List ℕ)). line ∷ l) rest)
     go rest false e = rw (page-none room line lines e)
 
 -- every line fits into so many bytes
 abbrev pub AllFit : ℕ → List (List ℕ) → Type 0
-AllFit room lines = (i : ℕ) → i < length lines → length (getD lines i []) ≤ room
+AllFit room lines = (i : ℕ) → i < length lines → length (get_or lines i []) ≤ room
 
 -- then no page is empty while lines are left
-pub page-some : (room : ℕ) (lines : List (List ℕ)) (from : ℕ) → AllFit room lines → from < length lines → 1 ≤ length (pageOf room (drop from lines))
+pub page-some : (room : ℕ) (lines : List (List ℕ)) (from : ℕ) → AllFit room lines → from < length lines → 1 ≤ length (page_of room (drop from lines))
 page-some room lines from fit h =
-    let line = getD lines from [] in
+    let line = get_or lines from [] in
     rw (drop-cons lines from [] h, page-more room line (drop (suc from) lines) (le-leb (length line) room (fit from h))) (omega arith)
 
 -- what so many pages hold, each filled from where the one before ended
-unfoldable pub pagesFrom : ℕ → ℕ → List (List ℕ) → ℕ → List ℕ
-pagesFrom zero room lines from = []
-pagesFrom (suc turns) room lines from =
-    let page = pageOf room (drop from lines) in
-    backToBack page ++ pagesFrom turns room lines (from + length page)
+unfoldable pub pages_from : ℕ → ℕ → List (List ℕ) → ℕ → List ℕ
+pages_from zero room lines from = []
+pages_from (suc turns) room lines from =
+    let page = page_of room (drop from lines) in
+    back_to_back page ++ pages_from turns room lines (from + length page)
 
 pub pages-whole : (turns room : ℕ) (lines : List (List ℕ)) (from : ℕ) → AllFit room lines → length lines ≤ from + turns
-    → pagesFrom turns room lines from ≡ backToBack (drop from lines)
-unfolding pagesFrom
-pages-whole zero room lines from fit h = sym (ap backToBack (drop-of-length-le lines {i = from} (omega arith)))
-pages-whole (suc turns) room lines from fit h = go (pages-whole turns room lines (from + length (pageOf room (drop from lines))) fit) (decLt from (length lines))
+    → pages_from turns room lines from ≡ back_to_back (drop from lines)
+unfolding pages_from
+pages-whole zero room lines from fit h = sym (ap back_to_back (drop_of_length-le lines {i = from} (omega arith)))
+pages-whole (suc turns) room lines from fit h = go (pages-whole turns room lines (from + length (page_of room (drop from lines))) fit) (dec_lt from (length lines))
   where
     page : List (List ℕ)
-    page = pageOf room (drop from lines)
+    page = page_of room (drop from lines)
 
     cut : drop from lines ≡ page ++ drop (from + length page) lines
     cut = page-first (drop from lines) room ∙ ap (λ (l : List (List ℕ)). page ++ l) (drop-drop (length page) from lines)
@@ -107,20 +107,20 @@ pages-whole (suc turns) room lines from fit h = go (pages-whole turns room lines
     enough (yes l) = omega (arith, page-some room lines from fit l)
     enough (no l) = omega arith
 
-    go : (length lines ≤ from + length page + turns → pagesFrom turns room lines (from + length page) ≡ backToBack (drop (from + length page) lines)) → Dec (from < length lines)
-        → backToBack page ++ pagesFrom turns room lines (from + length page) ≡ backToBack (drop from lines)
+    go : (length lines ≤ from + length page + turns → pages_from turns room lines (from + length page) ≡ back_to_back (drop (from + length page) lines)) → Dec (from < length lines)
+        → back_to_back page ++ pages_from turns room lines (from + length page) ≡ back_to_back (drop from lines)
     go more d =
-        ap (λ (l : List ℕ). backToBack page ++ l) (more (enough d))
-        ∙ sym (ap backToBack cut ∙ back-append page (drop (from + length page) lines))
+        ap (λ (l : List ℕ). back_to_back page ++ l) (more (enough d))
+        ∙ sym (ap back_to_back cut ∙ back-append page (drop (from + length page) lines))
 
 -- the pages of the program: with buffers of 96 bytes or more, so many turns as there are lines write the listing of the bundle
 pub whole-text : (s names numbers : List ℕ) (room turns : ℕ) → Accepted s
-    → racesIn (totalsOf (chunksOf s)) names numbers ≡ racesOf (chunksOf s) → 96 ≤ room
-    → length (linesIn (totalsOf (chunksOf s)) names numbers) ≤ turns
-    → pagesFrom turns room (linesIn (totalsOf (chunksOf s)) names numbers) 0 ≡ listingText s
-unfolding linesIn listingText
+    → races_in (totals_of (chunks_of s)) names numbers ≡ races_of (chunks_of s) → 96 ≤ room
+    → length (lines_in (totals_of (chunks_of s)) names numbers) ≤ turns
+    → pages_from turns room (lines_in (totals_of (chunks_of s)) names numbers) 0 ≡ listing_text s
+unfolding lines_in listing_text
 whole-text s names numbers room turns a races h enough =
-    let t = totalsOf (chunksOf s) in
-    pages-whole turns room (linesIn t names numbers) 0 (λ i l. omega (arith, line-within t names numbers (counts-small s a) i l)) (omega (arith, enough))
-    ∙ ap (λ (rs : List _). backToBack (linesOf t rs)) races
-    ∙ rw (a, listingText)
+    let t = totals_of (chunks_of s) in
+    pages-whole turns room (lines_in t names numbers) 0 (λ i l. omega (arith, line-within t names numbers (counts-small s a) i l)) (omega (arith, enough))
+    ∙ ap (λ (rs : List _). back_to_back (lines_of t rs)) races
+    ∙ rw (a, listing_text)

@@ -1,14 +1,9 @@
 -- What the inner functions of filling a page promise.
-use mathlib.Core.Path.{_≡_}
-use mathlib.Core.Bool.{cond}
-use mathlib.Core.List.{List}
-use Prim.Native.Nat.{ℕ, _+_, _-_, _*_, _/_, _%_, _<_}
-use lib.Dec.{leb}
-use lib.ListN.{length, getD}
-use Rattle·bundle.specs.Commands.{written}
-use Rattle·text.specs.Inner.{accessText}
-use Rattle·text.specs.Sides.{sideText, sidesLine}
-use Rattle·listing.specs.Listing.{nameOf, siteOf}
+use Rattle.std.specs.Prelude.{◌≡◌, cond, List, ℕ, ◌+◌, ◌-◌, ◌*◌, ◌/◌, ◌%◌, ◌<◌, leb, length, get_or}
+use Rattle.bundle.specs.Commands.{written}
+use Rattle.text.specs.Inner.{access_text}
+use Rattle.text.specs.Sides.{side_text, sides_line}
+use Rattle.listing.specs.Listing.{name_of, site_of}
 
 -- a line put at a position where it fits there; else nothing changes
 pub record PutNext (line before : List ℕ) (at r : ℕ) (after : List ℕ) : Type 0 where
@@ -16,14 +11,14 @@ pub record PutNext (line before : List ℕ) (at r : ℕ) (after : List ℕ) : Ty
   pub bytes : after ≡ cond (leb (length line) (length before - at)) (written before at line) before
 
 -- the text of the i-th access, by its two words
-abbrev pub textOf : List ℕ → ℕ → List ℕ
-textOf names i = accessText (nameOf (getD names (2 * i) 0)) (siteOf (getD names (2 * i + 1) 0))
+abbrev pub text_of : List ℕ → ℕ → List ℕ
+text_of names i = access_text (name_of (get_or names (2 * i) 0)) (site_of (get_or names (2 * i + 1) 0))
 
 -- a table that holds the texts of the first accesses
 pub record Sides (names : List ℕ) (count : ℕ) (sides : List ℕ) : Type 0 where
   pub long : length sides ≡ 32768
-  pub texts : (i : ℕ) → i < count → sideText sides i ≡ textOf names i
+  pub texts : (i : ℕ) → i < count → side_text sides i ≡ text_of names i
 
 -- the line of a race's number by the table
-abbrev pub numberLine : ℕ → List ℕ → List ℕ
-numberLine number sides = sidesLine (number / 1048576 % 4294967296) sides (number / 1024 % 1024) (number % 1024)
+abbrev pub number_line : ℕ → List ℕ → List ℕ
+number_line number sides = sides_line (number / 1048576 % 4294967296) sides (number / 1024 % 1024) (number % 1024)

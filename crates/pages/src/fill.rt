@@ -1,18 +1,15 @@
 // The pages of a listing: as many whole lines as a lent buffer takes.
-use crate::line::put_line_at;
-use crate::line::shown;
-use crate::sides::fill_sides;
-use crate::sides::worth;
+ghost use Rattle.std.specs.Prelude.{◌≡◌, [], ◌+◌, length, get_or, take};
+ghost use Rattle.pages.specs.Listings.{lines_in, page_from};
+ghost use Rattle.pages.specs.Inner.{PutNext, Sides};
+
+use crate::line::{put_line_at, shown};
+use crate::sides::{fill_sides, worth};
 use bundle::command::Putting;
 use listing::list::Totals;
-ghost use mathlib.Core.Path.{_≡_};
-ghost use mathlib.Core.List.{[]};
-ghost use Prim.Native.Nat.{_+_};
-ghost use lib.ListN.{length, getD, take};
-ghost use Rattle·pages·specs.specs.Listings.{linesIn, pageFrom};
-ghost use Rattle·pages·specs.specs.Inner.{PutNext, Sides};
 
 // What a page holds: the lines before `next`, in so many bytes.
+#[derive(Clone, Copy)]
 pub struct Page {
     pub next: usize,
     pub size: usize,
@@ -20,7 +17,7 @@ pub struct Page {
 
 // How many lines the listing has.
 fn lines_in(races: u32, numbers: &[u64]) -> usize
-    ensures { λ r. ⌜ r ≡ length (take races (now (numbers .entry))) + 2 ⌝ }
+    ensures { result ≡ length (take races numbers.now) + 2 }
 {
     shown(races, numbers) as usize + 2
 }
@@ -36,18 +33,11 @@ fn put_next(
     buffer: &mut [u8],
     position: usize,
 ) -> usize
-    requires { ⌜ Sides (now names) count (now sides) ⌝ }
-    ensures { λ r. ⌜ PutNext (getD (linesIn totals (now (names .entry)) (now (numbers .entry))) index []) (now (buffer .entry)) position r (now (buffer .exit)) ⌝ }
+    requires { Sides names.now count sides.now }
+    ensures { PutNext (get_or (lines_in totals names.now numbers.now) index []) buffer.old position result buffer.new }
 {
     match put_line_at(
-        totals,
-        names,
-        numbers,
-        sides,
-        count,
-        index,
-        buffer,
-        position,
+        totals, names, numbers, sides, count, index, buffer, position,
     ) {
         Putting::Written(next) => next,
         Putting::Refused { place: _, cause: _ } => position,
@@ -64,8 +54,8 @@ fn fill_with(
     from: usize,
     buffer: &mut [u8],
 ) -> Page
-    requires { ⌜ Sides (now names) count (now sides) ⌝ }
-    ensures { λ r. ⌜ pageFrom (linesIn totals (now (names .entry)) (now (numbers .entry))) from (now (buffer .entry)) ≡ record { page = r; buffer = now (buffer .exit) } ⌝ }
+    requires { Sides names.now count sides.now }
+    ensures { page_from (lines_in totals names.now numbers.now) from buffer.old ≡ record { page = result; buffer = buffer.new } }
 {
     let lines = lines_in(totals.races, numbers);
     let mut next = from;
@@ -90,7 +80,7 @@ pub fn fill_page(
     from: usize,
     buffer: &mut [u8],
 ) -> Page
-    ensures { λ r. ⌜ pageFrom (linesIn totals (now (names .entry)) (now (numbers .entry))) from (now (buffer .entry)) ≡ record { page = r; buffer = now (buffer .exit) } ⌝ }
+    ensures { page_from (lines_in totals names.now numbers.now) from buffer.old ≡ record { page = result; buffer = buffer.new } }
 {
     let mut sides = [0u8; 32768];
     let count = worth(totals.accesses, totals.races);

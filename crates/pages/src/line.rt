@@ -1,27 +1,20 @@
 // A line of a listing, by its index: the counts, each race, and the last line.
+ghost use Rattle.std.specs.Prelude.{◌≡◌, [], ◌&&◌, ◌/◌, ◌%◌, ltb, length, get_or, take};
+ghost use Rattle.bundle.specs.Commands.{putting_of};
+ghost use Rattle.text.specs.Lines.{race_line, printed_at};
+ghost use Rattle.listing.specs.Listing.{race_in};
+ghost use Rattle.pages.specs.Listings.{last_line, lines_in};
+ghost use Rattle.pages.specs.Inner.{Sides, number_line};
+
 use bundle::command::Putting;
 use listing::list::Totals;
 use listing::numbers::race_in;
-use text::lines::put_counts;
-use text::lines::put_pairs;
-use text::lines::put_race;
-use text::lines::put_race_free;
+use text::lines::{put_counts, put_pairs, put_race, put_race_free};
 use text::sides::put_sides;
-ghost use mathlib.Core.Path.{_≡_};
-ghost use mathlib.Core.List.{[]};
-ghost use mathlib.Core.Bool.{_&&_};
-ghost use Prim.Native.Nat.{_/_, _%_};
-ghost use lib.Dec.{ltb};
-ghost use lib.ListN.{length, getD, take};
-ghost use Rattle·bundle.specs.Commands.{puttingOf};
-ghost use Rattle·text.specs.Lines.{raceLine, printedAt};
-ghost use Rattle·listing.specs.Listing.{raceIn};
-ghost use Rattle·pages·specs.specs.Listings.{lastLine, linesIn};
-ghost use Rattle·pages·specs.specs.Inner.{Sides, numberLine};
 
 // How many of the races have a number.
 pub fn shown(races: u32, numbers: &[u64]) -> u32
-    ensures { λ r. ⌜ r ≡ length (take races (now (numbers .entry))) ⌝ }
+    ensures { result ≡ length (take races numbers.now) }
 {
     if numbers.len() < races as usize {
         return numbers.len() as u32;
@@ -31,15 +24,15 @@ pub fn shown(races: u32, numbers: &[u64]) -> u32
 
 // Whether both accesses of a race are among the first names.
 fn both_made(number: u64, count: usize) -> bool
-    ensures { λ r. ⌜ r ≡ (ltb (number / 1024 % 1024) count && ltb (number % 1024) count) ⌝ }
+    ensures { result ≡ (ltb (number / 1024 % 1024) count && ltb (number % 1024) count) }
 {
     (((number / 1024 % 1024) as usize) < count) & (((number % 1024) as usize) < count)
 }
 
 // Puts a race's line, with the texts of its accesses from the table.
 fn put_made(number: u64, sides: &[u8; 32768], buffer: &mut [u8], position: usize) -> Putting
-    requires { ⌜ length (now sides) ≡ 32768 ⌝ }
-    ensures { λ r. ⌜ printedAt (numberLine number (now (sides .entry))) (now (buffer .entry)) position ≡ record { answer = puttingOf r; buffer = now (buffer .exit) } ⌝ }
+    requires { length sides.now ≡ 32768 }
+    ensures { printed_at (number_line number sides.now) buffer.old position ≡ record { answer = putting_of result; buffer = buffer.new } }
 {
     put_sides(
         (number / 1048576 % 4294967296) as u32,
@@ -60,8 +53,8 @@ fn put_number(
     buffer: &mut [u8],
     position: usize,
 ) -> Putting
-    requires { ⌜ Sides (now names) count (now sides) ⌝ }
-    ensures { λ r. ⌜ printedAt (raceLine (raceIn (now (names .entry)) number)) (now (buffer .entry)) position ≡ record { answer = puttingOf r; buffer = now (buffer .exit) } ⌝ }
+    requires { Sides names.now count sides.now }
+    ensures { printed_at (race_line (race_in names.now number)) buffer.old position ≡ record { answer = putting_of result; buffer = buffer.new } }
 {
     if both_made(number, count) {
         return put_made(number, sides, buffer, position);
@@ -71,7 +64,7 @@ fn put_number(
 }
 
 fn put_last(races: u32, buffer: &mut [u8], position: usize) -> Putting
-    ensures { λ r. ⌜ printedAt (lastLine races) (now (buffer .entry)) position ≡ record { answer = puttingOf r; buffer = now (buffer .exit) } ⌝ }
+    ensures { printed_at (last_line races) buffer.old position ≡ record { answer = putting_of result; buffer = buffer.new } }
 {
     if races == 0 {
         return put_race_free(buffer, position);
@@ -90,8 +83,8 @@ pub fn put_line_at(
     buffer: &mut [u8],
     position: usize,
 ) -> Putting
-    requires { ⌜ Sides (now names) count (now sides) ⌝ }
-    ensures { λ r. ⌜ printedAt (getD (linesIn totals (now (names .entry)) (now (numbers .entry))) index []) (now (buffer .entry)) position ≡ record { answer = puttingOf r; buffer = now (buffer .exit) } ⌝ }
+    requires { Sides names.now count sides.now }
+    ensures { printed_at (get_or (lines_in totals names.now numbers.now) index []) buffer.old position ≡ record { answer = putting_of result; buffer = buffer.new } }
 {
     if index == 0 {
         return put_counts(

@@ -1,13 +1,11 @@
 // Prints the listing of the bundle on standard input: the counts, each race, and the last line; or the refusal.
+#![tactic(auto)]
+
 mod print;
 
 use libc::STDIN_FILENO;
-use listing::list::Listed;
-use listing::list::MOST_NAME_WORDS;
-use listing::list::list_races;
-use print::print_few;
-use print::print_many;
-use print::print_refused;
+use listing::list::{Listed, MOST_NAME_WORDS, list_races};
+use print::{print_few, print_many, print_refused};
 use verdict::judge::WORK_WORDS;
 
 // Lists with room for the races of any bundle. Where even that were too little it would call itself: the compiler keeps a function that

@@ -1,7 +1,6 @@
 // Writing a listing to standard output, a page at a time.
 use bundle::command::Putting;
-use bundle::refusal::Cause;
-use bundle::refusal::number;
+use bundle::refusal::{Cause, number};
 use libc::STDOUT_FILENO;
 use listing::list::Totals;
 use pages::fill::fill_page;

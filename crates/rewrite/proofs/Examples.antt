@@ -1,13 +1,13 @@
 -- Rewriting by computation: the chunks of document 01's example E in other orders, teams 2 and 256, and buffers of several lengths.
 use Prim.Native.Nat.{ℕ}
-use mathlib.Core.Path.{_≡_, refl}
-use mathlib.Core.List.{List, [], _∷_, _++_, map}
+use mathlib.Core.Path.{◌≡◌, refl}
+use mathlib.Core.List.{List, [], ◌∷◌, ◌++◌, map}
 use lib.ListN.{replicate}
-use Rattle·bundle.specs.Answer.{gives, refuses}
-use Rattle·bundle.specs.Commands.{Lent}
-use Rattle·bundle.proofs.Computing.{bundle-computes}
-use Rattle·verdict.specs.Accesses.{lexLess}
-use Rattle·rewrite·specs.specs.Rewriting.{insertBy, sortedBy, chunkName, rewritten, fillingOf, rewriteAs, rewriteOf}
+use Rattle.bundle.specs.Answer.{gives, refuses}
+use Rattle.bundle.specs.Commands.{Lent}
+use Rattle.bundle.proofs.Computing.{bundle-computes}
+use Rattle.verdict.specs.Accesses.{lex_less}
+use Rattle.rewrite.specs.Rewriting.{insert_by, sorted_by, chunk_name, rewritten, filling_of, rewrite_as, rewrite_of}
 
 root : List ℕ
 root = 0x01 ∷ 0x00 ∷ 0x00 ∷ 0x00 ∷ 0x10 ∷ 0x01 ∷ 0x00 ∷ 0x02 ∷ 0x02 ∷ []
@@ -68,6 +68,6 @@ examples =
     }
     ∷ []
 
-pub rewrite-examples : map (λ (e : Example). rewriteOf (e .bundle) (e .buffer)) examples ≡ map (λ (e : Example). e .wanted) examples
-unfolding bundle-computes lexLess insertBy sortedBy chunkName rewritten fillingOf rewriteAs rewriteOf examples
+pub rewrite-examples : map (λ (e : Example). rewrite_of e.bundle e.buffer) examples ≡ map (λ (e : Example). e.wanted) examples
+unfolding bundle-computes lex_less insert_by sorted_by chunk_name rewritten filling_of rewrite_as rewrite_of examples
 rewrite-examples = refl

@@ -1,60 +1,56 @@
 -- A.6's converter: "It puts each access into the wanted group with the same operands and copies the rest".
-use Prim.Native.Nat.{ℕ}
-use mathlib.Core.Bool.{Bool, true, false, cond}
-use mathlib.Core.List.{List, map}
-use mathlib.Core.Option.{Option}
-use lib.ListN.{length}
-use lib.Dec.{ltb}
-use Rattle·bundle.specs.Answer.{Answer, gives, refuses, whenGiven}
-use Rattle·bundle.specs.Lists.{first, concatMap, fromOption}
-use Rattle·bundle.specs.Commands.{Lent, bytesOf}
-use Rattle·bundle.specs.Cases.{onAccess}
-use Rattle·bundle.specs.Chunks.{Placed, frontOf}
-use Rattle·bundle.specs.Check.{checkOf}
-use Rattle·bundle.specs.declared.command.Access.{Access}
-use Rattle·bundle.specs.declared.command.Command.{Command}
-use Rattle·bundle.specs.declared.command.Command.the-variants as Com
-use Rattle·rewrite·specs.specs.Rewriting.{fillingOf}
+use Rattle.std.specs.Prelude.{ℕ, Bool, true, false, cond, List, map, length, ltb}
+use Rattle.std.proofs.Math.Option.{Option}
+use Rattle.bundle.specs.Answer.{Answer, gives, refuses, when_given}
+use Rattle.bundle.specs.Lists.{first, concat_map, from_option}
+use Rattle.bundle.specs.Commands.{Lent, bytes_of}
+use Rattle.bundle.specs.Cases.{on_access}
+use Rattle.bundle.specs.Chunks.{Placed, front_of}
+use Rattle.bundle.specs.Check.{check_of}
+use Rattle.bundle.specs.declared.command.Access.{Access}
+use Rattle.bundle.specs.declared.command.Command.{Command}
+use Rattle.bundle.specs.declared.command.Command.TheVariants as Com
+use Rattle.rewrite.specs.Rewriting.{filling_of}
 
 -- an access in the wide or the narrow group, "with the same operands"; every other command as it is
-unfoldable pub inGroup : Bool → Access → Access
-inGroup wide a = record { kind = a .kind; wide = wide; site = a .site; range = a .range }
+unfoldable pub in_group : Bool → Access → Access
+in_group wide a = record { kind = a.kind; wide = wide; site = a.site; range = a.range }
 
 unfoldable pub regrouped : Bool → Command → Command
-regrouped wide c = onAccess c (λ a. Com.Access (inGroup wide a)) c
+regrouped wide c = on_access c (λ a. Com.Access (in_group wide a)) c
 
 -- the bundle's commands, each in the wanted group, back to back
-unfoldable pub commandsIn : List ℕ → List Command
-commandsIn s = map (λ (p : Placed). p .command) (frontOf s .placed)
+unfoldable pub commands_in : List ℕ → List Command
+commands_in s = map (λ (p : Placed). p.command) (front_of s).placed
 
 unfoldable pub converted : Bool → List ℕ → List ℕ
-converted wide s = concatMap bytesOf (map (regrouped wide) (commandsIn s))
+converted wide s = concat_map bytes_of (map (regrouped wide) (commands_in s))
 
 -- "To wide refuses 1, at 0, after check's refusals .. when the result passes 65,536 bytes"
-unfoldable pub toWide : List ℕ → Answer (List ℕ)
-toWide s =
-    whenGiven (checkOf s)
+unfoldable pub to_wide : List ℕ → Answer (List ℕ)
+to_wide s =
+    when_given (check_of s)
     (λ u. cond (ltb 65536 (length (converted true s))) (refuses 1 0) (gives (converted true s)))
 
 -- "21, in the converter, a site over 65,535, at the first such command, after check's refusals"
-unfoldable pub siteOver : Command → Bool
-siteOver = onAccess false (λ a. ltb 65535 (a .site))
+unfoldable pub site_over : Command → Bool
+site_over = on_access false (λ a. ltb 65535 a.site)
 
-unfoldable pub firstOver : List Placed → Option Placed
-firstOver = first (λ p. siteOver (p .command))
+unfoldable pub first_over : List Placed → Option Placed
+first_over = first (λ p. site_over p.command)
 
-unfoldable pub toNarrow : List ℕ → Answer (List ℕ)
-toNarrow s =
-    whenGiven (checkOf s)
-    (λ u. fromOption (gives (converted false s)) (λ p. refuses 21 (p .at)) (firstOver (frontOf s .placed)))
+unfoldable pub to_narrow : List ℕ → Answer (List ℕ)
+to_narrow s =
+    when_given (check_of s)
+    (λ u. from_option (gives (converted false s)) (λ p. refuses 21 p.at) (first_over (front_of s).placed))
 
-abbrev pub toGroup : Bool → List ℕ → Answer (List ℕ)
-toGroup wide s = cond wide (toWide s) (toNarrow s)
+abbrev pub to_group : Bool → List ℕ → Answer (List ℕ)
+to_group wide s = cond wide (to_wide s) (to_narrow s)
 
 -- the result put over the front of the second buffer, "a short buffer is 17, at 0": the answer and the buffer afterwards
-unfoldable pub handedTo : List ℕ → Answer (List ℕ) → Lent ℕ
-handedTo buffer (gives bytes) = fillingOf buffer bytes
-handedTo buffer (refuses n p) = record { answer = refuses n p; buffer = buffer }
+unfoldable pub handed_to : List ℕ → Answer (List ℕ) → Lent ℕ
+handed_to buffer (gives bytes) = filling_of buffer bytes
+handed_to buffer (refuses n p) = record { answer = refuses n p; buffer = buffer }
 
-unfoldable pub convertOf : Bool → List ℕ → List ℕ → Lent ℕ
-convertOf wide s buffer = handedTo buffer (toGroup wide s)
+unfoldable pub convert_of : Bool → List ℕ → List ℕ → Lent ℕ
+convert_of wide s buffer = handed_to buffer (to_group wide s)

@@ -1,28 +1,22 @@
 // The accesses of a bundle put into one group, wide or narrow, in a lent buffer; the other commands as they are.
+ghost use Rattle.std.specs.Prelude.{◌≡◌, true, false, ◌+◌, ◌≤◌, length};
+ghost use Rattle.bundle.specs.Commands.{bytes_of, written};
+ghost use Rattle.bundle.specs.Check.{Accepted};
+ghost use Rattle.rewrite.specs.Rewriting.{rewriting_of, filling_of};
+ghost use Rattle.rewrite.specs.Converting.{regrouped, site_over, converted, convert_of};
+ghost use Rattle.rewrite.specs.Conversion.{Converts};
+ghost use Rattle.rewrite.specs.Measuring.{measured_after, measured_of, Puttable, Convertible};
+
 use crate::rewrite::Rewriting;
 use bundle::answer::Checking;
 use bundle::check::check;
-use bundle::command::Access;
-use bundle::command::Command;
-use bundle::command::Putting;
-use bundle::command::Reading;
-use bundle::command::put_command;
-use bundle::command::read_command;
+use bundle::command::{Access, Command, Putting, Reading, put_command, read_command};
 use bundle::limits::MOST_BYTES;
 use bundle::refusal::Cause;
-ghost use mathlib.Core.Path.{_≡_};
-ghost use mathlib.Core.Bool.{true, false};
-ghost use Prim.Native.Nat.{_+_, _≤_};
-ghost use lib.ListN.{length};
-ghost use Rattle·bundle.specs.Commands.{bytesOf, written};
-ghost use Rattle·bundle.specs.Check.{Accepted};
-ghost use Rattle·rewrite·specs.specs.Rewriting.{rewritingOf, fillingOf};
-ghost use Rattle·rewrite·specs.specs.Converting.{regrouped, siteOver, converted, convertOf};
-ghost use Rattle·rewrite·specs.specs.Conversion.{Converts};
-ghost use Rattle·rewrite·specs.specs.Measuring.{measuredAfter, measuredOf, Puttable, Convertible};
 
 // What is known of the result after some commands: its bytes so far, and the offset of the first command with a site over 65,535, if there
 // was one.
+#[derive(Clone, Copy)]
 pub struct Measured {
     pub size: usize,
     pub over: bool,
@@ -31,7 +25,7 @@ pub struct Measured {
 
 // The command in the wanted group, with the same operands.
 fn regroup(command: Command, wide: bool) -> Command
-    ensures { λ r. ⌜ r ≡ regrouped wide command ⌝ }
+    ensures { result ≡ regrouped wide command }
 {
     match command {
         Command::Member { team: _, member: _ } => command,
@@ -56,7 +50,7 @@ fn regroup(command: Command, wide: bool) -> Command
 
 // How many bytes the command has in the wanted group.
 fn size_in(command: Command, wide: bool) -> usize
-    ensures { λ r. ⌜ r ≡ length (bytesOf (regrouped wide command)) ⌝ }
+    ensures { result ≡ length (bytes_of (regrouped wide command)) }
 {
     match command {
         Command::Member { team: _, member: _ } => 4,
@@ -72,7 +66,7 @@ fn size_in(command: Command, wide: bool) -> usize
 
 // Whether the command has a site over 65,535.
 fn site_over(command: Command) -> bool
-    ensures { λ r. ⌜ r ≡ siteOver command ⌝ }
+    ensures { result ≡ site_over command }
 {
     match command {
         Command::Member { team: _, member: _ } => false,
@@ -88,8 +82,8 @@ fn site_over(command: Command) -> bool
 
 // One more command, at an offset.
 fn measure_one(before: Measured, command: Command, at: usize, wide: bool) -> Measured
-    requires { ⌜ before .size ≤ 1000000 ⌝ }
-    ensures { λ r. ⌜ r ≡ measuredAfter wide before (record { at = at; command = command }) ⌝ }
+    requires { before.size ≤ 1000000 }
+    ensures { result ≡ measured_after wide before (record { at = at; command = command }) }
 {
     let size = before.size + size_in(command, wide);
     if before.over {
@@ -108,8 +102,8 @@ fn measure_one(before: Measured, command: Command, at: usize, wide: bool) -> Mea
 
 // All commands of an accepted bundle, none of which is refused.
 fn measure(bytes: &[u8], wide: bool) -> Measured
-    requires { ⌜ Accepted (now bytes) ⌝ }
-    ensures { λ r. ⌜ r ≡ measuredOf wide (now (bytes .entry)) ⌝ }
+    requires { Accepted bytes.now }
+    ensures { result ≡ measured_of wide bytes.now }
 {
     let mut at = 0;
     let mut measured = Measured {
@@ -129,8 +123,8 @@ fn measure(bytes: &[u8], wide: bool) -> Measured
 
 // Puts the command into the buffer in the wanted group; the answer is the position after it.
 fn put_regrouped(command: Command, wide: bool, buffer: &mut [u8], position: usize) -> usize
-    requires { ⌜ Puttable wide command (length (now buffer)) position ⌝ }
-    ensures { λ r. ⌜ (r ≡ position + length (bytesOf (regrouped wide command))) × (now (buffer .exit) ≡ written (now (buffer .entry)) position (bytesOf (regrouped wide command))) ⌝ }
+    requires { Puttable wide command (length buffer.old) position }
+    ensures { (result ≡ position + length (bytes_of (regrouped wide command))) × (buffer.new ≡ written buffer.old position (bytes_of (regrouped wide command))) }
 {
     match put_command(regroup(command, wide), buffer, position) {
         Putting::Written(next) => next,
@@ -140,8 +134,8 @@ fn put_regrouped(command: Command, wide: bool, buffer: &mut [u8], position: usiz
 
 // Puts all commands over the front of the buffer.
 fn put_all(bytes: &[u8], wide: bool, buffer: &mut [u8])
-    requires { ⌜ Convertible wide (now bytes) × (length (converted wide (now bytes)) ≤ length (now buffer)) ⌝ }
-    ensures { λ _. ⌜ now (buffer .exit) ≡ written (now (buffer .entry)) 0 (converted wide (now (bytes .entry))) ⌝ }
+    requires { Convertible wide bytes.now × (length (converted wide bytes.now) ≤ length buffer.old) }
+    ensures { buffer.new ≡ written buffer.old 0 (converted wide bytes.now) }
 {
     let mut at = 0;
     let mut position = 0;
@@ -156,8 +150,8 @@ fn put_all(bytes: &[u8], wide: bool, buffer: &mut [u8])
 
 // 17, or the result of that size in the buffer.
 fn hand_over(bytes: &[u8], wide: bool, size: usize, buffer: &mut [u8]) -> Rewriting
-    requires { ⌜ Convertible wide (now bytes) × (size ≡ length (converted wide (now bytes))) ⌝ }
-    ensures { λ r. ⌜ record { answer = rewritingOf r; buffer = now (buffer .exit) } ≡ fillingOf (now (buffer .entry)) (converted wide (now (bytes .entry))) ⌝ }
+    requires { Convertible wide bytes.now × (size ≡ length (converted wide bytes.now)) }
+    ensures { record { answer = rewriting_of result; buffer = buffer.new } ≡ filling_of buffer.old (converted wide bytes.now) }
 {
     if buffer.len() < size {
         return Rewriting::Refused {
@@ -170,8 +164,8 @@ fn hand_over(bytes: &[u8], wide: bool, size: usize, buffer: &mut [u8]) -> Rewrit
 }
 
 fn widen_accepted(bytes: &[u8], buffer: &mut [u8]) -> Rewriting
-    requires { ⌜ Accepted (now bytes) ⌝ }
-    ensures { λ r. ⌜ record { answer = rewritingOf r; buffer = now (buffer .exit) } ≡ convertOf true (now (bytes .entry)) (now (buffer .entry)) ⌝ }
+    requires { Accepted bytes.now }
+    ensures { record { answer = rewriting_of result; buffer = buffer.new } ≡ convert_of true bytes.now buffer.old }
 {
     let measured = measure(bytes, true);
     if MOST_BYTES < measured.size {
@@ -184,8 +178,8 @@ fn widen_accepted(bytes: &[u8], buffer: &mut [u8]) -> Rewriting
 }
 
 fn narrow_accepted(bytes: &[u8], buffer: &mut [u8]) -> Rewriting
-    requires { ⌜ Accepted (now bytes) ⌝ }
-    ensures { λ r. ⌜ record { answer = rewritingOf r; buffer = now (buffer .exit) } ≡ convertOf false (now (bytes .entry)) (now (buffer .entry)) ⌝ }
+    requires { Accepted bytes.now }
+    ensures { record { answer = rewriting_of result; buffer = buffer.new } ≡ convert_of false bytes.now buffer.old }
 {
     let measured = measure(bytes, false);
     if measured.over {
@@ -199,8 +193,8 @@ fn narrow_accepted(bytes: &[u8], buffer: &mut [u8]) -> Rewriting
 
 // Puts an accepted bundle into the buffer with its accesses in the wide group. Refused, the buffer is untouched.
 pub fn to_wide(bytes: &[u8], buffer: &mut [u8]) -> Rewriting
-    ensures { λ r. ⌜ record { answer = rewritingOf r; buffer = now (buffer .exit) } ≡ convertOf true (now (bytes .entry)) (now (buffer .entry)) ⌝ }
-    ensures conversion { λ _. ⌜ (Accepted (now (bytes .entry)) → Converts (now (bytes .entry))) ⌝ }
+    ensures buffer_after { record { answer = rewriting_of result; buffer = buffer.new } ≡ convert_of true bytes.now buffer.old }
+    ensures conversion { Accepted bytes.now → Converts bytes.now }
 {
     match check(bytes) {
         Checking::Accepted => widen_accepted(bytes, buffer),
@@ -210,8 +204,8 @@ pub fn to_wide(bytes: &[u8], buffer: &mut [u8]) -> Rewriting
 
 // The same with its accesses in the narrow group.
 pub fn to_narrow(bytes: &[u8], buffer: &mut [u8]) -> Rewriting
-    ensures { λ r. ⌜ record { answer = rewritingOf r; buffer = now (buffer .exit) } ≡ convertOf false (now (bytes .entry)) (now (buffer .entry)) ⌝ }
-    ensures conversion { λ _. ⌜ (Accepted (now (bytes .entry)) → Converts (now (bytes .entry))) ⌝ }
+    ensures buffer_after { record { answer = rewriting_of result; buffer = buffer.new } ≡ convert_of false bytes.now buffer.old }
+    ensures conversion { Accepted bytes.now → Converts bytes.now }
 {
     match check(bytes) {
         Checking::Accepted => narrow_accepted(bytes, buffer),

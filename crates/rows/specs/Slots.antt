@@ -1,13 +1,10 @@
 -- Inner: the words that hold records, each with the number by which records are ordered.
-use Prim.Native.Nat.{ℕ, _+_, _*_, _/_, _%_}
-use mathlib.Core.Path.{_≡_}
-use mathlib.Core.List.{List, [], _∷_, _++_}
-use lib.ListN.{length, getD}
-use Rattle·bundle.specs.Index.{partsOf, table}
-use Rattle·bundle.specs.declared.index.Parts.{Parts}
-use Rattle·rows·specs.specs.declared.row.Row.{Row}
-use Rattle·rows·specs.specs.declared.row.TeamRow.{TeamRow}
-use Rattle·rows·specs.specs.declared.row.Span.{Span}
+use Rattle.std.specs.Prelude.{ℕ, ◌+◌, ◌*◌, ◌/◌, ◌%◌, ◌≡◌, List, [], ◌∷◌, ◌++◌, length, get_or}
+use Rattle.bundle.specs.Index.{parts_of, table}
+use Rattle.bundle.specs.declared.index.Parts.{Parts}
+use Rattle.rows.specs.declared.row.Row.{Row}
+use Rattle.rows.specs.declared.row.TeamRow.{TeamRow}
+use Rattle.rows.specs.declared.row.Span.{Span}
 
 -- a record with its number
 pub record Slot : Type 0 where
@@ -15,54 +12,54 @@ pub record Slot : Type 0 where
   pub row : Row
 
 -- the record of a team's interval
-unfoldable pub rowMade : TeamRow → Span → Row
-rowMade team i =
+unfoldable pub row_made : TeamRow → Span → Row
+row_made team i =
     record {
-      pid = team .team;
-      ppid = team .parent;
-      bid = i .interval;
-      offset = i .member + team .size * i .joined;
-      span = team .size;
-      level = team .level;
-      begin = i .begin;
-      size = i .size;
+      pid = team.team;
+      ppid = team.parent;
+      bid = i.interval;
+      offset = i.member + team.size * i.joined;
+      span = team.size;
+      level = team.level;
+      begin = i.begin;
+      size = i.size;
     }
 
 -- team, member, interval and the place of the record among all as one number
-unfoldable pub nameWord : ℕ → ℕ → ℕ → ℕ → ℕ
-nameWord team member interval place = ((team * 256 + member) * 65536 + interval) * 65536 + place
+unfoldable pub name_word : ℕ → ℕ → ℕ → ℕ → ℕ
+name_word team member interval place = ((team * 256 + member) * 65536 + interval) * 65536 + place
 
-unfoldable pub slotMade : TeamRow → Span → ℕ → Slot
-slotMade team i place = record { name = nameWord (team .team) (i .member) (i .interval) place; row = rowMade team i }
+unfoldable pub slot_made : TeamRow → Span → ℕ → Slot
+slot_made team i place = record { name = name_word team.team i.member i.interval place; row = row_made team i }
 
 -- the parts of its two words
-unfoldable pub firstParts : TeamRow → Span → Parts
-firstParts team i =
-    record { first = i .interval; second = team .parent; third = team .size; fourth = team .level; fifth = team .team }
+unfoldable pub first_parts : TeamRow → Span → Parts
+first_parts team i =
+    record { first = i.interval; second = team.parent; third = team.size; fourth = team.level; fifth = team.team }
 
-unfoldable pub secondParts : Span → Parts
-secondParts i =
-    record { first = i .begin; second = i .size % 65536; third = i .member; fourth = i .size / 65536; fifth = i .joined }
+unfoldable pub second_parts : Span → Parts
+second_parts i =
+    record { first = i.begin; second = i.size % 65536; third = i.member; fourth = i.size / 65536; fifth = i.joined }
 
 -- the record that two words hold, and the record of a place with its number
-unfoldable pub heldIn : Parts → Parts → Row
-heldIn one other =
-    rowMade
-    (record { team = one .fifth; parent = one .second; size = one .third; level = one .fourth })
-    (record { member = other .third; interval = one .first; joined = other .fifth; begin = other .first; size = other .second + 65536 * other .fourth })
+unfoldable pub held_in : Parts → Parts → Row
+held_in one other =
+    row_made
+    (record { team = one.fifth; parent = one.second; size = one.third; level = one.fourth })
+    (record { member = other.third; interval = one.first; joined = other.fifth; begin = other.first; size = other.second + 65536 * other.fourth })
 
-unfoldable pub slotAt : List ℕ → ℕ → Slot
-slotAt words i =
+unfoldable pub slot_at : List ℕ → ℕ → Slot
+slot_at words i =
     record {
-      name = getD words i 0;
-      row = heldIn (partsOf (getD words (i + 512) 0)) (partsOf (getD words (i + 1024) 0));
+      name = get_or words i 0;
+      row = held_in (parts_of (get_or words (i + 512) 0)) (parts_of (get_or words (i + 1024) 0));
     }
 
 -- the record whose place the k-th number holds
-unfoldable pub rowIn : List ℕ → ℕ → Row
-rowIn words k = slotAt words (getD words k 0 % 65536) .row
+unfoldable pub row_in : List ℕ → ℕ → Row
+row_in words k = (slot_at words (get_or words k 0 % 65536)).row
 
 -- so many records more behind the first n
-pub record Grown (words words′ : List ℕ) (n : ℕ) (slots : List Slot) : Type 0 where
-  pub long : length words′ ≡ length words
-  pub rows : table (slotAt words′) (n + length slots) ≡ table (slotAt words) n ++ slots
+pub record Grown (words words' : List ℕ) (n : ℕ) (slots : List Slot) : Type 0 where
+  pub long : length words' ≡ length words
+  pub rows : table (slot_at words') (n + length slots) ≡ table (slot_at words) n ++ slots

@@ -1,21 +1,17 @@
 // Given records, held against those of a bundle.
-use crate::plan::Layout;
-use crate::plan::lay_out;
-use crate::row::ROW_WORDS;
-use crate::row::Row;
-use crate::row::row_at;
-use crate::row::same_row;
+ghost use Rattle.std.specs.Prelude.{◌≡◌, ◌+◌, ◌^◌, ◌≤◌, ◌<◌, length};
+ghost use Rattle.bundle.specs.Index.{table};
+ghost use Rattle.rows.specs.Rows.{agreeing, check_rows_of, row_checking_of};
+ghost use Rattle.rows.specs.Slots.{row_in};
+ghost use Rattle.rows.specs.Planning.{comparable, same_after, told_of};
+
+use crate::plan::{Layout, lay_out};
+use crate::row::{ROW_WORDS, Row, row_at, same_row};
 use bundle::answer::Checking;
 use bundle::refusal::Cause;
-ghost use mathlib.Core.Path.{_≡_};
-ghost use Prim.Native.Nat.{_+_, _^_, _≤_, _<_};
-ghost use lib.ListN.{length};
-ghost use Rattle·bundle.specs.Index.{table};
-ghost use Rattle·rows·specs.specs.Rows.{agreeing, checkRowsOf, rowCheckingOf};
-ghost use Rattle·rows·specs.specs.Slots.{rowIn};
-ghost use Rattle·rows·specs.specs.Planning.{comparable, sameAfter, toldOf};
 
 // What is answered for given records: that they are those of the bundle, or a refusal.
+#[derive(Clone, Copy)]
 pub enum RowChecking {
     TheRows,
     Refused { place: usize, cause: Cause },
@@ -23,7 +19,7 @@ pub enum RowChecking {
 
 // How many records can be compared with so many given ones.
 pub(crate) fn least_of(layout: Layout, given: usize) -> usize
-    ensures { λ r. ⌜ r ≡ comparable layout given ⌝ }
+    ensures { result ≡ comparable layout given }
 {
     let all = layout.count;
     if given < all {
@@ -34,8 +30,8 @@ pub(crate) fn least_of(layout: Layout, given: usize) -> usize
 
 // How many records are the same from the front, after one more at index i.
 pub(crate) fn same_after(same: usize, i: usize, mine: Row, given: Row) -> usize
-    requires { ⌜ i + 1 < 2 ^ 64 ⌝ }
-    ensures { λ r. ⌜ r ≡ sameAfter same i mine given ⌝ }
+    requires { i + 1 < 2 ^ 64 }
+    ensures { result ≡ same_after same i mine given }
 {
     if (same == i) & same_row(mine, given) {
         return i + 1;
@@ -44,7 +40,7 @@ pub(crate) fn same_after(same: usize, i: usize, mine: Row, given: Row) -> usize
 }
 
 pub(crate) fn told_of(layout: Layout, same: usize, given: usize) -> RowChecking
-    ensures { λ r. ⌜ r ≡ toldOf (layout .checking) (layout .count) same given ⌝ }
+    ensures { result ≡ told_of layout.checking layout.count same given }
 {
     let count = layout.count;
     let checking = layout.checking;
@@ -64,8 +60,8 @@ pub(crate) fn told_of(layout: Layout, same: usize, given: usize) -> RowChecking
 
 // How many of the first `count` records are the same as those given, from the front.
 fn count_same(words: &[u64], count: usize, rows: &[Row]) -> usize
-    requires { ⌜ count ≤ length (now rows) ⌝ }
-    ensures { λ r. ⌜ r ≡ agreeing (table (rowIn (now (words .entry))) count) (now (rows .entry)) ⌝ }
+    requires { count ≤ length rows.now }
+    ensures { result ≡ agreeing (table (row_in words.now) count) rows.now }
 {
     let mut same = 0;
     let mut i = 0;
@@ -78,7 +74,7 @@ fn count_same(words: &[u64], count: usize, rows: &[Row]) -> usize
 
 // Tells whether the given records are those of the bundle.
 pub fn check_rows(bytes: &[u8], rows: &[Row]) -> RowChecking
-    ensures { λ r. ⌜ rowCheckingOf r ≡ checkRowsOf (now (bytes .entry)) (now (rows .entry)) ⌝ }
+    ensures { row_checking_of result ≡ check_rows_of bytes.now rows.now }
 {
     let mut words = [0u64; ROW_WORDS];
     let layout = lay_out(bytes, &mut words);

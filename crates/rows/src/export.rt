@@ -1,18 +1,15 @@
 // The records of a bundle put into a lent list.
-use crate::plan::Layout;
-use crate::plan::lay_out;
-use crate::row::ROW_WORDS;
-use crate::row::Row;
-use crate::row::row_at;
+ghost use Rattle.std.specs.Prelude.{◌≡◌, ◌≤◌, length};
+ghost use Rattle.rows.specs.Rows.{export_of, exporting_of};
+ghost use Rattle.rows.specs.Planning.{put_over, written_of, exported_of};
+
+use crate::plan::{Layout, lay_out};
+use crate::row::{ROW_WORDS, Row, row_at};
 use bundle::answer::Checking;
 use bundle::refusal::Cause;
-ghost use mathlib.Core.Path.{_≡_};
-ghost use Prim.Native.Nat.{_≤_};
-ghost use lib.ListN.{length};
-ghost use Rattle·rows·specs.specs.Rows.{exportOf, exportingOf};
-ghost use Rattle·rows·specs.specs.Planning.{putOver, writtenOf, exportedOf};
 
 // What exporting gives.
+#[derive(Clone, Copy)]
 pub enum Exporting {
     // The number of records written.
     Written { count: usize },
@@ -21,7 +18,7 @@ pub enum Exporting {
 
 // How many records are written into a list of so many: none where the bundle or the list is refused.
 fn written_of(layout: Layout, room: usize) -> usize
-    ensures { λ r. ⌜ r ≡ writtenOf (layout .checking) (layout .count) room ⌝ }
+    ensures { result ≡ written_of layout.checking layout.count room }
 {
     let count = layout.count;
     let checking = layout.checking;
@@ -32,7 +29,7 @@ fn written_of(layout: Layout, room: usize) -> usize
 }
 
 fn exported_of(layout: Layout, room: usize) -> Exporting
-    ensures { λ r. ⌜ r ≡ exportedOf (layout .checking) (layout .count) room ⌝ }
+    ensures { result ≡ exported_of layout.checking layout.count room }
 {
     let count = layout.count;
     let checking = layout.checking;
@@ -52,8 +49,8 @@ fn exported_of(layout: Layout, room: usize) -> Exporting
 
 // Puts the first `count` records over the front of the list.
 fn put_rows(words: &[u64], count: usize, rows: &mut [Row])
-    requires { ⌜ count ≤ length (now rows) ⌝ }
-    ensures { λ _. ⌜ now (rows .exit) ≡ putOver (now (words .entry)) count (now (rows .entry)) ⌝ }
+    requires { count ≤ length rows.old }
+    ensures { rows.new ≡ put_over words.now count rows.old }
 {
     let mut i = 0;
     while i < count {
@@ -65,7 +62,7 @@ fn put_rows(words: &[u64], count: usize, rows: &mut [Row])
 // Puts a record for each barrier interval of an accepted bundle into the lent list, by team, member, interval. Refused, the list is
 // untouched.
 pub fn export_rows(bytes: &[u8], rows: &mut [Row]) -> Exporting
-    ensures { λ r. ⌜ record { answer = exportingOf r; rows = now (rows .exit) } ≡ exportOf (now (bytes .entry)) (now (rows .entry)) ⌝ }
+    ensures { record { answer = exporting_of result; rows = rows.new } ≡ export_of bytes.now rows.old }
 {
     let mut words = [0u64; ROW_WORDS];
     let layout = lay_out(bytes, &mut words);

@@ -1,25 +1,19 @@
 // One pass over an accepted bundle that lists its barrier intervals.
-use crate::row::Span;
-use crate::row::TeamRow;
-use crate::row::add_row;
-use bundle::command::Command;
-use bundle::command::Reading;
-use bundle::command::read_command;
+ghost use Rattle.std.specs.Prelude.{◌≡◌, ◌≤◌, ◌<◌, [], ◌∷◌, length};
+ghost use Rattle.bundle.specs.Check.{depth_from, fork_of};
+ghost use Rattle.bundle.specs.Index.{table, fork_row_at};
+ghost use Rattle.bundle.specs.Shape.{slot_of, ByTeam};
+ghost use Rattle.rows.specs.Slots.{Grown, slot_made};
+ghost use Rattle.rows.specs.Passing.{parent_of, team_row_of, beginning, span_here, Closable, entered, joined_on, closed_at, moved_on, Notable, Noted, Listable, Listed};
+
+use crate::row::{Span, TeamRow, add_row};
+use bundle::command::{Command, Reading, read_command};
 use bundle::index::fork_at;
-use bundle::teams::size_of;
-use bundle::teams::slot_of;
-ghost use mathlib.Core.Path.{_≡_};
-ghost use Prim.Native.Nat.{_≤_, _<_};
-ghost use mathlib.Core.List.{[], _∷_};
-ghost use lib.ListN.{length};
-ghost use Rattle·bundle.specs.Check.{depthFrom, forkOf};
-ghost use Rattle·bundle.specs.Index.{table, forkRowAt};
-ghost use Rattle·bundle.specs.Shape.{slotOf, ByTeam};
-ghost use Rattle·rows·specs.specs.Slots.{Grown, slotMade};
-ghost use Rattle·rows·specs.specs.Passing.{parentOf, teamRowOf, beginning, spanHere, Closable, entered, joinedOn, closedAt, movedOn, Notable, Noted, Listable, Listed};
+use bundle::teams::{size_of, slot_of};
 
 // How far the pass is: the position; the open chunk's team and member; the barriers passed and the regions joined in it; the regions joined
 // where the open interval began, and where its data begins; and the intervals so far.
+#[derive(Clone, Copy)]
 pub struct Course {
     pub at: usize,
     pub team: TeamRow,
@@ -33,8 +27,8 @@ pub struct Course {
 
 // The number of REGIONs climbed from a team to the root, so many at most.
 fn level_of(forks: &[u64], regions: u32, order: &[u64], team: u16, most: u8) -> u8
-    requires { ⌜ ByTeam (now order) (table (forkRowAt (now forks)) regions) × (most ≤ 5) ⌝ }
-    ensures { λ r. ⌜ (r ≡ depthFrom most (table (forkRowAt (now (forks .entry))) regions) team) × (r ≤ most) ⌝ }
+    requires { ByTeam order.now (table (fork_row_at forks.now) regions) × (most ≤ 5) }
+    ensures { (result ≡ depth_from most (table (fork_row_at forks.now) regions) team) × (result ≤ most) }
 {
     if most == 0 {
         return 0;
@@ -49,8 +43,8 @@ fn level_of(forks: &[u64], regions: u32, order: &[u64], team: u16, most: u8) -> 
 
 // The team that forks a team, 0 for the root.
 fn parent_of(forks: &[u64], regions: u32, slot: u32, team: u16) -> u16
-    requires { ⌜ slot ≡ slotOf (table (forkRowAt (now forks)) regions) team ⌝ }
-    ensures { λ r. ⌜ r ≡ parentOf (table (forkRowAt (now (forks .entry))) regions) team ⌝ }
+    requires { slot ≡ slot_of (table (fork_row_at forks.now) regions) team }
+    ensures { result ≡ parent_of (table (fork_row_at forks.now) regions) team }
 {
     if regions <= slot {
         return 0;
@@ -61,8 +55,8 @@ fn parent_of(forks: &[u64], regions: u32, slot: u32, team: u16) -> u16
 
 // What the records of a team's intervals have in common.
 fn team_row(forks: &[u64], regions: u32, order: &[u64], team: u16) -> TeamRow
-    requires { ⌜ ByTeam (now order) (table (forkRowAt (now forks)) regions) ⌝ }
-    ensures { λ r. ⌜ r ≡ teamRowOf (table (forkRowAt (now (forks .entry))) regions) team ⌝ }
+    requires { ByTeam order.now (table (fork_row_at forks.now) regions) }
+    ensures { result ≡ team_row_of (table (fork_row_at forks.now) regions) team }
 {
     let slot = slot_of(order, team);
     TeamRow {
@@ -74,7 +68,7 @@ fn team_row(forks: &[u64], regions: u32, order: &[u64], team: u16) -> TeamRow
 }
 
 fn begin() -> Course
-    ensures { λ r. ⌜ r ≡ beginning ⌝ }
+    ensures { result ≡ beginning }
 {
     Course {
         at: 0,
@@ -95,7 +89,7 @@ fn begin() -> Course
 
 // MEMBER: the chunk's first interval begins.
 fn enter(course: Course, team: TeamRow, member: u8, next: usize) -> Course
-    ensures { λ r. ⌜ r ≡ entered course team member next ⌝ }
+    ensures { result ≡ entered course team member next }
 {
     Course {
         at: next,
@@ -111,8 +105,8 @@ fn enter(course: Course, team: TeamRow, member: u8, next: usize) -> Course
 
 // REGION: one more is joined.
 fn join(course: Course, next: usize) -> Course
-    requires { ⌜ course .regions < 65536 ⌝ }
-    ensures { λ r. ⌜ r ≡ joinedOn course next ⌝ }
+    requires { course.regions < 65536 }
+    ensures { result ≡ joined_on course next }
 {
     let mut after = course;
     after.at = next;
@@ -121,7 +115,7 @@ fn join(course: Course, next: usize) -> Course
 }
 
 fn move_on(course: Course, next: usize) -> Course
-    ensures { λ r. ⌜ r ≡ movedOn course next ⌝ }
+    ensures { result ≡ moved_on course next }
 {
     let mut after = course;
     after.at = next;
@@ -130,8 +124,8 @@ fn move_on(course: Course, next: usize) -> Course
 
 // The open interval, whose data ends at `next`.
 fn span_here(course: Course, next: usize) -> Span
-    requires { ⌜ Closable course next ⌝ }
-    ensures { λ r. ⌜ r ≡ spanHere course next ⌝ }
+    requires { Closable course next }
+    ensures { result ≡ span_here course next }
 {
     Span {
         member: course.member,
@@ -144,8 +138,8 @@ fn span_here(course: Course, next: usize) -> Span
 
 // BARRIER, END and CUT: the open interval ends, and another may begin.
 fn close(course: Course, next: usize, words: &mut [u64]) -> Course
-    requires { ⌜ Closable course next × (length (now words) ≡ 1536) ⌝ }
-    ensures { λ r. ⌜ (r ≡ closedAt course next) × Grown (now (words .entry)) (now (words .exit)) (course .count) (slotMade (course .team) (spanHere course next) (course .count) ∷ []) ⌝ }
+    requires { Closable course next × (length words.old ≡ 1536) }
+    ensures { (result ≡ closed_at course next) × Grown words.old words.new course.count (slot_made course.team (span_here course next) course.count ∷ []) }
 {
     let team = course.team;
     let count = course.count;
@@ -169,8 +163,8 @@ fn note(
     order: &[u64],
     words: &mut [u64],
 ) -> Course
-    requires { ⌜ ByTeam (now order) (table (forkRowAt (now forks)) regions) × Notable course command next (now words) ⌝ }
-    ensures { λ r. ⌜ Noted (table (forkRowAt (now (forks .entry))) regions) course command next r (now (words .entry)) (now (words .exit)) ⌝ }
+    requires { ByTeam order.now (table (fork_row_at forks.now) regions) × Notable course command next words.old }
+    ensures { Noted (table (fork_row_at forks.now) regions) course command next result words.old words.new }
 {
     match command {
         Command::Member { team, member } => enter(
@@ -197,8 +191,8 @@ pub(crate) fn list_intervals(
     order: &[u64],
     words: &mut [u64],
 ) -> u32
-    requires { ⌜ ByTeam (now order) (table (forkRowAt (now forks)) regions) × Listable (now bytes) (table (forkRowAt (now forks)) regions) (now words) ⌝ }
-    ensures { λ r. ⌜ Listed (now (bytes .entry)) r (now (words .exit)) ⌝ }
+    requires { ByTeam order.now (table (fork_row_at forks.now) regions) × Listable bytes.now (table (fork_row_at forks.now) regions) words.old }
+    ensures { Listed bytes.now result words.new }
 {
     let mut course = begin();
     while course.at < bytes.len() {

@@ -1,22 +1,19 @@
 // The records of a bundle laid out in words, by team, member, interval.
+ghost use Rattle.std.specs.Prelude.{◌≡◌, ◌≤◌, length};
+ghost use Rattle.bundle.specs.Index.{table, fork_row_at};
+ghost use Rattle.rows.specs.Passing.{Listable, Listed, Sorted};
+ghost use Rattle.rows.specs.Planning.{LaidOut, RowsHeld};
+
 use crate::pass::list_intervals;
 use crate::row::ROW_WORDS;
 use bundle::answer::Checking;
-use bundle::check::Indexing;
-use bundle::check::index_bundle;
-use bundle::limits::CHUNK_WORDS;
-use bundle::limits::FORK_WORDS;
-use bundle::limits::MOST_SEGMENTS;
+use bundle::check::{Indexing, index_bundle};
+use bundle::limits::{CHUNK_WORDS, FORK_WORDS, MOST_SEGMENTS};
 use bundle::teams::order_teams;
 use sorting::sort::sort;
-ghost use mathlib.Core.Path.{_≡_};
-ghost use Prim.Native.Nat.{_≤_};
-ghost use lib.ListN.{length};
-ghost use Rattle·bundle.specs.Index.{table, forkRowAt};
-ghost use Rattle·rows·specs.specs.Passing.{Listable, Listed, Sorted};
-ghost use Rattle·rows·specs.specs.Planning.{LaidOut, RowsHeld};
 
 // How many records there are, and whether the bundle is accepted; refused, none.
+#[derive(Clone, Copy)]
 pub struct Layout {
     pub count: usize,
     pub checking: Checking,
@@ -24,8 +21,8 @@ pub struct Layout {
 
 // Puts the numbers of the records in ascending order.
 fn order_rows(words: &mut [u64], count: u32)
-    requires { ⌜ (length (now words) ≡ 1536) × (count ≤ 512) ⌝ }
-    ensures { λ _. ⌜ Sorted (now (words .entry)) (now (words .exit)) count ⌝ }
+    requires { (length words.old ≡ 1536) × (count ≤ 512) }
+    ensures { Sorted words.old words.new count }
 {
     let mut spare = [0u64; MOST_SEGMENTS as usize / 2];
     sort(&mut words[..count as usize], &mut spare);
@@ -39,8 +36,8 @@ fn lay_intervals(
     order: &mut [u64],
     words: &mut [u64],
 ) -> usize
-    requires { ⌜ Listable (now bytes) (table (forkRowAt (now forks)) regions) (now words) × (length (now order) ≡ regions) × (regions ≤ 512) ⌝ }
-    ensures { λ r. ⌜ RowsHeld (now (bytes .entry)) r (now (words .exit)) ⌝ }
+    requires { Listable bytes.now (table (fork_row_at forks.now) regions) words.old × (length order.old ≡ regions) × (regions ≤ 512) }
+    ensures { RowsHeld bytes.now result words.new }
 {
     order_teams(forks, order);
     let count = list_intervals(bytes, forks, regions, order, words);
@@ -49,8 +46,8 @@ fn lay_intervals(
 }
 
 fn lay_accepted(bytes: &[u8], forks: &[u64], regions: u32, words: &mut [u64]) -> usize
-    requires { ⌜ Listable (now bytes) (table (forkRowAt (now forks)) regions) (now words) × (regions ≤ 512) ⌝ }
-    ensures { λ r. ⌜ RowsHeld (now (bytes .entry)) r (now (words .exit)) ⌝ }
+    requires { Listable bytes.now (table (fork_row_at forks.now) regions) words.old × (regions ≤ 512) }
+    ensures { RowsHeld bytes.now result words.new }
 {
     let mut order = [0u64; MOST_SEGMENTS as usize];
     lay_intervals(bytes, forks, regions, &mut order[..regions as usize], words)
@@ -58,7 +55,7 @@ fn lay_accepted(bytes: &[u8], forks: &[u64], regions: u32, words: &mut [u64]) ->
 
 // Checks a bundle, and lays its records out.
 pub fn lay_out(bytes: &[u8], words: &mut [u64; ROW_WORDS]) -> Layout
-    ensures { λ r. ⌜ LaidOut (now (bytes .entry)) r (now (words .exit)) ⌝ }
+    ensures { LaidOut bytes.now result words.new }
 {
     let mut chunks = [0u64; CHUNK_WORDS];
     let mut forks = [0u64; FORK_WORDS];

@@ -1,29 +1,23 @@
 // Records given as bytes, held against those of a bundle.
-use crate::checker::RowChecking;
-use crate::checker::least_of;
-use crate::checker::same_after;
-use crate::checker::told_of;
+ghost use Rattle.std.specs.Prelude.{◌≡◌, ◌+◌, ◌*◌, ◌≤◌, length};
+ghost use Rattle.bundle.specs.Index.{table};
+ghost use Rattle.rows.specs.Rows.{agreeing, check_rows_of, row_checking_of};
+ghost use Rattle.rows.specs.Slots.{row_in};
+ghost use Rattle.rows.specs.Records.{record_at, records_in};
+
+use crate::checker::{RowChecking, least_of, same_after, told_of};
 use crate::plan::lay_out;
-use crate::row::ROW_WORDS;
-use crate::row::Row;
-use crate::row::row_at;
+use crate::row::{ROW_WORDS, Row, row_at};
 use bundle::answer::Checking;
 use bundle::command::four_bytes;
-ghost use mathlib.Core.Path.{_≡_};
-ghost use Prim.Native.Nat.{_+_, _*_, _≤_};
-ghost use lib.ListN.{length};
-ghost use Rattle·bundle.specs.Index.{table};
-ghost use Rattle·rows·specs.specs.Rows.{agreeing, checkRowsOf, rowCheckingOf};
-ghost use Rattle·rows·specs.specs.Slots.{rowIn};
-ghost use Rattle·rows·specs.specs.Records.{recordAt, recordsIn};
 
 // The bytes of a record.
 pub const RECORD_BYTES: usize = 32;
 
 // The record of eight numbers at a position, each of four bytes, low byte first.
 fn record_at(bytes: &[u8], at: usize) -> Row
-    requires { ⌜ at + 32 ≤ length (now bytes) ⌝ }
-    ensures { λ r. ⌜ r ≡ recordAt (now (bytes .entry)) at ⌝ }
+    requires { at + 32 ≤ length bytes.now }
+    ensures { result ≡ record_at bytes.now at }
 {
     Row {
         pid: four_bytes(bytes, at),
@@ -39,8 +33,8 @@ fn record_at(bytes: &[u8], at: usize) -> Row
 
 // How many of the first `count` records are the same as those given, from the front.
 fn count_given(words: &[u64], count: usize, given: &[u8]) -> usize
-    requires { ⌜ 32 * count ≤ length (now given) ⌝ }
-    ensures { λ r. ⌜ r ≡ agreeing (table (rowIn (now (words .entry))) count) (recordsIn (now (given .entry))) ⌝ }
+    requires { 32 * count ≤ length given.now }
+    ensures { result ≡ agreeing (table (row_in words.now) count) (records_in given.now) }
 {
     let mut same = 0;
     let mut i = 0;
@@ -53,7 +47,7 @@ fn count_given(words: &[u64], count: usize, given: &[u8]) -> usize
 
 // Tells whether the given records, as many as there are whole ones, are those of the bundle.
 pub fn check_records(bytes: &[u8], given: &[u8]) -> RowChecking
-    ensures { λ r. ⌜ rowCheckingOf r ≡ checkRowsOf (now (bytes .entry)) (recordsIn (now (given .entry))) ⌝ }
+    ensures { row_checking_of result ≡ check_rows_of bytes.now (records_in given.now) }
 {
     let mut words = [0u64; ROW_WORDS];
     let layout = lay_out(bytes, &mut words);

@@ -1,17 +1,14 @@
 // A record of a barrier interval, and the words that hold records.
-use bundle::index::Parts;
-use bundle::index::pack;
-use bundle::index::unpack;
-use bundle::index::word_at;
-ghost use mathlib.Core.Path.{_≡_};
-ghost use Prim.Native.Nat.{_≤_, _<_};
-ghost use lib.ListN.{length};
-ghost use Rattle·bundle.specs.Index.{partsOf, Added};
-ghost use Rattle·rows·specs.specs.Rows.{sameRow};
-ghost use Rattle·rows·specs.specs.Slots.{nameWord, firstParts, secondParts, slotMade, slotAt, heldIn, rowIn};
+ghost use Rattle.std.specs.Prelude.{◌≡◌, ◌≤◌, ◌<◌, length};
+ghost use Rattle.bundle.specs.Index.{parts_of, Added};
+ghost use Rattle.rows.specs.Rows.{same_row};
+ghost use Rattle.rows.specs.Slots.{name_word, first_parts, second_parts, slot_made, slot_at, held_in, row_in};
+
+use bundle::index::{Parts, pack, unpack, word_at};
 
 // The columns of Table 4.1: the team, the team that forked it (0 for the root), the interval, offset and span of the last triple of the
 // label at the interval's start, the level (0 for the root), where the data begins in the bundle, and its size.
+#[derive(Clone, Copy)]
 pub struct Row {
     pub pid: u32,
     pub ppid: u32,
@@ -24,6 +21,7 @@ pub struct Row {
 }
 
 // What the records of a team's intervals have in common: the team, the team that forked it, its size and its level.
+#[derive(Clone, Copy)]
 pub struct TeamRow {
     pub team: u16,
     pub parent: u16,
@@ -32,6 +30,7 @@ pub struct TeamRow {
 }
 
 // What they have not: the member, the interval, the regions joined before it, where its data begins, and its size.
+#[derive(Clone, Copy)]
 pub struct Span {
     pub member: u8,
     pub interval: u16,
@@ -45,7 +44,7 @@ pub const ROW_WORDS: usize = 1536;
 
 // Whether two records are the same in every column.
 pub fn same_row(one: Row, other: Row) -> bool
-    ensures { λ r. ⌜ r ≡ sameRow one other ⌝ }
+    ensures { result ≡ same_row one other }
 {
     let names = (one.pid == other.pid) & ((one.ppid == other.ppid) & (one.bid == other.bid));
     let label = (one.offset == other.offset)
@@ -57,15 +56,15 @@ pub fn same_row(one: Row, other: Row) -> bool
 // Team, member, interval and the record's place among all as one number: in the order of these numbers the records are by team, member,
 // interval.
 fn name_word(team: u16, member: u8, interval: u16, place: u32) -> u64
-    requires { ⌜ place < 512 ⌝ }
-    ensures { λ r. ⌜ r ≡ nameWord team member interval place ⌝ }
+    requires { place < 512 }
+    ensures { result ≡ name_word team member interval place }
 {
     let chunk = (team as u64) * 256 + member as u64;
     (chunk * 65536 + interval as u64) * 65536 + place as u64
 }
 
 fn first_word(team: TeamRow, span: Span) -> u64
-    ensures { λ r. ⌜ partsOf r ≡ firstParts team span ⌝ }
+    ensures { parts_of result ≡ first_parts team span }
 {
     pack(Parts {
         first: span.interval,
@@ -77,8 +76,8 @@ fn first_word(team: TeamRow, span: Span) -> u64
 }
 
 fn second_word(span: Span) -> u64
-    requires { ⌜ span .size ≤ 65536 ⌝ }
-    ensures { λ r. ⌜ partsOf r ≡ secondParts span ⌝ }
+    requires { span.size ≤ 65536 }
+    ensures { parts_of result ≡ second_parts span }
 {
     pack(Parts {
         first: span.begin,
@@ -91,8 +90,8 @@ fn second_word(span: Span) -> u64
 
 // Writes a record and its number behind the first `count`.
 pub(crate) fn add_row(words: &mut [u64], count: u32, team: TeamRow, span: Span)
-    requires { ⌜ (length (now words) ≡ 1536) × (count < 512) × (span .size ≤ 65536) ⌝ }
-    ensures { λ _. ⌜ Added slotAt (now (words .entry)) (now (words .exit)) count (slotMade team span count) ⌝ }
+    requires { (length words.old ≡ 1536) × (count < 512) × (span.size ≤ 65536) }
+    ensures { Added slot_at words.old words.new count (slot_made team span count) }
 {
     let at = count as usize;
     let name = name_word(team.team, span.member, span.interval, count);
@@ -103,7 +102,7 @@ pub(crate) fn add_row(words: &mut [u64], count: u32, team: TeamRow, span: Span)
 
 // The record that two words hold.
 fn held_in(one: Parts, other: Parts) -> Row
-    ensures { λ r. ⌜ r ≡ heldIn one other ⌝ }
+    ensures { result ≡ held_in one other }
 {
     let span = one.third as u32;
     Row {
@@ -120,7 +119,7 @@ fn held_in(one: Parts, other: Parts) -> Row
 
 // The record whose place the k-th number holds.
 pub fn row_at(words: &[u64], k: usize) -> Row
-    ensures { λ r. ⌜ r ≡ rowIn (now (words .entry)) k ⌝ }
+    ensures { result ≡ row_in words.now k }
 {
     let at = (word_at(words, k) % 65536) as usize;
     let one = unpack(word_at(words, at + 512));

@@ -1,3 +1,5 @@
 // Sorting numbers, and searching sorted ones.
+#![tactic(auto)]
+
 pub mod search;
 pub mod sort;

@@ -1,10 +1,10 @@
 // The search by halves, and the search for a key.
-ghost use mathlib.Core.Path.{_≡_};
-ghost use Rattle·sorting·specs.specs.Searching.{lowerBound, firstWithKey};
+ghost use Rattle.std.specs.Prelude.{◌≡◌};
+ghost use Rattle.sorting.specs.Searching.{lower_bound, first_with_key};
 
 // Where the words are ascending: the number of words below `word` (`lower-bound` of proofs/Halving.antt).
 pub fn lower_bound(words: &[u64], word: u64) -> usize
-    ensures { λ r. ⌜ r ≡ lowerBound (now (words .entry)) word ⌝ }
+    ensures { result ≡ lower_bound words.now word }
 {
     let mut low = 0;
     let mut high = words.len();
@@ -22,7 +22,7 @@ pub fn lower_bound(words: &[u64], word: u64) -> usize
 // Where the words are `key * 65536 + index` of the rows of a table, sorted: the index of the first row with this key, or the number of rows
 // where there is none (`first-with-key` of proofs/KeyOrder.antt).
 pub fn first_with_key(order: &[u64], key: u64) -> usize
-    ensures { λ r. ⌜ r ≡ firstWithKey (now (order .entry)) key ⌝ }
+    ensures { result ≡ first_with_key order.now key }
 {
     if 281474976710656 <= key {
         return order.len();

@@ -1,9 +1,9 @@
 // Whether an argument is a word.
-ghost use mathlib.Core.Path.{_≡_};
-ghost use Rattle·telling·specs.specs.Words.{same};
+ghost use Rattle.std.specs.Prelude.{◌≡◌};
+ghost use Rattle.telling.specs.Words.{same};
 
 pub fn same_word(one: &[u8], other: &[u8]) -> bool
-    ensures { λ r. ⌜ r ≡ same (now (one .entry)) (now (other .entry)) ⌝ }
+    ensures { result ≡ same one.now other.now }
 {
     if one.len() != other.len() {
         return false;

@@ -1,3 +1,5 @@
 // What the programs that read one bundle have in common.
+#![tactic(auto)]
+
 pub mod arguments;
 pub mod refusals;

@@ -1,7 +1,6 @@
 // A refusal as a line on standard error.
 use bundle::command::Putting;
-use bundle::refusal::Cause;
-use bundle::refusal::number;
+use bundle::refusal::{Cause, number};
 use libc::STDERR_FILENO;
 use text::lines::put_refused;
 

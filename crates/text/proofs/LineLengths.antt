@@ -1,92 +1,92 @@
 -- How long the lines are, by the widths of the numbers that they show. Assumes nothing.
-use mathlib.Core.Path.{_≡_, refl, sym, subst}
-use mathlib.Core.List.{List, _++_}
-use Prim.Native.Nat.{ℕ, _+_, _≤_, _<_}
+use mathlib.Core.Path.{◌≡◌, refl, sym, subst}
+use mathlib.Core.List.{List, ◌++◌}
+use Prim.Native.Nat.{ℕ, ◌+◌, ◌≤◌, ◌<◌}
 use Prim.Native.String.{String}
 use native.Mathlib.Omega.{arith}
 use lib.ListN.{length, take, length-append}
-use Rattle·verdict.specs.declared.race.Name.{Name}
-use Rattle·verdict.specs.declared.race.Race.{Race}
-use Rattle·text·specs.specs.Digits.{ascii, decimal, hexadecimal, widthOf}
-use Rattle·text·specs.specs.Lines.{lineEnd, nameText, countsLine, raceLine, pairsLine}
-use Rattle·text·specs.specs.Inner.{Extended, accessText}
-use Rattle·text·proofs.proofs.Widths.{two, width-most}
-use Rattle·text·proofs.proofs.Reading.{length-digits}
+use Rattle.verdict.specs.declared.race.Name.{Name}
+use Rattle.verdict.specs.declared.race.Race.{Race}
+use Rattle.text.specs.Digits.{ascii, decimal, hexadecimal, width_of}
+use Rattle.text.specs.Lines.{line_end, name_text, counts_line, race_line, pairs_line}
+use Rattle.text.specs.Inner.{Extended, access_text}
+use Rattle.text.proofs.Widths.{two, width-most}
+use Rattle.text.proofs.Reading.{length_digits}
 
 -- at most so many bytes
 pub record Within (k : ℕ) (xs : List ℕ) : Type 0 where
   pub most : length xs ≤ k
 
-infixl 65 _then_
-pub _then_ : {j k : ℕ} {xs ys : List ℕ} → Within j xs → Within k ys → Within (j + k) (xs ++ ys)
-_then_ {xs = xs} {ys = ys} p q = record { most = omega (arith, p .most, q .most, length-append xs ys) }
+infixl 65 ◌then◌
+pub ◌then◌ : {j k : ℕ} {xs ys : List ℕ} → Within j xs → Within k ys → Within (j + k) (xs ++ ys)
+◌then◌ {xs = xs} {ys = ys} p q = record { most = omega (arith, p.most, q.most, length-append xs ys) }
 
 pub within : {j : ℕ} {xs : List ℕ} (k : ℕ) → j ≤ k → Within j xs → Within k xs
-within k h p = record { most = omega (arith, p .most) }
+within k h p = record { most = omega (arith, p.most) }
 
 pub word : (s : String) (k : ℕ) → length (ascii s) ≡ k → Within k (ascii s)
 word s k e = record { most = omega (arith, e) }
 
-pub end : Within 1 lineEnd
+pub end : Within 1 line_end
 end = record { most = omega arith }
 
 short : (n : ℕ) → n < 65536 → Within 5 (decimal n)
-short n h = record { most = omega (arith, length-digits 10 (widthOf 10 n) n, width-most 10 two 4 n (omega arith)) }
+short n h = record { most = omega (arith, length_digits 10 (width_of 10 n) n, width-most 10 two 4 n (omega arith)) }
 
 pub long : (n : ℕ) → n < 4294967296 → Within 10 (decimal n)
-long n h = record { most = omega (arith, length-digits 10 (widthOf 10 n) n, width-most 10 two 9 n (omega arith)) }
+long n h = record { most = omega (arith, length_digits 10 (width_of 10 n) n, width-most 10 two 9 n (omega arith)) }
 
 witness : (n : ℕ) → Within 8 (hexadecimal n)
-witness n = record { most = omega (arith, length-digits 16 8 n) }
+witness n = record { most = omega (arith, length_digits 16 8 n) }
 
 -- a name whose numbers fit their widths
 pub record Named (n : Name) : Type 0 where
-  pub team : n .team < 65536
-  pub member : n .member < 256
-  pub number : n .number < 65536
+  pub team : n.team < 65536
+  pub member : n.member < 256
+  pub number : n.number < 65536
 
-name : (n : Name) → Named n → Within 17 (nameText n)
-unfolding nameText
+name : (n : Name) → Named n → Within 17 (name_text n)
+unfolding name_text
 name n f =
-    short (n .team) (f .team)
+    short n.team f.team
     then word "." 1 refl
-    then short (n .member) (omega (arith, f .member))
+    then short n.member (omega (arith, f.member))
     then word "." 1 refl
-    then short (n .number) (f .number)
+    then short n.number f.number
 
 -- the text of an access
-pub access-length : (n : Name) (site : ℕ) → Named n → site < 4294967296 → Within 29 (accessText n site)
-unfolding accessText
+pub access-length : (n : Name) (site : ℕ) → Named n → site < 4294967296 → Within 29 (access_text n site)
+unfolding access_text
 access-length n site f s = word " " 1 refl then name n f then word " " 1 refl then long site s
 
-pub race-length : (r : Race) → Named (r .first) → r .«first_site» < 4294967296 → Named (r .second) → r .«second_site» < 4294967296 → Within 72 (raceLine r)
-unfolding raceLine
+pub race-length : (r : Race) → Named r.first → r.first_site < 4294967296 → Named r.second → r.second_site < 4294967296 → Within 72 (race_line r)
+unfolding race_line
 race-length r first first-site second second-site =
     word "race " 5 refl
-    then witness (r .witness)
+    then witness r.witness
     then word " " 1 refl
-    then name (r .first) first
+    then name r.first first
     then word " " 1 refl
-    then long (r .«first_site») first-site
+    then long r.first_site first-site
     then word " " 1 refl
-    then name (r .second) second
+    then name r.second second
     then word " " 1 refl
-    then long (r .«second_site») second-site
+    then long r.second_site second-site
     then end
 
-pub counts-length : (chunks segments accesses : ℕ) → chunks < 4294967296 → segments < 4294967296 → accesses < 4294967296 → Within 58 (countsLine chunks segments accesses)
-unfolding countsLine
+pub counts-length : (chunks segments accesses : ℕ) → chunks < 4294967296 → segments < 4294967296 → accesses < 4294967296 → Within 58 (counts_line chunks segments accesses)
+unfolding counts_line
 counts-length chunks segments accesses c s a =
     word "chunks " 7 refl then long chunks c then word " segments " 10 refl then long segments s then word " accesses " 10 refl then long accesses a then end
 
-pub pairs-length : (n : ℕ) → n < 4294967296 → Within 17 (pairsLine n)
-unfolding pairsLine
+pub pairs-length : (n : ℕ) → n < 4294967296 → Within 17 (pairs_line n)
+unfolding pairs_line
 pairs-length n h = word "pairs " 6 refl then long n h then end
 
 -- a number of 32 bits in an array of its own
 module _ {s t : List ℕ} {r most n : ℕ} (e : Extended s t 0 r most (decimal n)) (few : n < 4294967296) where
   pub piece-text : take r t ≡ decimal n
-  piece-text = e .text
+  piece-text = e.text
 
   pub piece-short : length (take r t) ≤ 10
-  piece-short = subst (λ (xs : List ℕ). length xs ≤ 10) (sym piece-text) (long n few .most)
+  piece-short = subst (λ (xs : List ℕ). length xs ≤ 10) (sym piece-text) (long n few).most

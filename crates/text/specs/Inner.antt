@@ -1,11 +1,8 @@
 -- What the inner functions of making a line promise.
-use mathlib.Core.Path.{_≡_}
-use Prim.Native.Nat.{ℕ, _+_, _≤_}
-use mathlib.Core.List.{List, _++_}
-use lib.ListN.{length, take}
-use Rattle·verdict.specs.declared.race.Name.{Name}
-use Rattle·text·specs.specs.Digits.{ascii, decimal, widthOf}
-use Rattle·text·specs.specs.Lines.{nameText}
+use Rattle.std.specs.Prelude.{◌≡◌, ℕ, ◌+◌, ◌≤◌, List, ◌++◌, length, take}
+use Rattle.verdict.specs.declared.race.Name.{Name}
+use Rattle.text.specs.Digits.{ascii, decimal, width_of}
+use Rattle.text.specs.Lines.{name_text}
 
 -- bytes, at most so many as `most` says, behind the first ones of a line; what stands after them does not count, and the array keeps its length
 pub record Extended (before after : List ℕ) (at next most : ℕ) (bytes : List ℕ) : Type 0 where
@@ -15,10 +12,10 @@ pub record Extended (before after : List ℕ) (at next most : ℕ) (bytes : List
 
 -- how many digits a number has in decimal, at most so many as `most` says
 pub record Width (number r most : ℕ) : Type 0 where
-  pub exact : r ≡ widthOf 10 number
+  pub exact : r ≡ width_of 10 number
   pub some : 1 ≤ r
   pub small : r ≤ most
 
 -- a name and a site, each with a space before it
-unfoldable pub accessText : Name → ℕ → List ℕ
-accessText name site = ascii " " ++ nameText name ++ ascii " " ++ decimal site
+unfoldable pub access_text : Name → ℕ → List ℕ
+access_text name site = ascii " " ++ name_text name ++ ascii " " ++ decimal site

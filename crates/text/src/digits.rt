@@ -1,13 +1,11 @@
 // Numbers written in digits, from a position of a line on. The answer is the position after them.
-ghost use mathlib.Core.Path.{_≡_};
-ghost use Prim.Native.Nat.{_+_, _-_, _^_, _≤_, _<_};
-ghost use lib.ListN.{length};
-ghost use Rattle·text·specs.specs.Digits.{digitByte, digits, decimal, hexadecimal};
-ghost use Rattle·text·specs.specs.Inner.{Width, Extended};
+ghost use Rattle.std.specs.Prelude.{◌≡◌, ◌+◌, ◌-◌, ◌^◌, ◌≤◌, ◌<◌, length};
+ghost use Rattle.text.specs.Digits.{digit_byte, digits, decimal, hexadecimal};
+ghost use Rattle.text.specs.Inner.{Width, Extended};
 
 fn digit(number: u32) -> u8
-    requires { ⌜ number < 16 ⌝ }
-    ensures { λ r. ⌜ r ≡ digitByte number ⌝ }
+    requires { number < 16 }
+    ensures { result ≡ digit_byte number }
 {
     if number < 10 {
         return 0x30 + number as u8;
@@ -17,8 +15,8 @@ fn digit(number: u32) -> u8
 
 // Writes the last digits of a number.
 fn put_digits(number: u64, base: u64, width: usize, line: &mut [u8; 96], at: usize)
-    requires { ⌜ (2 ≤ base) × (base ≤ 16) × (at + width ≤ 96) × (length (now line) ≡ 96) ⌝ }
-    ensures { λ _. ⌜ Extended (now (line .entry)) (now (line .exit)) at (at + width) width (digits base width number) ⌝ }
+    requires { (2 ≤ base) × (base ≤ 16) × (at + width ≤ 96) × (length line.old ≡ 96) }
+    ensures { Extended line.old line.new at (at + width) width (digits base width number) }
 {
     let mut rest = number;
     let mut i = width;
@@ -30,8 +28,8 @@ fn put_digits(number: u64, base: u64, width: usize, line: &mut [u8; 96], at: usi
 }
 
 pub fn put_hexadecimal(number: u32, line: &mut [u8; 96], at: usize) -> usize
-    requires { ⌜ (at ≤ 88) × (length (now line) ≡ 96) ⌝ }
-    ensures { λ r. ⌜ Extended (now (line .entry)) (now (line .exit)) at r 8 (hexadecimal number) ⌝ }
+    requires { (at ≤ 88) × (length line.old ≡ 96) }
+    ensures { Extended line.old line.new at result 8 (hexadecimal number) }
 {
     put_digits(number as u64, 16, 8, line, at);
     at + 8
@@ -39,7 +37,7 @@ pub fn put_hexadecimal(number: u32, line: &mut [u8; 96], at: usize) -> usize
 
 // How many digits a number has in decimal.
 fn width(number: u64) -> usize
-    ensures { λ r. ⌜ Width number r 20 ⌝ }
+    ensures { Width number result 20 }
 {
     if number < 10 {
         return 1;
@@ -48,8 +46,8 @@ fn width(number: u64) -> usize
 }
 
 pub fn put_decimal(number: u64, line: &mut [u8; 96], at: usize) -> usize
-    requires { ⌜ (at ≤ 76) × (length (now line) ≡ 96) ⌝ }
-    ensures { λ r. ⌜ Extended (now (line .entry)) (now (line .exit)) at r 20 (decimal number) ⌝ }
+    requires { (at ≤ 76) × (length line.old ≡ 96) }
+    ensures { Extended line.old line.new at result 20 (decimal number) }
 {
     let width = width(number);
     put_digits(number, 10, width, line, at);
@@ -58,10 +56,9 @@ pub fn put_decimal(number: u64, line: &mut [u8; 96], at: usize) -> usize
 
 // The same for a number of 16 bits, without a branch.
 fn short_width(number: u16) -> usize
-    ensures { λ r. ⌜ Width number r 5 ⌝ }
+    ensures { Width number result 5 }
 {
-    1
-        + (10 <= number) as usize
+    1 + (10 <= number) as usize
         + (100 <= number) as usize
         + (1000 <= number) as usize
         + (10000 <= number) as usize
@@ -69,8 +66,8 @@ fn short_width(number: u16) -> usize
 
 // The power of ten that takes a number of this width to five digits.
 fn scale(width: usize) -> u32
-    requires { ⌜ (1 ≤ width) × (width ≤ 5) ⌝ }
-    ensures { λ r. ⌜ r ≡ 10 ^ (5 - width) ⌝ }
+    requires { (1 ≤ width) × (width ≤ 5) }
+    ensures { result ≡ 10 ^ (5 - width) }
 {
     SCALES[width]
 }
@@ -78,8 +75,8 @@ fn scale(width: usize) -> u32
 const SCALES: [u32; 6] = [0, 10000, 1000, 100, 10, 1];
 
 fn put_five(number: u32, line: &mut [u8; 96], at: usize)
-    requires { ⌜ (at ≤ 91) × (length (now line) ≡ 96) ⌝ }
-    ensures { λ _. ⌜ Extended (now (line .entry)) (now (line .exit)) at (at + 5) 5 (digits 10 5 number) ⌝ }
+    requires { (at ≤ 91) × (length line.old ≡ 96) }
+    ensures { Extended line.old line.new at (at + 5) 5 (digits 10 5 number) }
 {
     line[at] = digit(number / 10000 % 10);
     line[at + 1] = digit(number / 1000 % 10);
@@ -90,8 +87,8 @@ fn put_five(number: u32, line: &mut [u8; 96], at: usize)
 
 // The same as `put_decimal` for a number of 16 bits, without a branch: five digits are written, those behind the number's own do not count.
 pub fn put_short(number: u16, line: &mut [u8; 96], at: usize) -> usize
-    requires { ⌜ (at ≤ 91) × (length (now line) ≡ 96) ⌝ }
-    ensures { λ r. ⌜ Extended (now (line .entry)) (now (line .exit)) at r 5 (decimal number) ⌝ }
+    requires { (at ≤ 91) × (length line.old ≡ 96) }
+    ensures { Extended line.old line.new at result 5 (decimal number) }
 {
     let width = short_width(number);
     put_five(number as u32 * scale(width), line, at);

@@ -1,21 +1,19 @@
 // The lines of the program racelist, each put at a position of a lent buffer. A line is made in an array first, and then copied if it fits.
-use crate::digits;
-use crate::pieces;
+ghost use Rattle.std.specs.Prelude.{◌≡◌, ◌+◌, ◌≤◌, length};
+ghost use Rattle.bundle.specs.Commands.{putting_of};
+ghost use Rattle.text.specs.Lines.{counts_line, race_line, pairs_line, race_free_line, refused_line, printed_at};
+ghost use Rattle.text.specs.Inner.{Extended};
+
+use crate::{digits, pieces};
 use bundle::command::Putting;
 use bundle::copy::copy_in;
 use bundle::refusal::Cause;
 use verdict::race::Race;
-ghost use mathlib.Core.Path.{_≡_};
-ghost use Prim.Native.Nat.{_+_, _≤_};
-ghost use lib.ListN.{length};
-ghost use Rattle·bundle.specs.Commands.{puttingOf};
-ghost use Rattle·text·specs.specs.Lines.{countsLine, raceLine, pairsLine, raceFreeLine, refusedLine, printedAt};
-ghost use Rattle·text·specs.specs.Inner.{Extended};
 
 // Puts a line at a position.
 pub fn put_line(line: &[u8], buffer: &mut [u8], position: usize) -> Putting
-    requires { ⌜ 1 ≤ length (now line) ⌝ }
-    ensures { λ r. ⌜ printedAt (now (line .entry)) (now (buffer .entry)) position ≡ record { answer = puttingOf r; buffer = now (buffer .exit) } ⌝ }
+    requires { 1 ≤ length line.now }
+    ensures { printed_at line.now buffer.old position ≡ record { answer = putting_of result; buffer = buffer.new } }
 {
     if buffer.len() <= position {
         return Putting::Refused {
@@ -34,8 +32,8 @@ pub fn put_line(line: &[u8], buffer: &mut [u8], position: usize) -> Putting
 }
 
 fn make_counts(chunks: u32, segments: u32, accesses: u32, line: &mut [u8; 96]) -> usize
-    requires { ⌜ length (now line) ≡ 96 ⌝ }
-    ensures { λ r. ⌜ Extended (now (line .entry)) (now (line .exit)) 0 r 88 (countsLine chunks segments accesses) ⌝ }
+    requires { length line.old ≡ 96 }
+    ensures { Extended line.old line.new 0 result 88 (counts_line chunks segments accesses) }
 {
     let chunks_next = pieces::put_count(b"chunks ", chunks as u64, line, 0);
     let segments_next = pieces::put_count(b" segments ", segments as u64, line, chunks_next);
@@ -51,7 +49,7 @@ pub fn put_counts(
     buffer: &mut [u8],
     position: usize,
 ) -> Putting
-    ensures { λ r. ⌜ printedAt (countsLine chunks segments accesses) (now (buffer .entry)) position ≡ record { answer = puttingOf r; buffer = now (buffer .exit) } ⌝ }
+    ensures { printed_at (counts_line chunks segments accesses) buffer.old position ≡ record { answer = putting_of result; buffer = buffer.new } }
 {
     let mut line = [0u8; 96];
     let size = make_counts(chunks, segments, accesses, &mut line);
@@ -59,8 +57,8 @@ pub fn put_counts(
 }
 
 fn make_race(race: Race, line: &mut [u8; 96]) -> usize
-    requires { ⌜ length (now line) ≡ 96 ⌝ }
-    ensures { λ r. ⌜ Extended (now (line .entry)) (now (line .exit)) 0 r 72 (raceLine race) ⌝ }
+    requires { length line.old ≡ 96 }
+    ensures { Extended line.old line.new 0 result 72 (race_line race) }
 {
     let word_next = pieces::put_word(b"race ", line, 0);
     let witness_next = digits::put_hexadecimal(race.witness, line, word_next);
@@ -71,7 +69,7 @@ fn make_race(race: Race, line: &mut [u8; 96]) -> usize
 
 // As `race 0000100a 1.0.0 10 1.1.0 20`.
 pub fn put_race(race: Race, buffer: &mut [u8], position: usize) -> Putting
-    ensures { λ r. ⌜ printedAt (raceLine race) (now (buffer .entry)) position ≡ record { answer = puttingOf r; buffer = now (buffer .exit) } ⌝ }
+    ensures { printed_at (race_line race) buffer.old position ≡ record { answer = putting_of result; buffer = buffer.new } }
 {
     let mut line = [0u8; 96];
     let size = make_race(race, &mut line);
@@ -79,8 +77,8 @@ pub fn put_race(race: Race, buffer: &mut [u8], position: usize) -> Putting
 }
 
 fn make_pairs(pairs: u32, line: &mut [u8; 96]) -> usize
-    requires { ⌜ length (now line) ≡ 96 ⌝ }
-    ensures { λ r. ⌜ Extended (now (line .entry)) (now (line .exit)) 0 r 27 (pairsLine pairs) ⌝ }
+    requires { length line.old ≡ 96 }
+    ensures { Extended line.old line.new 0 result 27 (pairs_line pairs) }
 {
     let next = pieces::put_count(b"pairs ", pairs as u64, line, 0);
     pieces::put_end(line, next)
@@ -88,7 +86,7 @@ fn make_pairs(pairs: u32, line: &mut [u8; 96]) -> usize
 
 // As `pairs 1`.
 pub fn put_pairs(pairs: u32, buffer: &mut [u8], position: usize) -> Putting
-    ensures { λ r. ⌜ printedAt (pairsLine pairs) (now (buffer .entry)) position ≡ record { answer = puttingOf r; buffer = now (buffer .exit) } ⌝ }
+    ensures { printed_at (pairs_line pairs) buffer.old position ≡ record { answer = putting_of result; buffer = buffer.new } }
 {
     let mut line = [0u8; 96];
     let size = make_pairs(pairs, &mut line);
@@ -97,14 +95,14 @@ pub fn put_pairs(pairs: u32, buffer: &mut [u8], position: usize) -> Putting
 
 // `race-free`
 pub fn put_race_free(buffer: &mut [u8], position: usize) -> Putting
-    ensures { λ r. ⌜ printedAt raceFreeLine (now (buffer .entry)) position ≡ record { answer = puttingOf r; buffer = now (buffer .exit) } ⌝ }
+    ensures { printed_at race_free_line buffer.old position ≡ record { answer = putting_of result; buffer = buffer.new } }
 {
     put_line(b"race-free\n", buffer, position)
 }
 
 fn make_refused(number: u8, place: usize, line: &mut [u8; 96]) -> usize
-    requires { ⌜ length (now line) ≡ 96 ⌝ }
-    ensures { λ r. ⌜ Extended (now (line .entry)) (now (line .exit)) 0 r 53 (refusedLine number place) ⌝ }
+    requires { length line.old ≡ 96 }
+    ensures { Extended line.old line.new 0 result 53 (refused_line number place) }
 {
     let number_next = pieces::put_count(b"refused ", number as u64, line, 0);
     let place_next = pieces::put_count(b" at ", place as u64, line, number_next);
@@ -113,7 +111,7 @@ fn make_refused(number: u8, place: usize, line: &mut [u8; 96]) -> usize
 
 // As `refused 10 at 0`.
 pub fn put_refused(number: u8, place: usize, buffer: &mut [u8], position: usize) -> Putting
-    ensures { λ r. ⌜ printedAt (refusedLine number place) (now (buffer .entry)) position ≡ record { answer = puttingOf r; buffer = now (buffer .exit) } ⌝ }
+    ensures { printed_at (refused_line number place) buffer.old position ≡ record { answer = putting_of result; buffer = buffer.new } }
 {
     let mut line = [0u8; 96];
     let size = make_refused(number, place, &mut line);

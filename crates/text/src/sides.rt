@@ -1,23 +1,21 @@
 // The texts of accesses in a table, each made once: 32 bytes for each access, its text and at the end the text's size.
-use crate::digits;
+ghost use Rattle.std.specs.Prelude.{◌≡◌, ◌+◌, ◌*◌, ◌≤◌, ◌<◌, length, drop};
+ghost use Rattle.std.proofs.Math.Seq.{paste};
+ghost use Rattle.bundle.specs.Commands.{putting_of};
+ghost use Rattle.text.specs.Lines.{printed_at};
+ghost use Rattle.text.specs.Inner.{Extended, access_text};
+ghost use Rattle.text.specs.Sides.{side_text, with_side, sides_line};
+
 use crate::lines::put_line;
-use crate::pieces;
+use crate::{digits, pieces};
 use bundle::command::Putting;
 use bundle::copy::copy_in;
 use verdict::race::Name;
-ghost use mathlib.Core.Path.{_≡_};
-ghost use Prim.Native.Nat.{_+_, _*_, _≤_, _<_};
-ghost use lib.ListN.{length, drop};
-ghost use lib.Seq.{paste};
-ghost use Rattle·bundle.specs.Commands.{puttingOf};
-ghost use Rattle·text·specs.specs.Lines.{printedAt};
-ghost use Rattle·text·specs.specs.Inner.{Extended, accessText};
-ghost use Rattle·text·specs.specs.Sides.{sideText, withSide, sidesLine};
 
 // Makes the text of an access in the table.
 pub fn put_side(name: Name, site: u32, sides: &mut [u8; 32768], rank: usize)
-    requires { ⌜ (rank < 1024) × (length (now sides) ≡ 32768) ⌝ }
-    ensures { λ _. ⌜ now (sides .exit) ≡ withSide (now (sides .entry)) rank (accessText name site) ⌝ }
+    requires { (rank < 1024) × (length sides.old ≡ 32768) }
+    ensures { sides.new ≡ with_side sides.old rank (access_text name site) }
 {
     let mut line = [0u8; 96];
     let size = pieces::put_access(name, site, &mut line, 0);
@@ -27,8 +25,8 @@ pub fn put_side(name: Name, site: u32, sides: &mut [u8; 32768], rank: usize)
 
 // Copies 32 bytes of the table into a line.
 fn copy_side(sides: &[u8; 32768], from: usize, line: &mut [u8; 96], at: usize)
-    requires { ⌜ (from + 32 ≤ 32768) × (at + 32 ≤ 96) × (length (now sides) ≡ 32768) × (length (now line) ≡ 96) ⌝ }
-    ensures { λ _. ⌜ now (line .exit) ≡ paste (now (line .entry)) at (drop from (now (sides .entry))) 32 ⌝ }
+    requires { (from + 32 ≤ 32768) × (at + 32 ≤ 96) × (length sides.now ≡ 32768) × (length line.old ≡ 96) }
+    ensures { line.new ≡ paste line.old at (drop from sides.now) 32 }
 {
     let mut i = 0;
     while i < 32 {
@@ -39,8 +37,8 @@ fn copy_side(sides: &[u8; 32768], from: usize, line: &mut [u8; 96], at: usize)
 
 // Puts the text of an access behind the first bytes of a line.
 fn add_side(sides: &[u8; 32768], rank: usize, line: &mut [u8; 96], at: usize) -> usize
-    requires { ⌜ (rank < 1024) × (at ≤ 64) × (length (now sides) ≡ 32768) × (length (now line) ≡ 96) ⌝ }
-    ensures { λ r. ⌜ Extended (now (line .entry)) (now (line .exit)) at r 31 (sideText (now (sides .entry)) rank) ⌝ }
+    requires { (rank < 1024) × (at ≤ 64) × (length sides.now ≡ 32768) × (length line.old ≡ 96) }
+    ensures { Extended line.old line.new at result 31 (side_text sides.now rank) }
 {
     let from = rank * 32;
     copy_side(sides, from, line, at);
@@ -54,8 +52,8 @@ fn make_sides(
     second: usize,
     line: &mut [u8; 96],
 ) -> usize
-    requires { ⌜ (first < 1024) × (second < 1024) × (length (now sides) ≡ 32768) × (length (now line) ≡ 96) ⌝ }
-    ensures { λ r. ⌜ Extended (now (line .entry)) (now (line .exit)) 0 r 76 (sidesLine witness (now (sides .entry)) first second) ⌝ }
+    requires { (first < 1024) × (second < 1024) × (length sides.now ≡ 32768) × (length line.old ≡ 96) }
+    ensures { Extended line.old line.new 0 result 76 (sides_line witness sides.now first second) }
 {
     let word_next = pieces::put_word(b"race ", line, 0);
     let witness_next = digits::put_hexadecimal(witness, line, word_next);
@@ -73,8 +71,8 @@ pub fn put_sides(
     buffer: &mut [u8],
     position: usize,
 ) -> Putting
-    requires { ⌜ (first < 1024) × (second < 1024) × (length (now sides) ≡ 32768) ⌝ }
-    ensures { λ r. ⌜ printedAt (sidesLine witness (now (sides .entry)) first second) (now (buffer .entry)) position ≡ record { answer = puttingOf r; buffer = now (buffer .exit) } ⌝ }
+    requires { (first < 1024) × (second < 1024) × (length sides.now ≡ 32768) }
+    ensures { printed_at (sides_line witness sides.now first second) buffer.old position ≡ record { answer = putting_of result; buffer = buffer.new } }
 {
     let mut line = [0u8; 96];
     let size = make_sides(witness, sides, first, second, &mut line);

@@ -1,56 +1,56 @@
 -- One file of a build, from what the functions below promise; and all of its files, one after another. Assumes nothing.
-use mathlib.Core.Path.{_≡_, refl, ap, _∙_}
+use mathlib.Core.Path.{◌≡◌, refl, ap, ◌∙◌}
 use mathlib.Core.List.{List, map}
 use mathlib.Core.Option.{some}
-use Prim.Native.Nat.{ℕ, _≤_}
+use Prim.Native.Nat.{ℕ, ◌≤◌}
 use lib.ListN.{length, take}
 use borrow.Author.Tests.{le-ltb}
-use Rattle·bundle.specs.Commands.{Lent, puttingOf}
-use Rattle·bundle.specs.declared.command.Putting.{Putting}
-use Rattle·verdict.specs.Judge.{overWork, judgeOf, judgingOf}
-use Rattle·verdict.specs.declared.race.Judgement.{Judgement}
-use Rattle·verdict.specs.declared.race.Judging.{Judging}
-use Rattle·text.specs.Lines.{printedAt}
-use Rattle·tray·specs.specs.declared.word.Outcome.{Outcome}
-use Rattle·tray·specs.specs.declared.word.Outcome.the-variants as Out
-use Rattle·tray·specs.specs.declared.word.Word.{Word}
-use Rattle·tray·specs.specs.declared.word.Word.the-variants as Wor
-use Rattle·tray·specs.specs.Words.{outcomeOf, afterOutcome, afterAll, File, fileOutcome, buildWord}
-use Rattle·tray·specs.specs.Texts.{bundleLine, unreadableLine}
-use Rattle·tray·specs.specs.Telling.{Telling, Judged, unreadableTold, judgedTold}
-use Rattle·tray·specs.specs.Inner.{nextOf}
-use Rattle·tray·proofs.proofs.WordLaws.{word-all}
-use Rattle·tray·proofs.proofs.Adding.{put-within}
-use Rattle·tray·proofs.proofs.Cutting.{cut-same}
+use Rattle.bundle.specs.Commands.{Lent, putting_of}
+use Rattle.bundle.specs.declared.command.Putting.{Putting}
+use Rattle.verdict.specs.Judge.{over_work, judge_of, judging_of}
+use Rattle.verdict.specs.declared.race.Judgement.{Judgement}
+use Rattle.verdict.specs.declared.race.Judging.{Judging}
+use Rattle.text.specs.Lines.{printed_at}
+use Rattle.tray.specs.declared.word.Outcome.{Outcome}
+use Rattle.tray.specs.declared.word.Outcome.TheVariants as Out
+use Rattle.tray.specs.declared.word.Word.{Word}
+use Rattle.tray.specs.declared.word.Word.TheVariants as Wor
+use Rattle.tray.specs.Words.{outcome_of, after_outcome, after_all, File, file_outcome, build_word}
+use Rattle.tray.specs.Texts.{bundle_line, unreadable_line}
+use Rattle.tray.specs.Telling.{Telling, Judged, unreadable_told, judged_told}
+use Rattle.tray.specs.Inner.{next_of}
+use Rattle.tray.proofs.WordLaws.{word-all}
+use Rattle.tray.proofs.Adding.{put-within}
+use Rattle.tray.proofs.Cutting.{cut-same}
 
 pub told : {judged : Lent Judgement} {next : Word} {o : Outcome} {t w : List ℕ} (word : Word) (judging : Judging) (p : Putting) (s : List ℕ) (at : ℕ)
-    → judged ≡ record { answer = judgingOf judging; buffer = w } → o ≡ outcomeOf (judgingOf judging) → next ≡ afterOutcome word o
-    → printedAt (bundleLine (judgingOf judging)) s at ≡ record { answer = puttingOf p; buffer = t }
-    → judgedTold judged word s at ≡ record { told = record { word = next; line = puttingOf p; buffer = t }; work = w }
-told word judging p s at e q a b = ap (λ (l : Lent Judgement). judgedTold l word s at) e ∙ rw (b, a, q) refl
+    → judged ≡ record { answer = judging_of judging; buffer = w } → o ≡ outcome_of (judging_of judging) → next ≡ after_outcome word o
+    → printed_at (bundle_line (judging_of judging)) s at ≡ record { answer = putting_of p; buffer = t }
+    → judged_told judged word s at ≡ record { told = record { word = next; line = putting_of p; buffer = t }; work = w }
+told word judging p s at e q a b = ap (λ (l : Lent Judgement). judged_told l word s at) e ∙ rw (b, a, q) refl
 
-pub told-unreadable : {next : Word} {t : List ℕ} (word : Word) (p : Putting) (s : List ℕ) (at : ℕ) → next ≡ afterOutcome word Out.Refused
-    → printedAt unreadableLine s at ≡ record { answer = puttingOf p; buffer = t }
-    → unreadableTold word s at ≡ record { word = next; line = puttingOf p; buffer = t }
+pub told-unreadable : {next : Word} {t : List ℕ} (word : Word) (p : Putting) (s : List ℕ) (at : ℕ) → next ≡ after_outcome word Out.Refused
+    → printed_at unreadable_line s at ≡ record { answer = putting_of p; buffer = t }
+    → unreadable_told word s at ≡ record { word = next; line = putting_of p; buffer = t }
 told-unreadable word p s at a b = rw (b, a) refl
 
 -- the line that is told of a file lies in the buffer
 pub told-within : (judged : Lent Judgement) {next : Word} {t w : List ℕ} (word : Word) (p : Putting) (s : List ℕ)
-    → judgedTold judged word s 0 ≡ record { told = record { word = next; line = puttingOf p; buffer = t }; work = w } → nextOf (puttingOf p) ≤ length t
+    → judged_told judged word s 0 ≡ record { told = record { word = next; line = putting_of p; buffer = t }; work = w } → next_of (putting_of p) ≤ length t
 told-within judged word p s e =
-    put-within (bundleLine (judged .answer)) s p (ap (λ (x : Judged). record { answer = x .told .line; buffer = x .told .buffer }) e)
+    put-within (bundle_line judged.answer) s p (ap (λ (x : Judged). record { answer = x.told.line; buffer = x.told.buffer }) e)
 
 pub unreadable-within : {next : Word} {t : List ℕ} (word : Word) (p : Putting) (s : List ℕ)
-    → unreadableTold word s 0 ≡ record { word = next; line = puttingOf p; buffer = t } → nextOf (puttingOf p) ≤ length t
-unreadable-within word p s e = put-within unreadableLine s p (ap (λ (x : Telling). record { answer = x .line; buffer = x .buffer }) e)
+    → unreadable_told word s 0 ≡ record { word = next; line = putting_of p; buffer = t } → next_of (putting_of p) ≤ length t
+unreadable-within word p s e = put-within unreadable_line s p (ap (λ (x : Telling). record { answer = x.line; buffer = x.buffer }) e)
 
 -- the word after a file of which so much was read as the program reads, in a large enough work area
 pub told-word : (s work : List ℕ) (word : Word) (buffer : List ℕ) (at : ℕ) → 16384 ≤ length work
-    → judgedTold (judgeOf (take 65537 s) work) word buffer at .told .word ≡ afterOutcome word (fileOutcome (some s))
-unfolding judgeOf overWork fileOutcome
-told-word s work word buffer at large = rw (le-ltb (length work) 16384 large) (ap (λ a. afterOutcome word (outcomeOf a)) (cut-same s))
+    → (judged_told (judge_of (take 65537 s) work) word buffer at).told.word ≡ after_outcome word (file_outcome (some s))
+unfolding judge_of over_work file_outcome
+told-word s work word buffer at large = rw (le-ltb (length work) 16384 large) (ap (λ a. after_outcome word (outcome_of a)) (cut-same s))
 
 -- from the word of no file on, file by file: the word of the build
-pub told-all : (files : List File) → afterAll Wor.Missing (map fileOutcome files) ≡ buildWord files
-unfolding buildWord
-told-all files = word-all (map fileOutcome files)
+pub told-all : (files : List File) → after_all Wor.Missing (map file_outcome files) ≡ build_word files
+unfolding build_word
+told-all files = word-all (map file_outcome files)

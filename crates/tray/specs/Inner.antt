@@ -1,8 +1,8 @@
 -- What the inner functions of making a line promise each other.
-use Prim.Native.Nat.{ℕ}
-use Rattle·bundle.specs.Answer.{Answer, gives, refuses}
+use Rattle.std.specs.Prelude.{ℕ}
+use Rattle.bundle.specs.Answer.{Answer, gives, refuses}
 
 -- the position after what was put, or the place of the refusal
-abbrev pub nextOf : Answer ℕ → ℕ
-nextOf (gives next) = next
-nextOf (refuses n p) = p
+abbrev pub next_of : Answer ℕ → ℕ
+next_of (gives next) = next
+next_of (refuses n p) = p

@@ -1,18 +1,16 @@
 // One file of a build: the build's word after it, and its line at a position of a lent buffer.
-use crate::line::put_bundle;
-use crate::line::put_unreadable;
-use crate::word::Outcome;
-use crate::word::Word;
-use crate::word::after;
-use crate::word::outcome_of;
+ghost use Rattle.std.specs.Prelude.{◌≡◌};
+ghost use Rattle.bundle.specs.Commands.{putting_of};
+ghost use Rattle.verdict.specs.Judge.{judge_of};
+ghost use Rattle.tray.specs.Telling.{judged_told, unreadable_told};
+
+use crate::line::{put_bundle, put_unreadable};
+use crate::word::{Outcome, Word, after, outcome_of};
 use bundle::command::Putting;
 use verdict::judge::judge;
-ghost use mathlib.Core.Path.{_≡_};
-ghost use Rattle·bundle.specs.Commands.{puttingOf};
-ghost use Rattle·verdict.specs.Judge.{judgeOf};
-ghost use Rattle·tray·specs.specs.Telling.{judgedTold, unreadableTold};
 
 // The build's word so far, and where the line ends.
+#[derive(Clone, Copy)]
 pub struct Told {
     pub word: Word,
     pub line: Putting,
@@ -26,7 +24,7 @@ pub fn tell_bundle(
     buffer: &mut [u8],
     position: usize,
 ) -> Told
-    ensures { λ r. ⌜ judgedTold (judgeOf (now (bytes .entry)) (now (work .entry))) word (now (buffer .entry)) position ≡ record { told = record { word = r .word; line = puttingOf (r .line); buffer = now (buffer .exit) }; work = now (work .exit) } ⌝ }
+    ensures { judged_told (judge_of bytes.now work.old) word buffer.old position ≡ record { told = record { word = result.word; line = putting_of result.line; buffer = buffer.new }; work = work.new } }
 {
     let judging = judge(bytes, work);
     Told {
@@ -37,7 +35,7 @@ pub fn tell_bundle(
 
 // A file that could not be read.
 pub fn tell_unreadable(word: Word, buffer: &mut [u8], position: usize) -> Told
-    ensures { λ r. ⌜ unreadableTold word (now (buffer .entry)) position ≡ record { word = r .word; line = puttingOf (r .line); buffer = now (buffer .exit) } ⌝ }
+    ensures { unreadable_told word buffer.old position ≡ record { word = result.word; line = putting_of result.line; buffer = buffer.new } }
 {
     Told {
         word: after(word, Outcome::Refused),

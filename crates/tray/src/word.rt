@@ -1,11 +1,12 @@
 // The outcome of each bundle of a build, and the word of the build.
-use verdict::race::Judging;
-use verdict::race::Verdict;
-ghost use mathlib.Core.Path.{_≡_};
-ghost use Rattle·verdict.specs.Judge.{judgingOf};
-ghost use Rattle·tray·specs.specs.Words.{outcomeOf, verdictOutcome, afterOutcome, afterRaceFree, afterRefused, Onward};
+ghost use Rattle.std.specs.Prelude.{◌≡◌};
+ghost use Rattle.verdict.specs.Judge.{judging_of};
+ghost use Rattle.tray.specs.Words.{outcome_of, verdict_outcome, after_outcome, after_race_free, after_refused, Onward};
+
+use verdict::race::{Judging, Verdict};
 
 // Of one bundle. One that is turned away or could not be read is refused.
+#[derive(Clone, Copy)]
 pub enum Outcome {
     Race,
     RaceFree,
@@ -13,6 +14,7 @@ pub enum Outcome {
 }
 
 // Of a build: of the bundles that were judged so far.
+#[derive(Clone, Copy)]
 pub enum Word {
     Missing,
     RaceFree,
@@ -21,7 +23,7 @@ pub enum Word {
 }
 
 fn verdict_outcome(verdict: Verdict) -> Outcome
-    ensures { λ r. ⌜ r ≡ verdictOutcome verdict ⌝ }
+    ensures { result ≡ verdict_outcome verdict }
 {
     match verdict {
         Verdict::RaceFree => Outcome::RaceFree,
@@ -31,7 +33,7 @@ fn verdict_outcome(verdict: Verdict) -> Outcome
 
 // The outcome of a bundle that was read.
 pub fn outcome_of(judging: Judging) -> Outcome
-    ensures { λ r. ⌜ r ≡ outcomeOf (judgingOf judging) ⌝ }
+    ensures { result ≡ outcome_of (judging_of judging) }
 {
     match judging {
         Judging::Judged(judgement) => {
@@ -44,8 +46,8 @@ pub fn outcome_of(judging: Judging) -> Outcome
 
 // The word of a build after one bundle more.
 pub fn after(word: Word, outcome: Outcome) -> Word
-    ensures { λ r. ⌜ r ≡ afterOutcome word outcome ⌝ }
-    ensures build { λ r. ⌜ Onward word outcome r ⌝ }
+    ensures value { result ≡ after_outcome word outcome }
+    ensures build { Onward word outcome result }
 {
     match outcome {
         Outcome::Race => Word::Race,
@@ -55,7 +57,7 @@ pub fn after(word: Word, outcome: Outcome) -> Word
 }
 
 fn after_race_free(word: Word) -> Word
-    ensures { λ r. ⌜ r ≡ afterRaceFree word ⌝ }
+    ensures { result ≡ after_race_free word }
 {
     match word {
         Word::Missing => Word::RaceFree,
@@ -66,7 +68,7 @@ fn after_race_free(word: Word) -> Word
 }
 
 fn after_refused(word: Word) -> Word
-    ensures { λ r. ⌜ r ≡ afterRefused word ⌝ }
+    ensures { result ≡ after_refused word }
 {
     match word {
         Word::Missing => Word::Refused,

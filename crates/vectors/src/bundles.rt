@@ -1,13 +1,9 @@
 // Checking a bundle, finding a chunk, and the label of a segment.
-use crate::numbers::byte_at;
-use crate::numbers::four_bytes;
-use crate::numbers::two_bytes;
+use crate::numbers::{byte_at, four_bytes, two_bytes};
 use crate::text;
 use bundle::answer::Checking;
-use order::climb::LabelAnswer;
-use order::climb::Labelling;
-use order::label::Label;
-use order::label::Triple;
+use order::climb::{LabelAnswer, Labelling};
+use order::label::{Label, Triple};
 
 fn put_checking(checking: Checking) {
     match checking {

@@ -1,16 +1,7 @@
 // Reading and putting a command.
-use crate::numbers::byte_at;
-use crate::numbers::four_bytes;
-use crate::numbers::position_of;
-use crate::numbers::two_bytes;
+use crate::numbers::{byte_at, four_bytes, position_of, two_bytes};
 use crate::text;
-use bundle::command::Access;
-use bundle::command::AccessKind;
-use bundle::command::Command;
-use bundle::command::Putting;
-use bundle::command::Range;
-use bundle::command::Reading;
-use bundle::command::kind_of;
+use bundle::command::{Access, AccessKind, Command, Putting, Range, Reading, kind_of};
 
 fn put_kind(kind: AccessKind) {
     match kind {

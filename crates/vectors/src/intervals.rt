@@ -1,11 +1,11 @@
 // The records of barrier intervals: those of a bundle put into a list, and given ones held against them.
-use crate::numbers::four_bytes;
-use crate::numbers::two_bytes;
+ghost use Rattle.std.specs.Prelude.{◌≤◌};
+
+use crate::numbers::{four_bytes, two_bytes};
 use crate::text;
 use rows::checker::RowChecking;
 use rows::export::Exporting;
 use rows::row::Row;
-ghost use Prim.Native.Nat.{_≤_};
 
 // "written N", or the refusal.
 fn put_exporting(exporting: Exporting) {
@@ -38,7 +38,7 @@ fn put_row(row: Row) {
 }
 
 fn put_list(list: [Row; 520], room: usize)
-    requires { ⌜ room ≤ 520 ⌝ }
+    requires { room ≤ 520 }
 {
     let mut i = 0;
     while i < room {
@@ -49,7 +49,7 @@ fn put_list(list: [Row; 520], room: usize)
 
 // What stands at index i of a list before records are put into it: numbers that no record of a bundle has.
 fn filler_row(i: usize) -> Row
-    requires { ⌜ i ≤ 520 ⌝ }
+    requires { i ≤ 520 }
 {
     let first = 4000000000 + 8 * (i as u32);
     Row {
@@ -76,7 +76,7 @@ fn filler_list() -> [Row; 520] {
 
 // Puts the records of the bundle into the first `room` of the list, and tells the answer.
 fn export_front(bytes: &[u8], list: [Row; 520], room: usize) -> [Row; 520]
-    requires { ⌜ room ≤ 520 ⌝ }
+    requires { room ≤ 520 }
 {
     let mut rows = list;
     put_exporting(rows::export::export_rows(bytes, &mut rows[..room]));
@@ -98,7 +98,7 @@ pub fn export(body: &[u8]) -> bool {
 
 // Eight numbers of 4 bytes.
 fn row_at(body: &[u8], at: usize) -> Row
-    requires { ⌜ at ≤ 20000 ⌝ }
+    requires { at ≤ 20000 }
 {
     Row {
         pid: four_bytes(body, at),
@@ -113,7 +113,7 @@ fn row_at(body: &[u8], at: usize) -> Row
 }
 
 fn given_list(body: &[u8], count: usize) -> [Row; 520]
-    requires { ⌜ count ≤ 520 ⌝ }
+    requires { count ≤ 520 }
 {
     let mut list = [filler_row(0); 520];
     let mut i = 0;
@@ -126,7 +126,7 @@ fn given_list(body: &[u8], count: usize) -> [Row; 520]
 
 // Holds the first `count` of the list against the records of the bundle.
 fn check_front(bytes: &[u8], list: [Row; 520], count: usize) -> RowChecking
-    requires { ⌜ count ≤ 520 ⌝ }
+    requires { count ≤ 520 }
 {
     let rows = list;
     rows::checker::check_rows(bytes, &rows[..count])

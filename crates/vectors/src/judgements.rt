@@ -1,15 +1,9 @@
 // Judging a bundle, and the next race, over a work area that a word of the frame fills.
-use crate::numbers::byte_at;
-use crate::numbers::four_bytes;
-use crate::numbers::two_bytes;
+ghost use Rattle.std.specs.Prelude.{◌≤◌};
+
+use crate::numbers::{byte_at, four_bytes, two_bytes};
 use crate::text;
-use verdict::race::Judgement;
-use verdict::race::Judging;
-use verdict::race::Name;
-use verdict::race::Next;
-use verdict::race::Race;
-use verdict::race::Verdict;
-ghost use Prim.Native.Nat.{_≤_};
+use verdict::race::{Judgement, Judging, Name, Next, Race, Verdict};
 
 // "T.M.N"
 fn put_name(name: Name) {
@@ -122,6 +116,7 @@ pub fn judge(body: &[u8]) -> bool {
     judge_in(body, &mut work)
 }
 
+#[derive(Clone, Copy)]
 struct Key {
     witness: u32,
     first: Name,
@@ -130,7 +125,7 @@ struct Key {
 
 // Team (2 bytes), member (1) and number (2).
 fn name_at(body: &[u8], at: usize) -> Name
-    requires { ⌜ at ≤ 100 ⌝ }
+    requires { at ≤ 100 }
 {
     Name {
         team: two_bytes(body, at),

@@ -1,6 +1,8 @@
 // Answers framed cases from standard input with the proved operations, a line for each frame.
 //
 // A frame is an operation (1 byte), the length of the body (4 bytes, low byte first), and the body.
+#![tactic(auto)]
+
 mod bundles;
 mod commands;
 mod intervals;

@@ -1,12 +1,12 @@
 // Numbers in the body of a frame, low byte first; past its end the bytes are 0.
-ghost use Prim.Native.Nat.{_≤_};
+ghost use Rattle.std.specs.Prelude.{◌≤◌};
 
 pub fn byte_at(bytes: &[u8], at: usize) -> u8 {
     if at < bytes.len() { bytes[at] } else { 0 }
 }
 
 pub fn two_bytes(bytes: &[u8], at: usize) -> u16
-    requires { ⌜ at ≤ 70000 ⌝ }
+    requires { at ≤ 70000 }
 {
     let low = byte_at(bytes, at);
     let high = byte_at(bytes, at + 1);
@@ -14,7 +14,7 @@ pub fn two_bytes(bytes: &[u8], at: usize) -> u16
 }
 
 pub fn four_bytes(bytes: &[u8], at: usize) -> u32
-    requires { ⌜ at ≤ 60000 ⌝ }
+    requires { at ≤ 60000 }
 {
     let low = two_bytes(bytes, at);
     let high = two_bytes(bytes, at + 2);

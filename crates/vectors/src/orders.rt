@@ -1,19 +1,15 @@
 // Comparing labels, and the lowest shared byte of two ranges.
-use crate::numbers::byte_at;
-use crate::numbers::four_bytes;
-use crate::numbers::two_bytes;
+ghost use Rattle.std.specs.Prelude.{◌≤◌};
+
+use crate::numbers::{byte_at, four_bytes, two_bytes};
 use crate::text;
 use bundle::command::Range;
-use order::label::Comparison;
-use order::label::Label;
-use order::label::Order;
-use order::label::Triple;
+use order::label::{Comparison, Label, Order, Triple};
 use order::range::Shared;
-ghost use Prim.Native.Nat.{_≤_};
 
 // Three numbers of 4 bytes.
 fn triple_at(body: &[u8], at: usize) -> Triple
-    requires { ⌜ at ≤ 1000 ⌝ }
+    requires { at ≤ 1000 }
 {
     Triple {
         offset: four_bytes(body, at),
@@ -24,7 +20,7 @@ fn triple_at(body: &[u8], at: usize) -> Triple
 
 // A count of 4 bytes, and five triples.
 fn label_at(body: &[u8], at: usize) -> Label
-    requires { ⌜ at ≤ 100 ⌝ }
+    requires { at ≤ 100 }
 {
     Label {
         count: four_bytes(body, at),
@@ -67,7 +63,7 @@ pub fn compare(body: &[u8]) -> bool {
 
 // Base (4 bytes), stride (2), count (2) and size (1).
 fn range_at(body: &[u8], at: usize) -> Range
-    requires { ⌜ at ≤ 100 ⌝ }
+    requires { at ≤ 100 }
 {
     Range {
         base: four_bytes(body, at),

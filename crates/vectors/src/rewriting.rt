@@ -1,6 +1,5 @@
 // Rewriting a bundle into a buffer: with its chunks in order, or with its accesses in one group.
-use crate::numbers::byte_at;
-use crate::numbers::four_bytes;
+use crate::numbers::{byte_at, four_bytes};
 use crate::text;
 use rewrite::rewrite::Rewriting;
 

@@ -1,42 +1,42 @@
 -- The order of keys: lists of numbers by the first number in which they differ.
-use Prim.Native.Nat.{ℕ, _<_}
-use mathlib.Core.Path.{_≡_, refl, sym, _∙_}
-use mathlib.Core.Logic.{_⊎_, inl, inr, ⊎-elim}
-use mathlib.Core.Bool.{true, false, _&&_}
-use mathlib.Core.List.{List, [], _∷_}
+use Prim.Native.Nat.{ℕ, ◌<◌}
+use mathlib.Core.Path.{◌≡◌, refl, sym, ◌∙◌}
+use mathlib.Core.Logic.{◌⊎◌, inl, inr, ⊎_elim}
+use mathlib.Core.Bool.{true, false, ◌&&◌}
+use mathlib.Core.List.{List, [], ◌∷◌}
 use native.Mathlib.Omega.{arith}
 use lib.Dec.{eqb, ltb}
 use borrow.Author.Tests.{eqb-true, eq-eqb, ltb-true, lt-ltb, ltb-false, eqb-false}
-use Rattle·bundle.proofs.Tests.{false-is-true, both, and-left, and-right, or-cases, or-one, or-other, decide}
-use Rattle·verdict·specs.specs.Accesses.{lexLess, nameKey, keyOf, raceKey}
-use Rattle·verdict·specs.specs.declared.race.Name.{Name}
-use Rattle·verdict·specs.specs.declared.race.Race.{Race}
+use Rattle.bundle.proofs.Tests.{false-is-true, both, and_left, and_right, or_cases, or-one, or-other, decide}
+use Rattle.verdict.specs.Accesses.{lex_less, name_key, key_of, race_key}
+use Rattle.verdict.specs.declared.race.Name.{Name}
+use Rattle.verdict.specs.declared.race.Race.{Race}
 
 -- what the order says of two lists that have a first number
 module _ (x y : ℕ) (xs ys : List ℕ) where
-  pub less-elim : lexLess (x ∷ xs) (y ∷ ys) ≡ true → (x < y) ⊎ ((x ≡ y) × (lexLess xs ys ≡ true))
-  unfolding lexLess
+  pub less-elim : lex_less (x ∷ xs) (y ∷ ys) ≡ true → (x < y) ⊎ ((x ≡ y) × (lex_less xs ys ≡ true))
+  unfolding lex_less
   less-elim e =
-      ⊎-elim
+      ⊎_elim
       (λ h. inl (ltb-true x y h))
-      (λ h. inr (eqb-true x y (and-left (eqb x y) (lexLess xs ys) h), and-right (eqb x y) (lexLess xs ys) h))
-      (or-cases (ltb x y) (eqb x y && lexLess xs ys) e)
+      (λ h. inr (eqb-true x y (and_left (eqb x y) (lex_less xs ys) h), and_right (eqb x y) (lex_less xs ys) h))
+      (or_cases (ltb x y) (eqb x y && lex_less xs ys) e)
 
-  pub less-head : x < y → lexLess (x ∷ xs) (y ∷ ys) ≡ true
-  unfolding lexLess
-  less-head h = or-one (eqb x y && lexLess xs ys) (lt-ltb x y h)
+  pub less-head : x < y → lex_less (x ∷ xs) (y ∷ ys) ≡ true
+  unfolding lex_less
+  less-head h = or-one (eqb x y && lex_less xs ys) (lt-ltb x y h)
 
-  pub less-tail : x ≡ y → lexLess xs ys ≡ true → lexLess (x ∷ xs) (y ∷ ys) ≡ true
-  unfolding lexLess
+  pub less-tail : x ≡ y → lex_less xs ys ≡ true → lex_less (x ∷ xs) (y ∷ ys) ≡ true
+  unfolding lex_less
   less-tail q h = or-other (ltb x y) (both (eq-eqb x y q) h)
 
-pub less-irreflexive : (a : List ℕ) → lexLess a a ≡ true → ⊥
-unfolding lexLess
+pub less-irreflexive : (a : List ℕ) → lex_less a a ≡ true → ⊥
+unfolding lex_less
 less-irreflexive [] e = false-is-true e
-less-irreflexive (x ∷ xs) e = ⊎-elim (λ (h : x < x). omega arith) (λ h. less-irreflexive xs (h .1)) (less-elim x x xs xs e)
+less-irreflexive (x ∷ xs) e = ⊎_elim (λ (h : x < x). omega arith) (λ h. less-irreflexive xs h.1) (less-elim x x xs xs e)
 
-pub less-trans : (a b c : List ℕ) → lexLess a b ≡ true → lexLess b c ≡ true → lexLess a c ≡ true
-unfolding lexLess
+pub less-trans : (a b c : List ℕ) → lex_less a b ≡ true → lex_less b c ≡ true → lex_less a c ≡ true
+unfolding lex_less
 less-trans [] [] c e f = f
 less-trans [] (y ∷ ys) [] e f = f
 less-trans [] (y ∷ ys) (z ∷ zs) e f = refl
@@ -45,26 +45,26 @@ less-trans (x ∷ xs) (y ∷ ys) [] e f = f
 less-trans (x ∷ xs) (y ∷ ys) (z ∷ zs) e f = go (less-trans xs ys zs) (less-elim x y xs ys e) (less-elim y z ys zs f)
   where
     go :
-        (lexLess xs ys ≡ true → lexLess ys zs ≡ true → lexLess xs zs ≡ true)
-        → (x < y) ⊎ ((x ≡ y) × (lexLess xs ys ≡ true))
-        → (y < z) ⊎ ((y ≡ z) × (lexLess ys zs ≡ true))
-        → lexLess (x ∷ xs) (z ∷ zs) ≡ true
+        (lex_less xs ys ≡ true → lex_less ys zs ≡ true → lex_less xs zs ≡ true)
+        → (x < y) ⊎ ((x ≡ y) × (lex_less xs ys ≡ true))
+        → (y < z) ⊎ ((y ≡ z) × (lex_less ys zs ≡ true))
+        → lex_less (x ∷ xs) (z ∷ zs) ≡ true
     go ih (inl p) (inl q) = less-head x z xs zs (omega arith)
     go ih (inl p) (inr q) = less-head x z xs zs (omega arith)
     go ih (inr p) (inl q) = less-head x z xs zs (omega arith)
-    go ih (inr p) (inr q) = less-tail x z xs zs (p .0 ∙ q .0) (ih (p .1) (q .1))
+    go ih (inr p) (inr q) = less-tail x z xs zs (p.0 ∙ q.0) (ih p.1 q.1)
 
-pub less-asymmetric : (a b : List ℕ) → lexLess a b ≡ true → lexLess b a ≡ true → ⊥
+pub less-asymmetric : (a b : List ℕ) → lex_less a b ≡ true → lex_less b a ≡ true → ⊥
 less-asymmetric a b e f = less-irreflexive a (less-trans a b a e f)
 
 -- two lists are one of three
 pub data Compared (a b : List ℕ) : Type 0 where
-  less : lexLess a b ≡ true → Compared a b
+  less : lex_less a b ≡ true → Compared a b
   same : a ≡ b → Compared a b
-  more : lexLess b a ≡ true → Compared a b
+  more : lex_less b a ≡ true → Compared a b
 
 pub compare : (a b : List ℕ) → Compared a b
-unfolding lexLess
+unfolding lex_less
 compare [] [] = same refl
 compare [] (y ∷ ys) = less refl
 compare (x ∷ xs) [] = more refl
@@ -85,14 +85,14 @@ compare (x ∷ xs) (y ∷ ys) = go (compare xs ys) (decide (ltb x y)) (decide (e
     go (more h) (inr p) (inl q) = more (less-tail y x ys xs (sym (eqb-true x y q)) h)
 
 -- a key tells what it is made of
-pub nameKey-tells : (a b : Name) → nameKey a ≡ nameKey b → a ≡ b
-unfolding nameKey
-nameKey-tells a b e = go (cc) (cc) (cc)
+pub name_key-tells : (a b : Name) → name_key a ≡ name_key b → a ≡ b
+unfolding name_key
+name_key-tells a b e = go (cc) (cc) (cc)
   where
-    go : a .team ≡ b .team → a .member ≡ b .member → a .number ≡ b .number → a ≡ b
+    go : a.team ≡ b.team → a.member ≡ b.member → a.number ≡ b.number → a ≡ b
     go t m n = λ i. record { team = t i; member = m i; number = n i }
 
-pub raceKey-tells :
-    (r q : Race) → raceKey r ≡ raceKey q → (r .witness ≡ q .witness) × (r .first ≡ q .first) × (r .second ≡ q .second)
-unfolding raceKey keyOf nameKey
-raceKey-tells r q e = (cc, nameKey-tells (r .first) (q .first) (cc), nameKey-tells (r .second) (q .second) (cc))
+pub race_key-tells :
+    (r q : Race) → race_key r ≡ race_key q → (r.witness ≡ q.witness) × (r.first ≡ q.first) × (r.second ≡ q.second)
+unfolding race_key key_of name_key
+race_key-tells r q e = (cc, name_key-tells r.first q.first (cc), name_key-tells r.second q.second (cc))

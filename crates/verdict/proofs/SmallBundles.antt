@@ -1,17 +1,17 @@
 -- Small bundles, good and bad, with what the second reader in tests/ finds in them. tests/write_examples writes this file.
-use Prim.Native.Nat.{ℕ, zero, suc, _/_, _%_}
-use mathlib.Core.Path.{_≡_, refl}
-use mathlib.Core.List.{List, [], _∷_, _++_, map}
-use Rattle·bundle.specs.Answer.{Answer, gives, refuses, whenGiven}
-use Rattle·bundle.specs.Chunks.{chunksOf}
-use Rattle·bundle.specs.Check.{checkOf}
-use Rattle·verdict·specs.specs.RaceLists.{racesOf}
-use Rattle·verdict·specs.specs.Judge.{judgementOf}
-use Rattle·verdict·specs.specs.declared.race.Race.{Race}
-use Rattle·verdict·specs.specs.declared.race.Verdict.{Verdict}
-use Rattle·verdict·specs.specs.declared.race.Verdict.the-variants as Ver
-use Rattle·verdict·specs.specs.declared.race.Judgement.{Judgement}
-use Rattle·verdict·proofs.proofs.Computing.{verdict-computes}
+use Prim.Native.Nat.{ℕ, zero, suc, ◌/◌, ◌%◌}
+use mathlib.Core.Path.{◌≡◌, refl}
+use mathlib.Core.List.{List, [], ◌∷◌, ◌++◌, map}
+use Rattle.bundle.specs.Answer.{Answer, gives, refuses, when_given}
+use Rattle.bundle.specs.Chunks.{chunks_of}
+use Rattle.bundle.specs.Check.{check_of}
+use Rattle.verdict.specs.RaceLists.{races_of}
+use Rattle.verdict.specs.Judge.{judgement_of}
+use Rattle.verdict.specs.declared.race.Race.{Race}
+use Rattle.verdict.specs.declared.race.Verdict.{Verdict}
+use Rattle.verdict.specs.declared.race.Verdict.TheVariants as Ver
+use Rattle.verdict.specs.declared.race.Judgement.{Judgement}
+use Rattle.verdict.proofs.Computing.{verdict-computes}
 
 -- as many bytes as told, of a number in hexadecimal, the first byte first
 unfoldable pub bytes : ℕ → ℕ → List ℕ
@@ -24,7 +24,7 @@ pub record Found : Type 0 where
   pub races : List Race
 
 pub found : List ℕ → Answer Found
-found s = whenGiven (checkOf s) (λ u. gives (record { judgement = judgementOf (chunksOf s); races = racesOf (chunksOf s) }))
+found s = when_given (check_of s) (λ u. gives (record { judgement = judgement_of (chunks_of s); races = races_of (chunks_of s) }))
 
 pub record SmallBundle : Type 0 where
   pub bundle : List ℕ
@@ -48,15 +48,15 @@ judged s chunks segments accesses races verdict all =
 
 -- witness; team, member, number, site and element of the first access, and of the second
 unfoldable pub race : ℕ → ℕ → ℕ → ℕ → ℕ → ℕ → ℕ → ℕ → ℕ → ℕ → ℕ → Race
-race w t m n s e t′ m′ n′ s′ e′ =
+race w t m n s e t' m' n' s' e' =
     record {
       witness = w;
       first = record { team = t; member = m; number = n };
-      «first_site» = s;
-      «first_element» = e;
-      second = record { team = t′; member = m′; number = n′ };
-      «second_site» = s′;
-      «second_element» = e′;
+      first_site = s;
+      first_element = e;
+      second = record { team = t'; member = m'; number = n' };
+      second_site = s';
+      second_element = e';
     }
 
 pub table : List SmallBundle
@@ -195,6 +195,6 @@ table =
     judged (bytes 67 0x01000000100100020201010000310100080000000100080008020101000130020016000000000001000130030010000000000001000130040008000000000001000102) 3 4 4 3 (Ver.Least (race 8 1 0 0 1 0 1 1 2 4 0)) (race 8 1 0 0 1 0 1 1 2 4 0 ∷ race 16 1 0 0 1 1 1 1 1 3 0 ∷ race 22 1 0 0 1 7 1 1 0 2 0 ∷ []) ∷
     []
 
-pub small-bundles : map (λ (r : SmallBundle). found (r .bundle)) table ≡ map (λ (r : SmallBundle). r .wanted) table
+pub small-bundles : map (λ (r : SmallBundle). found r.bundle) table ≡ map (λ (r : SmallBundle). r.wanted) table
 unfolding verdict-computes bytes found refused judged race table
 small-bundles = refl

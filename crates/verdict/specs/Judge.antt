@@ -1,77 +1,73 @@
 -- Judging a bundle, and the next race.
-use Prim.Native.Nat.{ℕ}
-use mathlib.Core.Bool.{cond}
-use mathlib.Core.List.{List, [], _∷_}
-use mathlib.Core.Option.{Option, none, some}
-use lib.ListN.{length, replicate}
-use lib.Dec.{ltb}
-use Rattle·bundle.specs.Answer.{Answer, gives, refuses, whenGiven, numberOf}
-use Rattle·bundle.specs.Lists.{first}
-use Rattle·bundle.specs.Commands.{Lent}
-use Rattle·bundle.specs.Chunks.{Chunk, chunksOf}
-use Rattle·bundle.specs.Check.{checkOf}
-use Rattle·verdict·specs.specs.Graph.{segmentsOf}
-use Rattle·verdict·specs.specs.Accesses.{accessesOf, lexLess, keyOf, raceKey}
-use Rattle·verdict·specs.specs.RaceLists.{racesOf}
-use Rattle·verdict·specs.specs.declared.race.Name.{Name}
-use Rattle·verdict·specs.specs.declared.race.Race.{Race}
-use Rattle·verdict·specs.specs.declared.race.Verdict.{Verdict}
-use Rattle·verdict·specs.specs.declared.race.Verdict.the-variants as Ver
-use Rattle·verdict·specs.specs.declared.race.Judgement.{Judgement}
-use Rattle·verdict·specs.specs.declared.race.Judging.{Judging}
-use Rattle·verdict·specs.specs.declared.race.Judging.the-variants as Jud
-use Rattle·verdict·specs.specs.declared.race.Next.{Next}
-use Rattle·verdict·specs.specs.declared.race.Next.the-variants as Nex
+use Rattle.std.specs.Prelude.{ℕ, cond, List, [], ◌∷◌, length, replicate, ltb}
+use Rattle.std.proofs.Math.Option.{Option, none, some}
+use Rattle.bundle.specs.Answer.{Answer, gives, refuses, when_given, number_of}
+use Rattle.bundle.specs.Lists.{first}
+use Rattle.bundle.specs.Commands.{Lent}
+use Rattle.bundle.specs.Chunks.{Chunk, chunks_of}
+use Rattle.bundle.specs.Check.{check_of}
+use Rattle.verdict.specs.Graph.{segments_of}
+use Rattle.verdict.specs.Accesses.{accesses_of, lex_less, key_of, race_key}
+use Rattle.verdict.specs.RaceLists.{races_of}
+use Rattle.verdict.specs.declared.race.Name.{Name}
+use Rattle.verdict.specs.declared.race.Race.{Race}
+use Rattle.verdict.specs.declared.race.Verdict.{Verdict}
+use Rattle.verdict.specs.declared.race.Verdict.TheVariants as Ver
+use Rattle.verdict.specs.declared.race.Judgement.{Judgement}
+use Rattle.verdict.specs.declared.race.Judging.{Judging}
+use Rattle.verdict.specs.declared.race.Judging.TheVariants as Jud
+use Rattle.verdict.specs.declared.race.Next.{Next}
+use Rattle.verdict.specs.declared.race.Next.TheVariants as Nex
 
 -- "the least race or race-free"
-unfoldable pub verdictOf : List Race → Verdict
-verdictOf [] = Ver.RaceFree
-verdictOf (r ∷ rs) = Ver.Least r
+unfoldable pub verdict_of : List Race → Verdict
+verdict_of [] = Ver.RaceFree
+verdict_of (r ∷ rs) = Ver.Least r
 
 -- "Judging gives the counts of the bundle's chunks, segments, accesses and races, each race counted once, and the least race or race-free"
-unfoldable pub judgementOf : List Chunk → Judgement
-judgementOf cs =
-    let races = racesOf cs in
+unfoldable pub judgement_of : List Chunk → Judgement
+judgement_of cs =
+    let races = races_of cs in
     record {
       chunks = length cs;
-      segments = length (segmentsOf cs);
-      accesses = length (accessesOf cs);
+      segments = length (segments_of cs);
+      accesses = length (accesses_of cs);
       races = length races;
-      verdict = verdictOf races;
+      verdict = verdict_of races;
     }
 
 -- "Next race takes a witness and two names, real or not, and gives the least race above them, or none"
-unfoldable pub raceAbove : List ℕ → List Race → Option Race
-raceAbove key rs = first (λ (r : Race). lexLess key (raceKey r)) rs
+unfoldable pub race_above : List ℕ → List Race → Option Race
+race_above key rs = first (λ (r : Race). lex_less key (race_key r)) rs
 
 -- "13 work area under 16,384 words of 32 bits, at 0, left untouched; then as check. After every other outcome the whole area is 0":
 -- the answer, and the work area afterwards
-unfoldable pub overWork : {A : Type 0} → List ℕ → Answer A → Lent A
-overWork work answer =
+unfoldable pub over_work : {A : Type 0} → List ℕ → Answer A → Lent A
+over_work work answer =
     cond (ltb (length work) 16384)
     (record { answer = refuses 13 0; buffer = work })
     (record { answer = answer; buffer = replicate (length work) 0 })
 
 -- "Judge": as check, else the judgement
-unfoldable pub judgedOf : List ℕ → Answer Judgement
-judgedOf s = whenGiven (checkOf s) (λ u. gives (judgementOf (chunksOf s)))
+unfoldable pub judged_of : List ℕ → Answer Judgement
+judged_of s = when_given (check_of s) (λ u. gives (judgement_of (chunks_of s)))
 
-unfoldable pub judgeOf : List ℕ → List ℕ → Lent Judgement
-judgeOf s work = overWork work (judgedOf s)
+unfoldable pub judge_of : List ℕ → List ℕ → Lent Judgement
+judge_of s work = over_work work (judged_of s)
 
 -- "Next race": as check, else the least race above the key
-unfoldable pub nextAbove : List ℕ → List ℕ → Answer (Option Race)
-nextAbove s key = whenGiven (checkOf s) (λ u. gives (raceAbove key (racesOf (chunksOf s))))
+unfoldable pub next_above : List ℕ → List ℕ → Answer (Option Race)
+next_above s key = when_given (check_of s) (λ u. gives (race_above key (races_of (chunks_of s))))
 
-unfoldable pub nextOf : List ℕ → ℕ → Name → Name → List ℕ → Lent (Option Race)
-nextOf s witness first second work = overWork work (nextAbove s (keyOf witness first second))
+unfoldable pub next_of : List ℕ → ℕ → Name → Name → List ℕ → Lent (Option Race)
+next_of s witness first second work = over_work work (next_above s (key_of witness first second))
 
 -- what the code's answers say
-abbrev pub judgingOf : Judging → Answer Judgement
-judgingOf (Jud.Judged j) = gives j
-judgingOf (Jud.Refused place cause) = refuses (numberOf cause) place
+abbrev pub judging_of : Judging → Answer Judgement
+judging_of (Jud.Judged j) = gives j
+judging_of (Jud.Refused place cause) = refuses (number_of cause) place
 
-abbrev pub nextRaceOf : Next → Answer (Option Race)
-nextRaceOf (Nex.Found r) = gives (some r)
-nextRaceOf Nex.Nothing = gives none
-nextRaceOf (Nex.Refused place cause) = refuses (numberOf cause) place
+abbrev pub next_race_of : Next → Answer (Option Race)
+next_race_of (Nex.Found r) = gives (some r)
+next_race_of Nex.Nothing = gives none
+next_race_of (Nex.Refused place cause) = refuses (number_of cause) place

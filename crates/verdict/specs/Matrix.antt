@@ -1,18 +1,13 @@
 -- Inner: reachability as bits: 512 rows of 512 bits in 8,192 words of 32 bits, 16 words a row.
-use Prim.Native.Nat.{ℕ, zero, suc, _+_, _*_, _/_, _%_, _^_, _≤_, _<_}
-use mathlib.Core.Path.{_≡_}
-use mathlib.Core.Logic.{_↔_}
-use mathlib.Core.Bool.{Bool, true, _&&_, _||_}
-use mathlib.Core.List.{List}
-use mathlib.Core.Option.{some}
-use lib.Dec.{eqb}
-use lib.ListN.{length, getD, getElem?}
-use Rattle·verdict·specs.specs.Graph.{Segment}
-use Rattle·verdict·specs.specs.GraphTests.{joins, closureOf, reaches}
+use Rattle.std.specs.Prelude.{ℕ, zero, suc, ◌+◌, ◌*◌, ◌/◌, ◌%◌, ◌^◌, ◌≤◌, ◌<◌, ◌≡◌, ◌↔◌, Bool, true, ◌&&◌, ◌||◌, List, eqb, length, get_or}
+use Rattle.std.proofs.Math.Option.{some}
+use Rattle.std.proofs.Math.ListN.{get_elem?}
+use Rattle.verdict.specs.Graph.{Segment}
+use Rattle.verdict.specs.GraphTests.{joins, closure_of, reaches}
 
 -- the bit in row i and column j
-unfoldable pub bitAt : List ℕ → ℕ → ℕ → Bool
-bitAt m i j = eqb (getD m (16 * i + j / 32) 0 / 2 ^ (j % 32) % 2) 1
+unfoldable pub bit_at : List ℕ → ℕ → ℕ → Bool
+bit_at m i j = eqb (get_or m (16 * i + j / 32) 0 / 2 ^ (j % 32) % 2) 1
 
 -- the tests of 32 columns in a word, the first of them lowest
 pub record TestWord (test : ℕ → Bool) (first word : ℕ) : Type 0 where
@@ -32,30 +27,30 @@ pub record Square (m : List ℕ) (n : ℕ) : Type 0 where
 -- one bit is set
 pub record BitSet (i j : ℕ) (before after : List ℕ) : Type 0 where
   pub len : length after ≡ length before
-  pub here : bitAt after i j ≡ true
-  pub others : (r c : ℕ) → r < 512 → c < 512 → (r ≡ i → c ≡ j → ⊥) → bitAt after r c ≡ bitAt before r c
+  pub here : bit_at after i j ≡ true
+  pub others : (r c : ℕ) → r < 512 → c < 512 → (r ≡ i → c ≡ j → ⊥) → bit_at after r c ≡ bit_at before r c
 
 -- the bits on the diagonal are set
 pub record DiagonalSet (n : ℕ) (before after : List ℕ) : Type 0 where
   pub len : length after ≡ length before
-  pub bits : (r c : ℕ) → r < n → c < 512 → bitAt after r c ≡ (eqb r c || bitAt before r c)
+  pub bits : (r c : ℕ) → r < n → c < 512 → bit_at after r c ≡ (eqb r c || bit_at before r c)
 
 -- the bits of row k are set in row i too
 pub record RowJoined (i k : ℕ) (before after : List ℕ) : Type 0 where
   pub len : length after ≡ length before
-  pub row : (c : ℕ) → c < 512 → bitAt after i c ≡ (bitAt before i c || bitAt before k c)
-  pub others : (r c : ℕ) → r < 512 → c < 512 → (r ≡ i → ⊥) → bitAt after r c ≡ bitAt before r c
+  pub row : (c : ℕ) → c < 512 → bit_at after i c ≡ (bit_at before i c || bit_at before k c)
+  pub others : (r c : ℕ) → r < 512 → c < 512 → (r ≡ i → ⊥) → bit_at after r c ≡ bit_at before r c
 
 -- the same where row i has bit k
 pub record RowRelaxed (i k : ℕ) (before after : List ℕ) : Type 0 where
   pub len : length after ≡ length before
-  pub row : (c : ℕ) → c < 512 → bitAt after i c ≡ (bitAt before i c || bitAt before i k && bitAt before k c)
-  pub others : (r c : ℕ) → r < 512 → c < 512 → (r ≡ i → ⊥) → bitAt after r c ≡ bitAt before r c
+  pub row : (c : ℕ) → c < 512 → bit_at after i c ≡ (bit_at before i c || bit_at before i k && bit_at before k c)
+  pub others : (r c : ℕ) → r < 512 → c < 512 → (r ≡ i → ⊥) → bit_at after r c ≡ bit_at before r c
 
 -- the same for every row: the pass of Warshall's algorithm for the node k
 pub record Passed (n k : ℕ) (before after : List ℕ) : Type 0 where
   pub len : length after ≡ length before
-  pub bits : (r c : ℕ) → r < n → c < 512 → bitAt after r c ≡ (bitAt before r c || bitAt before r k && bitAt before k c)
+  pub bits : (r c : ℕ) → r < n → c < 512 → bit_at after r c ≡ (bit_at before r c || bit_at before r k && bit_at before k c)
 
 -- the passes for the nodes below k, from an edge test
 unfoldable pub stage : (ℕ → ℕ → Bool) → ℕ → ℕ → ℕ → Bool
@@ -64,7 +59,7 @@ stage edge (suc k) i j = stage edge k i j || stage edge k i k && stage edge k k 
 
 pub record Staged (n : ℕ) (before after : List ℕ) : Type 0 where
   pub len : length after ≡ length before
-  pub bits : (r c : ℕ) → r < n → c < 512 → bitAt after r c ≡ stage (bitAt before) n r c
+  pub bits : (r c : ℕ) → r < n → c < 512 → bit_at after r c ≡ stage (bit_at before) n r c
 
 -- a walk of any length, none too, along edges from nodes below n
 pub data Walk (n : ℕ) (edge : ℕ → ℕ → Bool) (i : ℕ) : ℕ → Type 0 where
@@ -74,16 +69,16 @@ pub data Walk (n : ℕ) (edge : ℕ → ℕ → Bool) (i : ℕ) : ℕ → Type 0
 -- a bit is set where there is a walk along the bits that were set
 pub record Closed (n : ℕ) (before after : List ℕ) : Type 0 where
   pub len : length after ≡ length before
-  pub walks : (i j : ℕ) → i < n → j < n → bitAt after i j ≡ true ↔ Walk n (bitAt before) i j
+  pub walks : (i j : ℕ) → i < n → j < n → bit_at after i j ≡ true ↔ Walk n (bit_at before) i j
 
 -- the bits say which segments of a list have an edge, by their places in the list
 pub record EdgeBits (segments : List Segment) (m : List ℕ) : Type 0 where
-  pub bits : (i j : ℕ) {a b : Segment} → getElem? segments i ≡ some a → getElem? segments j ≡ some b → bitAt m i j ≡ joins a b
+  pub bits : (i j : ℕ) {a b : Segment} → get_elem? segments i ≡ some a → get_elem? segments j ≡ some b → bit_at m i j ≡ joins a b
 
 -- the bits say which segments reach which
 pub record PathBits (segments : List Segment) (m : List ℕ) : Type 0 where
   pub bits :
       (i j : ℕ) {a b : Segment}
-      → getElem? segments i ≡ some a
-      → getElem? segments j ≡ some b
-      → bitAt m i j ≡ reaches (closureOf segments) (a .node) (b .node)
+      → get_elem? segments i ≡ some a
+      → get_elem? segments j ≡ some b
+      → bit_at m i j ≡ reaches (closure_of segments) a.node b.node

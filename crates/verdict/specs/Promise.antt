@@ -1,17 +1,14 @@
 -- Demand 3 at one bundle and the judge's answer to it.
-use Prim.Native.Nat.{ℕ, _≤_}
-use mathlib.Core.Path.{_≡_}
-use mathlib.Core.List.{List}
-use lib.ListN.{length}
-use Rattle·bundle.specs.Check.{Accepted, Reordered}
-use Rattle·verdict·specs.specs.Demand.{Judged}
-use Rattle·verdict·specs.specs.declared.race.Judging.{Judging}
-use Rattle·verdict·specs.specs.declared.race.Judging.the-variants as Jud
+use Rattle.std.specs.Prelude.{ℕ, ◌≤◌, ◌≡◌, List, length}
+use Rattle.bundle.specs.Check.{Accepted, Reordered}
+use Rattle.verdict.specs.Demand.{Judged}
+use Rattle.verdict.specs.declared.race.Judging.{Judging}
+use Rattle.verdict.specs.declared.race.Judging.TheVariants as Jud
 
 -- the answer r to a bundle b in the work area v is what demand 3 asks for, with the chunks in the order c and the work area w
 pub record Kept (b c v w : List ℕ) (r : Judging) : Type 0 where
   pub judged : Judged b c v w
-  pub answer : r ≡ Jud.Judged (judged .judgement)
+  pub answer : r ≡ Jud.Judged judged.judgement
 
 -- "For every accepted bundle and every order of its chunks .. Given work areas no smaller than document 01's size, whatever they hold"
 abbrev pub Promise : List ℕ → List ℕ → Judging → Type 0

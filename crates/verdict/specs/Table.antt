@@ -1,25 +1,22 @@
 -- The settled cases P1 to P14 of the format (docs/FORMAT.md) as data, each with what is wanted. `proofs/Examples.antt` proves that the definitions agree.
-use Prim.Native.Nat.{ℕ}
-use mathlib.Core.Bool.{false}
-use mathlib.Core.List.{List, [], _∷_, _++_}
-use mathlib.Core.Option.{Option, none, some}
-use lib.ListN.{length, take, replicate}
-use Rattle·bundle.specs.Answer.{Answer, gives, refuses}
-use Rattle·bundle.specs.Commands.{Taken, readAt}
-use Rattle·bundle.specs.declared.command.AccessKind.the-variants as Kind
-use Rattle·bundle.specs.declared.command.Range.{Range}
-use Rattle·bundle.specs.declared.command.Command.the-variants as Com
-use Rattle·order.specs.Labels.{labelOf, compareOf}
-use Rattle·order.specs.Ranges.{sharedOf}
-use Rattle·order.specs.declared.range.Overlap.{Overlap}
-use Rattle·order.specs.declared.label.Triple.{Triple}
-use Rattle·order.specs.declared.label.Label.{Label}
-use Rattle·order.specs.declared.label.Order.{Order}
-use Rattle·order.specs.declared.label.Order.the-variants as Ord
-use Rattle·verdict·specs.specs.Judge.{judgedOf}
-use Rattle·verdict·specs.specs.declared.race.Verdict.{Verdict}
-use Rattle·verdict·specs.specs.declared.race.Verdict.the-variants as Ver
-use Rattle·verdict·specs.specs.declared.race.Judgement.{Judgement}
+use Rattle.std.specs.Prelude.{ℕ, false, List, [], ◌∷◌, ◌++◌, length, take, replicate}
+use Rattle.std.proofs.Math.Option.{Option, none, some}
+use Rattle.bundle.specs.Answer.{Answer, gives, refuses}
+use Rattle.bundle.specs.Commands.{Taken, read_at}
+use Rattle.bundle.specs.declared.command.AccessKind.TheVariants as Kind
+use Rattle.bundle.specs.declared.command.Range.{Range}
+use Rattle.bundle.specs.declared.command.Command.TheVariants as Com
+use Rattle.order.specs.Labels.{label_of, compare_of}
+use Rattle.order.specs.Ranges.{shared_of}
+use Rattle.order.specs.declared.range.Overlap.{Overlap}
+use Rattle.order.specs.declared.label.Triple.{Triple}
+use Rattle.order.specs.declared.label.Label.{Label}
+use Rattle.order.specs.declared.label.Order.{Order}
+use Rattle.order.specs.declared.label.Order.TheVariants as Ord
+use Rattle.verdict.specs.Judge.{judged_of}
+use Rattle.verdict.specs.declared.race.Verdict.{Verdict}
+use Rattle.verdict.specs.declared.race.Verdict.TheVariants as Ver
+use Rattle.verdict.specs.declared.race.Judgement.{Judgement}
 
 -- what an operation is asked, and what it answers
 pub data Question : Type 0 where
@@ -44,11 +41,11 @@ unfoldable pub lent : List Triple → Label
 lent ts = record { count = length ts; triples = take 5 (ts ++ replicate 5 (triple 0 0 0)) }
 
 unfoldable pub answered : Question → Reply
-answered (judging s) = judged (judgedOf s)
-answered (labelling s t m n) = labelled (labelOf s t m n)
-answered (comparing a b) = compared (compareOf (lent a) (lent b))
-answered (sharing a b) = shared (sharedOf a b)
-answered (reading s at) = taken (readAt s at)
+answered (judging s) = judged (judged_of s)
+answered (labelling s t m n) = labelled (label_of s t m n)
+answered (comparing a b) = compared (compare_of (lent a) (lent b))
+answered (sharing a b) = shared (shared_of a b)
+answered (reading s at) = taken (read_at s at)
 
 -- E's chunks: the root, member 0 and member 1 of team 1, and member 1 with its read after its barrier
 unfoldable pub root : List ℕ
@@ -62,8 +59,8 @@ unfoldable pub member1 : List ℕ
 member1 =
     0x01 ∷ 0x01 ∷ 0x00 ∷ 0x01 ∷ 0x30 ∷ 0x14 ∷ 0x00 ∷ 0x0a ∷ 0x10 ∷ 0x00 ∷ 0x00 ∷ 0x00 ∷ 0x00 ∷ 0x01 ∷ 0x00 ∷ 0x04 ∷ 0x11 ∷ 0x02 ∷ []
 
-unfoldable pub member1-later : List ℕ
-member1-later =
+unfoldable pub member1_later : List ℕ
+member1_later =
     0x01 ∷ 0x01 ∷ 0x00 ∷ 0x01 ∷ 0x11 ∷ 0x30 ∷ 0x14 ∷ 0x00 ∷ 0x0a ∷ 0x10 ∷ 0x00 ∷ 0x00 ∷ 0x00 ∷ 0x00 ∷ 0x01 ∷ 0x00 ∷ 0x04 ∷ 0x02 ∷ []
 
 unfoldable pub E : List ℕ
@@ -79,14 +76,14 @@ range base stride count size = record { base = base; stride = stride; count = co
 
 -- a shared byte, and the elements of the two ranges that cover it
 unfoldable pub overlap : ℕ → ℕ → ℕ → Overlap
-overlap byte first second = record { byte = byte; «first_element» = first; «second_element» = second }
+overlap byte first second = record { byte = byte; first_element = first; second_element = second }
 
 -- the bytes of a read at site 0 of the last byte of all and those behind it, and that command
-unfoldable pub lastRead : ℕ → List ℕ
-lastRead size = 0x30 ∷ 0x00 ∷ 0x00 ∷ 0xff ∷ 0xff ∷ 0xff ∷ 0xff ∷ 0x00 ∷ 0x00 ∷ 0x01 ∷ 0x00 ∷ size ∷ []
+unfoldable pub last_read : ℕ → List ℕ
+last_read size = 0x30 ∷ 0x00 ∷ 0x00 ∷ 0xff ∷ 0xff ∷ 0xff ∷ 0xff ∷ 0x00 ∷ 0x00 ∷ 0x01 ∷ 0x00 ∷ size ∷ []
 
-unfoldable pub lastTaken : Taken
-lastTaken =
+unfoldable pub last_taken : Taken
+last_taken =
     record { command = Com.Access (record { kind = Kind.Read; wide = false; site = 0; range = range 4294967295 0 1 1 }); next = 12 }
 
 pub record PaperExample : Type 0 where
@@ -109,13 +106,13 @@ table =
     (record {
       witness = 0x100a;
       first = record { team = 1; member = 0; number = 0 };
-      «first_site» = 10;
-      «first_element» = 1;
+      first_site = 10;
+      first_element = 1;
       second = record { team = 1; member = 1; number = 0 };
-      «second_site» = 20;
-      «second_element» = 0;
+      second_site = 20;
+      second_element = 0;
     })))
-    ∷ row (judging (root ++ member0 ++ member1-later)) (counts 3 6 2 0 Ver.RaceFree)
+    ∷ row (judging (root ++ member0 ++ member1_later)) (counts 3 6 2 0 Ver.RaceFree)
     ∷ row (judging []) (judged (refuses 10 0))
     -- P4, P5
     ∷ row (labelling E 0 0 1) (labelled (gives (triple 1 1 0 ∷ [])))
@@ -131,6 +128,6 @@ table =
     ∷ row (sharing (range 0 8 4 4) (range 4 0 1 8)) (shared (gives (some (overlap 8 1 0))))
     ∷ row (sharing (range 0 3 3 1) (range 1 2 3 1)) (shared (gives (some (overlap 3 1 1))))
     -- P14
-    ∷ row (reading (lastRead 1) 0) (taken (gives lastTaken))
-    ∷ row (reading (lastRead 2) 0) (taken (refuses 5 0))
+    ∷ row (reading (last_read 1) 0) (taken (gives last_taken))
+    ∷ row (reading (last_read 2) 0) (taken (refuses 5 0))
     ∷ []

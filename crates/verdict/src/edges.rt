@@ -1,16 +1,13 @@
 // The edges of the fork-join graph as bits, from three numbers of each segment: the events to which it leads, the event that opens it, and
 // its node (team, member and number).
-use crate::matrix::close;
-ghost use mathlib.Core.Path.{_≡_};
-ghost use Prim.Native.Nat.{_<_};
-ghost use lib.ListN.{length};
-ghost use Rattle·verdict·specs.specs.Matrix.{TestWord};
-ghost use Rattle·verdict·specs.specs.Edges.{
-  firstEvent,
-  lastEvent,
-  edgeTest,
-  edgeColumn,
-  tableEdge,
+ghost use Rattle.std.specs.Prelude.{◌≡◌, ◌<◌, length};
+ghost use Rattle.verdict.specs.Matrix.{TestWord};
+ghost use Rattle.verdict.specs.Edges.{
+  first_event,
+  last_event,
+  edge_test,
+  edge_column,
+  table_edge,
   Tables,
   Columns,
   RowFilled,
@@ -18,16 +15,18 @@ ghost use Rattle·verdict·specs.specs.Edges.{
   Reached,
 };
 
+use crate::matrix::close;
+
 // The first event to which a segment leads, by the number of where it ends.
 fn first_event(end: u32) -> u32
-    ensures { λ r. ⌜ r ≡ firstEvent end ⌝ }
+    ensures { result ≡ first_event end }
 {
     end / 2
 }
 
 // The last: the same, or the join of its team where it is the last of its chunk.
 fn last_event(end: u32) -> u32
-    ensures { λ r. ⌜ r ≡ lastEvent end ⌝ }
+    ensures { result ≡ last_event end }
 {
     if end % 2 == 0 {
         return end / 2;
@@ -37,15 +36,15 @@ fn last_event(end: u32) -> u32
 
 // Whether a segment has an edge to another: it leads to where the other is opened, or the other is the next of its chunk.
 fn edge(low: u32, high: u32, next: u32, opened: u32, node: u32) -> bool
-    ensures { λ r. ⌜ r ≡ edgeTest low high next opened node ⌝ }
+    ensures { result ≡ edge_test low high next opened node }
 {
     (low <= opened) & (opened <= high) | (next == node)
 }
 
 // The edges of a segment to 32 others, the first of them lowest.
 fn edge_word(opens: &[u32], nodes: &[u32], low: u32, high: u32, next: u32, first: usize) -> u32
-    requires { ⌜ Columns (now opens) (now nodes) first ⌝ }
-    ensures { λ r. ⌜ TestWord (edgeColumn (now (opens .entry)) (now (nodes .entry)) low high next) first r ⌝ }
+    requires { Columns opens.now nodes.now first }
+    ensures { TestWord (edge_column opens.now nodes.now low high next) first result }
 {
     let mut word: u32 = 0;
     let mut k: usize = 0;
@@ -58,8 +57,8 @@ fn edge_word(opens: &[u32], nodes: &[u32], low: u32, high: u32, next: u32, first
 
 // The edges of the segment at i to those below n. The words of the row are written whole: what they held does not matter.
 fn fill_row(ends: &[u32], opens: &[u32], nodes: &[u32], n: usize, matrix: &mut [u32], i: usize)
-    requires { ⌜ Tables (now ends) (now opens) (now nodes) n × (length (now matrix) ≡ 8192) × (i < n) ⌝ }
-    ensures { λ _. ⌜ RowFilled (tableEdge (now (ends .entry)) (now (opens .entry)) (now (nodes .entry)) i) n i (now (matrix .entry)) (now (matrix .exit)) ⌝ }
+    requires { Tables ends.now opens.now nodes.now n × (length matrix.old ≡ 8192) × (i < n) }
+    ensures { RowFilled (table_edge ends.now opens.now nodes.now i) n i matrix.old matrix.new }
 {
     let end = ends[i];
     let low = first_event(end);
@@ -74,8 +73,8 @@ fn fill_row(ends: &[u32], opens: &[u32], nodes: &[u32], n: usize, matrix: &mut [
 
 // The edges between the segments below n.
 pub fn fill_edges(ends: &[u32], opens: &[u32], nodes: &[u32], n: usize, matrix: &mut [u32])
-    requires { ⌜ Tables (now ends) (now opens) (now nodes) n × (length (now matrix) ≡ 8192) ⌝ }
-    ensures { λ _. ⌜ Filled (tableEdge (now (ends .entry)) (now (opens .entry)) (now (nodes .entry))) n (now (matrix .entry)) (now (matrix .exit)) ⌝ }
+    requires { Tables ends.now opens.now nodes.now n × (length matrix.old ≡ 8192) }
+    ensures { Filled (table_edge ends.now opens.now nodes.now) n matrix.old matrix.new }
 {
     let mut i = 0;
     while i < n {
@@ -86,8 +85,8 @@ pub fn fill_edges(ends: &[u32], opens: &[u32], nodes: &[u32], n: usize, matrix: 
 
 // Which of the segments below n reach which.
 pub fn reach(ends: &[u32], opens: &[u32], nodes: &[u32], n: usize, matrix: &mut [u32])
-    requires { ⌜ Tables (now ends) (now opens) (now nodes) n × (length (now matrix) ≡ 8192) ⌝ }
-    ensures { λ _. ⌜ Reached (now (ends .entry)) (now (opens .entry)) (now (nodes .entry)) n (now (matrix .entry)) (now (matrix .exit)) ⌝ }
+    requires { Tables ends.now opens.now nodes.now n × (length matrix.old ≡ 8192) }
+    ensures { Reached ends.now opens.now nodes.now n matrix.old matrix.new }
 {
     fill_edges(ends, opens, nodes, n, matrix);
     close(matrix, n);

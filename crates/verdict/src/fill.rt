@@ -1,24 +1,17 @@
 // One pass over an accepted bundle that fills the judge's tables of segments and accesses.
-use crate::rows::AccessRow;
-use crate::rows::add_access;
+ghost use Rattle.std.specs.Prelude.{◌≡◌, true, ◌+◌, ◌*◌, ◌<◌, length, set};
+ghost use Rattle.bundle.specs.Commands.{range_ok, last_byte};
+ghost use Rattle.bundle.specs.Check.{Accepted};
+ghost use Rattle.bundle.specs.Walk.{of_chunk};
+ghost use Rattle.verdict.specs.Working.{fork_code, barrier_code, join_code, node_code, kind_code, end_code};
+ghost use Rattle.verdict.specs.Filling.{beginning, entered, left, Countable, advanced, row_here, SegmentOpened, Notable, Noted, Room, Filled};
+
+use crate::rows::{AccessRow, add_access};
 use bundle::chunk::ChunkState;
-use bundle::command::Access;
-use bundle::command::AccessKind;
-use bundle::command::Command;
-use bundle::command::Range;
-use bundle::command::Reading;
-use bundle::command::read_command;
-ghost use mathlib.Core.Path.{_≡_};
-ghost use mathlib.Core.Bool.{true};
-ghost use Prim.Native.Nat.{_+_, _*_, _<_};
-ghost use lib.ListN.{length, set};
-ghost use Rattle·bundle.specs.Commands.{rangeOk, lastByte};
-ghost use Rattle·bundle.specs.Check.{Accepted};
-ghost use Rattle·bundle.specs.Walk.{ofChunk};
-ghost use Rattle·verdict·specs.specs.Working.{forkCode, barrierCode, joinCode, nodeCode, kindCode, endCode};
-ghost use Rattle·verdict·specs.specs.Filling.{beginning, entered, left, Countable, advanced, rowHere, SegmentOpened, Notable, Noted, Room, Filled};
+use bundle::command::{Access, AccessKind, Command, Range, Reading, read_command};
 
 // How many segments and accesses a bundle has.
+#[derive(Clone, Copy)]
 pub struct Counts {
     pub segments: u32,
     pub accesses: u32,
@@ -26,6 +19,7 @@ pub struct Counts {
 
 // How far the pass is: the position; the open chunk's team, member and state; the place of the open segment among all (of the next to be
 // opened where no chunk is open) and its number in the chunk; the accesses so far in the chunk, and in all.
+#[derive(Clone, Copy)]
 pub struct Cursor {
     pub at: usize,
     pub team: u16,
@@ -38,7 +32,7 @@ pub struct Cursor {
 }
 
 fn begin() -> Cursor
-    ensures { λ r. ⌜ r ≡ beginning ⌝ }
+    ensures { result ≡ beginning }
 {
     Cursor {
         at: 0,
@@ -54,50 +48,50 @@ fn begin() -> Cursor
 
 // The events of a team: its fork, its barriers, its join.
 fn fork_code(team: u16) -> u32
-    ensures { λ r. ⌜ r ≡ forkCode team ⌝ }
+    ensures { result ≡ fork_code team }
 {
     1024 * (team as u32)
 }
 
 fn barrier_code(number: u32, team: u16) -> u32
-    ensures { λ r. ⌜ r ≡ barrierCode number team ⌝ }
+    ensures { result ≡ barrier_code number team }
 {
     1 + number % 512 + 1024 * (team as u32)
 }
 
 fn join_code(team: u16) -> u32
-    ensures { λ r. ⌜ r ≡ joinCode team ⌝ }
+    ensures { result ≡ join_code team }
 {
     1023 + 1024 * (team as u32)
 }
 
 // Where a segment ends: at a fork, at a barrier, or with its chunk, which lacks the barriers from one on.
 fn fork_end(team: u16) -> u32
-    ensures { λ r. ⌜ r ≡ 2 * forkCode team ⌝ }
+    ensures { result ≡ 2 * fork_code team }
 {
     2 * fork_code(team)
 }
 
 fn barrier_end(number: u32, team: u16) -> u32
-    ensures { λ r. ⌜ r ≡ 2 * barrierCode number team ⌝ }
+    ensures { result ≡ 2 * barrier_code number team }
 {
     2 * barrier_code(number, team)
 }
 
 fn chunk_end(passed: u32, team: u16) -> u32
-    ensures { λ r. ⌜ r ≡ 1 + 2 * barrierCode passed team ⌝ }
+    ensures { result ≡ 1 + 2 * barrier_code passed team }
 {
     1 + 2 * barrier_code(passed, team)
 }
 
 fn node_code(cursor: Cursor) -> u32
-    ensures { λ r. ⌜ r ≡ nodeCode (record { team = cursor .team; member = cursor .member; number = cursor .number }) ⌝ }
+    ensures { result ≡ node_code (record { team = cursor.team; member = cursor.member; number = cursor.number }) }
 {
     cursor.number % 1024 + 1024 * ((cursor.member % 64) as u32 + 64 * (cursor.team as u32))
 }
 
 fn kind_code(kind: AccessKind) -> u8
-    ensures { λ r. ⌜ r ≡ kindCode kind ⌝ }
+    ensures { result ≡ kind_code kind }
 {
     match kind {
         AccessKind::Read => 0,
@@ -108,8 +102,8 @@ fn kind_code(kind: AccessKind) -> u8
 }
 
 fn last_byte(range: Range) -> u32
-    requires { ⌜ rangeOk range ≡ true ⌝ }
-    ensures { λ r. ⌜ r ≡ lastByte range ⌝ }
+    requires { range_ok range ≡ true }
+    ensures { result ≡ last_byte range }
 {
     let stride = range.stride as u32;
     let steps = (range.count - 1) as u32;
@@ -119,7 +113,7 @@ fn last_byte(range: Range) -> u32
 
 // MEMBER: the chunk is open, its segment 0 too.
 fn enter(cursor: Cursor, team: u16, member: u8, next: usize) -> Cursor
-    ensures { λ r. ⌜ r ≡ entered cursor team member next ⌝ }
+    ensures { result ≡ entered cursor team member next }
 {
     Cursor {
         at: next,
@@ -135,8 +129,8 @@ fn enter(cursor: Cursor, team: u16, member: u8, next: usize) -> Cursor
 
 // No chunk is open.
 fn leave(cursor: Cursor, next: usize) -> Cursor
-    requires { ⌜ cursor .segment < 512 ⌝ }
-    ensures { λ r. ⌜ r ≡ left cursor next ⌝ }
+    requires { cursor.segment < 512 }
+    ensures { result ≡ left cursor next }
 {
     Cursor {
         at: next,
@@ -152,8 +146,8 @@ fn leave(cursor: Cursor, next: usize) -> Cursor
 
 // END and CUT: the open segment ends with its chunk.
 fn close_chunk(cursor: Cursor, next: usize, ends: &mut [u32]) -> Cursor
-    requires { ⌜ (cursor .segment < 512) × (length (now ends) ≡ 512) ⌝ }
-    ensures { λ r. ⌜ (r ≡ left cursor next) × (now (ends .exit) ≡ set (now (ends .entry)) (cursor .segment) (endCode (cursor .team) (cursor .state .barriers) ofChunk)) ⌝ }
+    requires { (cursor.segment < 512) × (length ends.old ≡ 512) }
+    ensures { (result ≡ left cursor next) × (ends.new ≡ set ends.old cursor.segment (end_code cursor.team cursor.state.barriers of_chunk)) }
 {
     let state = cursor.state;
     let segment = cursor.segment as usize;
@@ -163,8 +157,8 @@ fn close_chunk(cursor: Cursor, next: usize, ends: &mut [u32]) -> Cursor
 
 // Inside a chunk: another state, and so many segments and accesses more.
 fn advance(cursor: Cursor, state: ChunkState, opens: u32, adds: u32, next: usize) -> Cursor
-    requires { ⌜ Countable cursor opens adds ⌝ }
-    ensures { λ r. ⌜ r ≡ advanced cursor state opens adds next ⌝ }
+    requires { Countable cursor opens adds }
+    ensures { result ≡ advanced cursor state opens adds next }
 {
     Cursor {
         at: next,
@@ -180,8 +174,8 @@ fn advance(cursor: Cursor, state: ChunkState, opens: u32, adds: u32, next: usize
 
 // The row of an access at the position.
 fn row_here(cursor: Cursor, access: Access) -> AccessRow
-    requires { ⌜ (cursor .segment < 512) × (cursor .access < 1024) × (rangeOk (access .range) ≡ true) ⌝ }
-    ensures { λ r. ⌜ r ≡ rowHere cursor access ⌝ }
+    requires { (cursor.segment < 512) × (cursor.access < 1024) × (range_ok access.range ≡ true) }
+    ensures { result ≡ row_here cursor access }
 {
     let kind = access.kind;
     let range = access.range;
@@ -204,8 +198,8 @@ fn row_here(cursor: Cursor, access: Access) -> AccessRow
 
 // Writes where the open segment is opened, and its node.
 fn open_segment(cursor: Cursor, code: u32, opens: &mut [u32], nodes: &mut [u32])
-    requires { ⌜ (cursor .segment < 512) × (length (now opens) ≡ 512) × (length (now nodes) ≡ 512) ⌝ }
-    ensures { λ _. ⌜ SegmentOpened cursor code (now (opens .entry)) (now (nodes .entry)) (now (opens .exit)) (now (nodes .exit)) ⌝ }
+    requires { (cursor.segment < 512) × (length opens.old ≡ 512) × (length nodes.old ≡ 512) }
+    ensures { SegmentOpened cursor code opens.old nodes.old opens.new nodes.new }
 {
     let segment = cursor.segment as usize;
     opens[segment] = code;
@@ -222,8 +216,8 @@ fn note(
     nodes: &mut [u32],
     rows: &mut [u32],
 ) -> Cursor
-    requires { ⌜ Notable cursor command (now ends) (now opens) (now nodes) (now rows) ⌝ }
-    ensures { λ r. ⌜ Noted cursor command next r (now (ends .entry)) (now (opens .entry)) (now (nodes .entry)) (now (rows .entry)) (now (ends .exit)) (now (opens .exit)) (now (nodes .exit)) (now (rows .exit)) ⌝ }
+    requires { Notable cursor command ends.old opens.old nodes.old rows.old }
+    ensures { Noted cursor command next result ends.old opens.old nodes.old rows.old ends.new opens.new nodes.new rows.new }
 {
     let team = cursor.team;
     let state = cursor.state;
@@ -265,8 +259,8 @@ pub fn fill(
     nodes: &mut [u32],
     rows: &mut [u32],
 ) -> Counts
-    requires { ⌜ Accepted (now bytes) × Room (now ends) (now opens) (now nodes) (now rows) ⌝ }
-    ensures { λ r. ⌜ Filled (now (bytes .entry)) r (length (now (rows .entry))) (now (ends .exit)) (now (opens .exit)) (now (nodes .exit)) (now (rows .exit)) ⌝ }
+    requires { Accepted bytes.now × Room ends.old opens.old nodes.old rows.old }
+    ensures { Filled bytes.now result (length rows.old) ends.new opens.new nodes.new rows.new }
 {
     let mut cursor = begin();
     while cursor.at < bytes.len() {

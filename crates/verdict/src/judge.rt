@@ -1,34 +1,22 @@
 // Judge a bundle, and the next race.
+ghost use Rattle.std.specs.Prelude.{◌≡◌, true, false, ◌≤◌, length, replicate};
+ghost use Rattle.bundle.specs.Check.{Accepted};
+ghost use Rattle.verdict.specs.Judge.{judged_of, judge_of, next_above, next_of, judging_of, next_race_of};
+ghost use Rattle.verdict.specs.Accesses.{key_of};
+ghost use Rattle.verdict.specs.Tallying.{tally_all, TablesFit};
+ghost use Rattle.verdict.specs.Edges.{Tables};
+ghost use Rattle.verdict.specs.Filling.{Room, Filled};
+ghost use Rattle.verdict.specs.Linking.{forks_in, LineagesFit};
+ghost use Rattle.verdict.specs.Census.{matrix_part, rows_part, RegionsOf, MatrixFilled, AreaFilled, Counted, verdict_in, next_in};
+ghost use Rattle.verdict.specs.Promise.{Promise};
+
 use crate::edges::reach;
-use crate::fill::Counts;
-use crate::fill::fill;
-use crate::pairs::Key;
-use crate::pairs::Tally;
-use crate::pairs::all_pairs;
-use crate::race::Judgement;
-use crate::race::Judging;
-use crate::race::Name;
-use crate::race::Next;
-use crate::race::Verdict;
-use bundle::check::Indexing;
-use bundle::check::index_bundle;
-use bundle::limits::CHUNK_WORDS;
-use bundle::limits::FORK_WORDS;
-use bundle::limits::MOST_SEGMENTS;
+use crate::fill::{Counts, fill};
+use crate::pairs::{Key, Tally, all_pairs};
+use crate::race::{Judgement, Judging, Name, Next, Verdict};
+use bundle::check::{Indexing, index_bundle};
+use bundle::limits::{CHUNK_WORDS, FORK_WORDS, MOST_SEGMENTS};
 use bundle::refusal::Cause;
-ghost use mathlib.Core.Path.{_≡_};
-ghost use mathlib.Core.Bool.{true, false};
-ghost use Prim.Native.Nat.{_≤_};
-ghost use lib.ListN.{length, replicate};
-ghost use Rattle·bundle.specs.Check.{Accepted};
-ghost use Rattle·verdict·specs.specs.Judge.{judgedOf, judgeOf, nextAbove, nextOf, judgingOf, nextRaceOf};
-ghost use Rattle·verdict·specs.specs.Accesses.{keyOf};
-ghost use Rattle·verdict·specs.specs.Tallying.{tallyAll, TablesFit};
-ghost use Rattle·verdict·specs.specs.Edges.{Tables};
-ghost use Rattle·verdict·specs.specs.Filling.{Room, Filled};
-ghost use Rattle·verdict·specs.specs.Linking.{forksIn, LineagesFit};
-ghost use Rattle·verdict·specs.specs.Census.{matrixPart, rowsPart, RegionsOf, MatrixFilled, AreaFilled, Counted, verdictIn, nextIn};
-ghost use Rattle·verdict·specs.specs.Promise.{Promise};
 
 // The words of a work area (docs/FORMAT.md); the first half of them is the matrix, the second the rows of the accesses.
 pub const WORK_WORDS: usize = 16384;
@@ -36,6 +24,7 @@ pub const WORK_WORDS: usize = 16384;
 pub const MATRIX_WORDS: usize = 8192;
 
 // The counts of a bundle's segments and accesses, and its races.
+#[derive(Clone, Copy)]
 pub struct Census {
     pub segments: u32,
     pub accesses: u32,
@@ -50,8 +39,8 @@ fn fill_rows(
     nodes: &mut [u32],
     area: &mut [u32],
 ) -> Counts
-    requires { ⌜ Accepted (now bytes) × Room (now ends) (now opens) (now nodes) (rowsPart (now area)) × (16384 ≤ length (now area)) ⌝ }
-    ensures { λ r. ⌜ Filled (now (bytes .entry)) r 8192 (now (ends .exit)) (now (opens .exit)) (now (nodes .exit)) (rowsPart (now (area .exit))) × (length (now (area .exit)) ≡ length (now (area .entry))) ⌝ }
+    requires { Accepted bytes.now × Room ends.old opens.old nodes.old (rows_part area.old) × (16384 ≤ length area.old) }
+    ensures { Filled bytes.now result 8192 ends.new opens.new nodes.new (rows_part area.new) × (length area.new ≡ length area.old) }
 {
     fill(
         bytes,
@@ -64,16 +53,16 @@ fn fill_rows(
 
 // Fills the first half of the area with the matrix of which segment reaches which.
 fn fill_matrix(ends: &[u32], opens: &[u32], nodes: &[u32], n: usize, area: &mut [u32])
-    requires { ⌜ Tables (now ends) (now opens) (now nodes) n × (16384 ≤ length (now area)) ⌝ }
-    ensures { λ _. ⌜ MatrixFilled (now (ends .entry)) (now (opens .entry)) (now (nodes .entry)) n (now (area .entry)) (now (area .exit)) ⌝ }
+    requires { Tables ends.now opens.now nodes.now n × (16384 ≤ length area.old) }
+    ensures { MatrixFilled ends.now opens.now nodes.now n area.old area.new }
 {
     reach(ends, opens, nodes, n, &mut area[..MATRIX_WORDS]);
 }
 
 // Fills both halves of the area, from an accepted bundle.
 pub fn fill_area(bytes: &[u8], area: &mut [u32]) -> Counts
-    requires { ⌜ Accepted (now bytes) × (16384 ≤ length (now area)) ⌝ }
-    ensures { λ r. ⌜ AreaFilled (now (bytes .entry)) (now (area .exit)) (r .segments) (r .accesses) × (length (now (area .exit)) ≡ length (now (area .entry))) ⌝ }
+    requires { Accepted bytes.now × (16384 ≤ length area.old) }
+    ensures { AreaFilled bytes.now area.new result.segments result.accesses × (length area.new ≡ length area.old) }
 {
     let mut ends = [0u32; MOST_SEGMENTS as usize];
     let mut opens = [0u32; MOST_SEGMENTS as usize];
@@ -86,8 +75,8 @@ pub fn fill_area(bytes: &[u8], area: &mut [u32]) -> Counts
 
 // The races of the accesses in a filled area.
 fn tally_area(area: &[u32], n: u32, forks: &[u64], regions: u32, key: Key) -> Tally
-    requires { ⌜ TablesFit (matrixPart (now area)) (rowsPart (now area)) n × LineagesFit (rowsPart (now area)) (now forks) regions n × (16384 ≤ length (now area)) ⌝ }
-    ensures { λ r. ⌜ r ≡ tallyAll (matrixPart (now (area .entry))) (forksIn (now (forks .entry)) regions) (rowsPart (now (area .entry))) key n ⌝ }
+    requires { TablesFit (matrix_part area.now) (rows_part area.now) n × LineagesFit (rows_part area.now) forks.now regions n × (16384 ≤ length area.now) }
+    ensures { result ≡ tally_all (matrix_part area.now) (forks_in forks.now regions) (rows_part area.now) key n }
 {
     all_pairs(
         &area[..MATRIX_WORDS],
@@ -101,8 +90,8 @@ fn tally_area(area: &[u32], n: u32, forks: &[u64], regions: u32, key: Key) -> Ta
 
 // The counts of an accepted bundle with these REGIONs, and the least of its races above the key.
 fn take_census(bytes: &[u8], forks: &[u64], regions: u32, key: Key, area: &mut [u32]) -> Census
-    requires { ⌜ Accepted (now bytes) × RegionsOf (now bytes) (now forks) regions × (16384 ≤ length (now area)) ⌝ }
-    ensures { λ r. ⌜ Counted (now (bytes .entry)) key r × (length (now (area .exit)) ≡ length (now (area .entry))) ⌝ }
+    requires { Accepted bytes.now × RegionsOf bytes.now forks.now regions × (16384 ≤ length area.old) }
+    ensures { Counted bytes.now key result × (length area.new ≡ length area.old) }
 {
     let counts = fill_area(bytes, area);
     let tally = tally_area(area, counts.accesses, forks, regions, key);
@@ -114,7 +103,7 @@ fn take_census(bytes: &[u8], forks: &[u64], regions: u32, key: Key, area: &mut [
 }
 
 fn verdict_of(tally: Tally) -> Verdict
-    ensures { λ r. ⌜ r ≡ verdictIn tally ⌝ }
+    ensures { result ≡ verdict_in tally }
 {
     let race = tally.race;
     if tally.found {
@@ -124,7 +113,7 @@ fn verdict_of(tally: Tally) -> Verdict
 }
 
 fn judgement_of(chunks: u32, census: Census) -> Judgement
-    ensures { λ r. ⌜ r ≡ record { chunks = chunks; segments = census .segments; accesses = census .accesses; races = census .tally .count; verdict = verdictIn (census .tally) } ⌝ }
+    ensures { result ≡ record { chunks = chunks; segments = census.segments; accesses = census.accesses; races = census.tally.count; verdict = verdict_in census.tally } }
 {
     let tally = census.tally;
     Judgement {
@@ -138,8 +127,8 @@ fn judgement_of(chunks: u32, census: Census) -> Judgement
 
 // Judges in a work area that is large enough, and leaves its tables there.
 fn judge_in(bytes: &[u8], area: &mut [u32]) -> Judging
-    requires { ⌜ 16384 ≤ length (now area) ⌝ }
-    ensures { λ r. ⌜ (judgingOf r ≡ judgedOf (now (bytes .entry))) × (length (now (area .exit)) ≡ length (now (area .entry))) ⌝ }
+    requires { 16384 ≤ length area.old }
+    ensures { (judging_of result ≡ judged_of bytes.now) × (length area.new ≡ length area.old) }
 {
     let mut chunks = [0u64; CHUNK_WORDS];
     let mut forks = [0u64; FORK_WORDS];
@@ -167,7 +156,7 @@ fn judge_in(bytes: &[u8], area: &mut [u32]) -> Judging
 }
 
 fn next_of(tally: Tally) -> Next
-    ensures { λ r. ⌜ r ≡ nextIn tally ⌝ }
+    ensures { result ≡ next_in tally }
 {
     let race = tally.race;
     if tally.found {
@@ -178,8 +167,8 @@ fn next_of(tally: Tally) -> Next
 
 // The next race, in a work area that is large enough.
 fn next_in(bytes: &[u8], key: Key, area: &mut [u32]) -> Next
-    requires { ⌜ (16384 ≤ length (now area)) × (key .given ≡ true) ⌝ }
-    ensures { λ r. ⌜ (nextRaceOf r ≡ nextAbove (now (bytes .entry)) (keyOf (key .witness) (key .first) (key .second))) × (length (now (area .exit)) ≡ length (now (area .entry))) ⌝ }
+    requires { (16384 ≤ length area.old) × (key.given ≡ true) }
+    ensures { (next_race_of result ≡ next_above bytes.now (key_of key.witness key.first key.second)) × (length area.new ≡ length area.old) }
 {
     let mut chunks = [0u64; CHUNK_WORDS];
     let mut forks = [0u64; FORK_WORDS];
@@ -198,7 +187,7 @@ fn next_in(bytes: &[u8], key: Key, area: &mut [u32]) -> Next
 
 // Every word is 0 afterwards.
 pub fn clear(area: &mut [u32])
-    ensures { λ _. ⌜ now (area .exit) ≡ replicate (length (now (area .entry))) 0 ⌝ }
+    ensures { area.new ≡ replicate (length area.old) 0 }
 {
     let mut i = 0;
     while i < area.len() {
@@ -209,8 +198,8 @@ pub fn clear(area: &mut [u32])
 
 // Judges a bundle: 13 for a work area under 16,384 words, which stays as it is; else as check, or the judgement, and the whole area is 0.
 pub fn judge(bytes: &[u8], work: &mut [u32]) -> Judging
-    ensures { λ r. ⌜ judgeOf (now (bytes .entry)) (now (work .entry)) ≡ record { answer = judgingOf r; buffer = now (work .exit) } ⌝ }
-    ensures demand3 { λ r. ⌜ Promise (now (bytes .entry)) (now (work .entry)) r ⌝ }
+    ensures work_value { judge_of bytes.now work.old ≡ record { answer = judging_of result; buffer = work.new } }
+    ensures demand3 { Promise bytes.now work.old result }
 {
     if work.len() < WORK_WORDS {
         return Judging::Refused {
@@ -225,7 +214,7 @@ pub fn judge(bytes: &[u8], work: &mut [u32]) -> Judging
 
 // The least race above a witness and two names, real or not; refusals and work area as for the judge.
 pub fn next_race(bytes: &[u8], witness: u32, first: Name, second: Name, work: &mut [u32]) -> Next
-    ensures { λ r. ⌜ nextOf (now (bytes .entry)) witness first second (now (work .entry)) ≡ record { answer = nextRaceOf r; buffer = now (work .exit) } ⌝ }
+    ensures { next_of bytes.now witness first second work.old ≡ record { answer = next_race_of result; buffer = work.new } }
 {
     if work.len() < WORK_WORDS {
         return Next::Refused {

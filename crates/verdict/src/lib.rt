@@ -1,4 +1,6 @@
 // The races of a bundle: the judgement, and the next race.
+#![tactic(auto)]
+
 mod edges;
 mod fill;
 pub mod judge;

@@ -1,20 +1,11 @@
 // The locks that count for two accesses: both sides climb to the team where their lineages part.
-use crate::rows::AccessRow;
-use crate::rows::access_at;
-use crate::rows::word_at;
-use bundle::index::fork_at;
-use bundle::index::fork_of;
-use order::lock::common;
-ghost use mathlib.Core.Path.{_≡_};
-ghost use mathlib.Core.Bool.{true, false, not};
-ghost use Prim.Native.Nat.{_+_, _≤_, _<_};
-ghost use lib.ListN.{length};
-ghost use Rattle·bundle.specs.Index.{forkRowAt};
-ghost use Rattle·verdict·specs.specs.RaceLists.{commonCounted};
-ghost use Rattle·verdict·specs.specs.Working.{accessRowAt, RowIn};
-ghost use Rattle·verdict·specs.specs.Linking.{
-  forksIn,
-  forkFor,
+ghost use Rattle.std.specs.Prelude.{◌≡◌, true, false, not, ◌+◌, ◌≤◌, ◌<◌, length};
+ghost use Rattle.bundle.specs.Index.{fork_row_at};
+ghost use Rattle.verdict.specs.RaceLists.{common_counted};
+ghost use Rattle.verdict.specs.Working.{access_row_at, RowIn};
+ghost use Rattle.verdict.specs.Linking.{
+  forks_in,
+  fork_for,
   Climbs,
   NoneHeld,
   AccessLinks,
@@ -22,15 +13,20 @@ ghost use Rattle·verdict·specs.specs.Linking.{
   Linkable,
   Linked,
   Around,
-  sideHolder,
-  rowSide,
+  side_holder,
+  row_side,
   SideFits,
   SidesFit,
   ClimbedFrom,
 };
-ghost use Rattle·verdict·specs.specs.Tallying.{countedApart};
+ghost use Rattle.verdict.specs.Tallying.{counted_apart};
+
+use crate::rows::{AccessRow, access_at, word_at};
+use bundle::index::{fork_at, fork_of};
+use order::lock::common;
 
 // A side of a pair on its way up: the chunk that it stands in, the index of the REGION that forks its team, and the locks counted so far.
+#[derive(Clone, Copy)]
 pub struct Side {
     pub fork: u32,
     pub team: u16,
@@ -43,8 +39,8 @@ pub const LINK_WORDS: usize = 1536;
 
 // A side one chunk up: the locks held there at the REGION that leads down count too.
 fn climb(forks: &[u64], regions: u32, links: &[u32], side: Side) -> Side
-    requires { ⌜ Climbs (now forks) (now links) regions × SideFits (now forks) regions side × (side .fork < regions) ⌝ }
-    ensures { λ r. ⌜ ClimbedFrom (now (forks .entry)) regions side r ⌝ }
+    requires { Climbs forks.now links.now regions × SideFits forks.now regions side × (side.fork < regions) }
+    ensures { ClimbedFrom forks.now regions side result }
 {
     let fork = fork_at(forks, side.fork);
     let state = fork.state;
@@ -58,8 +54,8 @@ fn climb(forks: &[u64], regions: u32, links: &[u32], side: Side) -> Side
 
 // Whether two sides count no lock in common. Team numbers fall on the way up, so the side of the larger one climbs, at most 4 times each.
 fn apart(forks: &[u64], regions: u32, links: &[u32], one: Side, other: Side) -> bool
-    requires { ⌜ SidesFit (now forks) (now links) regions one other ⌝ }
-    ensures { λ r. ⌜ r ≡ not (commonCounted (forksIn (now (forks .entry)) regions) (sideHolder one) (sideHolder other)) ⌝ }
+    requires { SidesFit forks.now links.now regions one other }
+    ensures { result ≡ not (common_counted (forks_in forks.now regions) (side_holder one) (side_holder other)) }
 {
     let mut first = one;
     let mut second = other;
@@ -75,8 +71,8 @@ fn apart(forks: &[u64], regions: u32, links: &[u32], one: Side, other: Side) -> 
 
 // The side of the j-th access.
 fn side_of(links: &[u32], j: u32, row: AccessRow) -> Side
-    requires { ⌜ j < length (now links) ⌝ }
-    ensures { λ r. ⌜ r ≡ rowSide (now (links .entry)) j row ⌝ }
+    requires { j < length links.now }
+    ensures { result ≡ row_side links.now j row }
 {
     Side {
         fork: word_at(links, j as usize),
@@ -96,8 +92,8 @@ pub(crate) fn counted_apart(
     i: u32,
     j: u32,
 ) -> bool
-    requires { ⌜ Around (now rows) (now forks) (now links) regions true i (j + 1) × (one ≡ accessRowAt (now rows) i) × RowIn (now rows) j ⌝ }
-    ensures { λ r. ⌜ r ≡ countedApart (forksIn (now (forks .entry)) regions) one (accessRowAt (now (rows .entry)) j) ⌝ }
+    requires { Around rows.now forks.now links.now regions true i (j + 1) × (one ≡ access_row_at rows.now i) × RowIn rows.now j }
+    ensures { result ≡ counted_apart (forks_in forks.now regions) one (access_row_at rows.now j) }
 {
     let other = access_at(rows, j);
     apart(
@@ -110,7 +106,7 @@ pub(crate) fn counted_apart(
 }
 
 fn locks_at(forks: &[u64], i: u32) -> u64
-    ensures { λ r. ⌜ r ≡ forkRowAt (now (forks .entry)) i .state .locks ⌝ }
+    ensures { result ≡ (fork_row_at forks.now i).state.locks }
 {
     let fork = fork_at(forks, i);
     let state = fork.state;
@@ -119,7 +115,7 @@ fn locks_at(forks: &[u64], i: u32) -> u64
 
 // Whether a lock is held at a REGION.
 fn some_held(forks: &[u64], regions: u32) -> bool
-    ensures { λ r. ⌜ (r ≡ false → NoneHeld (now (forks .entry)) regions) ⌝ }
+    ensures { result ≡ false → NoneHeld forks.now regions }
 {
     let mut i = 0;
     while i < regions {
@@ -132,16 +128,16 @@ fn some_held(forks: &[u64], regions: u32) -> bool
 }
 
 fn team_at(rows: &[u32], i: u32) -> u16
-    requires { ⌜ RowIn (now rows) i ⌝ }
-    ensures { λ r. ⌜ r ≡ accessRowAt (now (rows .entry)) i .team ⌝ }
+    requires { RowIn rows.now i }
+    ensures { result ≡ (access_row_at rows.now i).team }
 {
     (word_at(rows, i as usize + 6144) % 65536) as u16
 }
 
 // The link of the i-th access: that of the access before it, if the two are of one team.
 fn link_of(rows: &[u32], forks: &[u64], regions: u32, links: &[u32], i: u32) -> u32
-    requires { ⌜ RowIn (now rows) i × AccessLinks (now rows) (now forks) (now links) regions i × (length (now links) ≡ 1536) ⌝ }
-    ensures { λ r. ⌜ r ≡ forkFor (now (forks .entry)) regions (accessRowAt (now (rows .entry)) i .team) ⌝ }
+    requires { RowIn rows.now i × AccessLinks rows.now forks.now links.now regions i × (length links.now ≡ 1536) }
+    ensures { result ≡ fork_for forks.now regions (access_row_at rows.now i).team }
 {
     let team = team_at(rows, i);
     if 0 < i {
@@ -154,8 +150,8 @@ fn link_of(rows: &[u32], forks: &[u64], regions: u32, links: &[u32], i: u32) -> 
 
 // The links of the first n accesses.
 fn link_accesses(rows: &[u32], n: u32, forks: &[u64], regions: u32, links: &mut [u32])
-    requires { ⌜ Linkable (now rows) n regions (now links) ⌝ }
-    ensures { λ _. ⌜ AccessLinks (now (rows .entry)) (now (forks .entry)) (now (links .exit)) regions n × (length (now (links .exit)) ≡ 1536) ⌝ }
+    requires { Linkable rows.now n regions links.old }
+    ensures { AccessLinks rows.now forks.now links.new regions n × (length links.new ≡ 1536) }
 {
     let mut i = 0;
     while i < n {
@@ -167,8 +163,8 @@ fn link_accesses(rows: &[u32], n: u32, forks: &[u64], regions: u32, links: &mut 
 
 // The links of the REGIONs, behind those of the accesses.
 fn link_forks(forks: &[u64], regions: u32, links: &mut [u32])
-    requires { ⌜ (length (now links) ≡ 1536) × (regions ≤ 512) ⌝ }
-    ensures { λ _. ⌜ ForksLinked (now (forks .entry)) (now (links .entry)) (now (links .exit)) regions regions ⌝ }
+    requires { (length links.old ≡ 1536) × (regions ≤ 512) }
+    ensures { ForksLinked forks.now links.old links.new regions regions }
 {
     let mut k = 0;
     while k < regions {
@@ -180,8 +176,8 @@ fn link_forks(forks: &[u64], regions: u32, links: &mut [u32])
 
 // Links the first n accesses and all REGIONs, where a lock is held at a REGION; else no links are wanted.
 pub fn link(rows: &[u32], n: u32, forks: &[u64], regions: u32, links: &mut [u32]) -> bool
-    requires { ⌜ Linkable (now rows) n regions (now links) ⌝ }
-    ensures { λ r. ⌜ Linked (now (rows .entry)) (now (forks .entry)) (now (links .exit)) regions n r ⌝ }
+    requires { Linkable rows.now n regions links.old }
+    ensures { Linked rows.now forks.now links.new regions n result }
 {
     if !some_held(forks, regions) {
         return false;

@@ -1,8 +1,7 @@
 // Which nodes of a graph reach which: 512 rows of 512 bits in 8,192 words, 16 words a row.
-ghost use mathlib.Core.Path.{_≡_};
-ghost use Prim.Native.Nat.{_<_};
-ghost use Rattle·verdict·specs.specs.Matrix.{
-  bitAt,
+ghost use Rattle.std.specs.Prelude.{◌≡◌, ◌<◌};
+ghost use Rattle.verdict.specs.Matrix.{
+  bit_at,
   Within,
   Square,
   BitSet,
@@ -16,15 +15,15 @@ ghost use Rattle·verdict·specs.specs.Matrix.{
 
 // The bit in row i and column j.
 pub fn bit(matrix: &[u32], i: usize, j: usize) -> bool
-    requires { ⌜ Within (now matrix) i j ⌝ }
-    ensures { λ r. ⌜ r ≡ bitAt (now (matrix .entry)) i j ⌝ }
+    requires { Within matrix.now i j }
+    ensures { result ≡ bit_at matrix.now i j }
 {
     (matrix[16 * i + j / 32] >> (j % 32)) % 2 == 1
 }
 
 pub fn set_bit(matrix: &mut [u32], i: usize, j: usize)
-    requires { ⌜ Within (now matrix) i j ⌝ }
-    ensures { λ _. ⌜ BitSet i j (now (matrix .entry)) (now (matrix .exit)) ⌝ }
+    requires { Within matrix.old i j }
+    ensures { BitSet i j matrix.old matrix.new }
 {
     let place = 16 * i + j / 32;
     matrix[place] = matrix[place] | (1 << (j % 32));
@@ -32,8 +31,8 @@ pub fn set_bit(matrix: &mut [u32], i: usize, j: usize)
 
 // Every node reaches itself.
 fn set_diagonal(matrix: &mut [u32], n: usize)
-    requires { ⌜ Square (now matrix) n ⌝ }
-    ensures { λ _. ⌜ DiagonalSet n (now (matrix .entry)) (now (matrix .exit)) ⌝ }
+    requires { Square matrix.old n }
+    ensures { DiagonalSet n matrix.old matrix.new }
 {
     let mut i = 0;
     while i < n {
@@ -44,8 +43,8 @@ fn set_diagonal(matrix: &mut [u32], n: usize)
 
 // Row i is joined with row k. A whole row: a count of words that is known makes the loop quick, for a small matrix too.
 fn join_row(matrix: &mut [u32], i: usize, k: usize)
-    requires { ⌜ Within (now matrix) i k ⌝ }
-    ensures { λ _. ⌜ RowJoined i k (now (matrix .entry)) (now (matrix .exit)) ⌝ }
+    requires { Within matrix.old i k }
+    ensures { RowJoined i k matrix.old matrix.new }
 {
     let mut word = 0;
     while word < 16 {
@@ -56,8 +55,8 @@ fn join_row(matrix: &mut [u32], i: usize, k: usize)
 
 // A node that reaches k reaches what k reaches.
 fn relax(matrix: &mut [u32], i: usize, k: usize)
-    requires { ⌜ Within (now matrix) i k ⌝ }
-    ensures { λ _. ⌜ RowRelaxed i k (now (matrix .entry)) (now (matrix .exit)) ⌝ }
+    requires { Within matrix.old i k }
+    ensures { RowRelaxed i k matrix.old matrix.new }
 {
     if bit(matrix, i, k) {
         join_row(matrix, i, k);
@@ -65,8 +64,8 @@ fn relax(matrix: &mut [u32], i: usize, k: usize)
 }
 
 fn pass(matrix: &mut [u32], n: usize, k: usize)
-    requires { ⌜ Square (now matrix) n × (k < n) ⌝ }
-    ensures { λ _. ⌜ Passed n k (now (matrix .entry)) (now (matrix .exit)) ⌝ }
+    requires { Square matrix.old n × (k < n) }
+    ensures { Passed n k matrix.old matrix.new }
 {
     let mut i = 0;
     while i < n {
@@ -76,8 +75,8 @@ fn pass(matrix: &mut [u32], n: usize, k: usize)
 }
 
 fn stages(matrix: &mut [u32], n: usize)
-    requires { ⌜ Square (now matrix) n ⌝ }
-    ensures { λ _. ⌜ Staged n (now (matrix .entry)) (now (matrix .exit)) ⌝ }
+    requires { Square matrix.old n }
+    ensures { Staged n matrix.old matrix.new }
 {
     let mut k = 0;
     while k < n {
@@ -88,8 +87,8 @@ fn stages(matrix: &mut [u32], n: usize)
 
 // From the edges between the nodes below n to their paths, by Warshall's algorithm.
 pub fn close(matrix: &mut [u32], n: usize)
-    requires { ⌜ Square (now matrix) n ⌝ }
-    ensures { λ _. ⌜ Closed n (now (matrix .entry)) (now (matrix .exit)) ⌝ }
+    requires { Square matrix.old n }
+    ensures { Closed n matrix.old matrix.new }
 {
     set_diagonal(matrix, n);
     stages(matrix, n);

@@ -1,58 +1,41 @@
 // All pairs of accesses: the number of races, and the least of them above a key.
-use crate::lineage::LINK_WORDS;
-use crate::lineage::counted_apart;
-use crate::lineage::link;
-use crate::matrix::bit;
-use crate::race::Name;
-use crate::race::Race;
-use crate::rows::AccessRow;
-use crate::rows::access_at;
-use crate::rows::word_at;
-use bundle::command::Range;
-use order::range::Lowest;
-use order::range::element_at;
-use order::range::shared_byte;
-ghost use mathlib.Core.Path.{_≡_};
-ghost use mathlib.Core.Bool.{false, _&&_};
-ghost use mathlib.Core.Option.{some};
-ghost use lib.Dec.{eqb, ltb, leb};
-ghost use Prim.Native.Nat.{_+_, _%_, _≤_, _<_, min};
-ghost use lib.ListN.{length};
-ghost use Rattle·order.specs.Ranges.{sharedByte};
-ghost use Rattle·order.specs.Pairs.{lowestOf};
-ghost use Rattle·verdict·specs.specs.Accesses.{lexLess, nameBelow, keyOf};
-ghost use Rattle·verdict·specs.specs.Linking.{forksIn, Around, AllAround, LineagesFit};
-ghost use Rattle·verdict·specs.specs.Matrix.{Within, TestWord};
-ghost use Rattle·verdict·specs.specs.Working.{accessRowAt, RowIn};
-ghost use Rattle·verdict·specs.specs.Tallying.{
+ghost use Rattle.std.specs.Prelude.{◌≡◌, false, ◌&&◌, eqb, ltb, leb, ◌+◌, ◌%◌, ◌≤◌, ◌<◌, min, length};
+ghost use Rattle.std.proofs.Math.Option.{some};
+ghost use Rattle.order.specs.Ranges.{shared_byte};
+ghost use Rattle.order.specs.Pairs.{lowest_of};
+ghost use Rattle.verdict.specs.Accesses.{lex_less, name_below, key_of};
+ghost use Rattle.verdict.specs.Linking.{forks_in, Around, AllAround, LineagesFit};
+ghost use Rattle.verdict.specs.Matrix.{Within, TestWord};
+ghost use Rattle.verdict.specs.Working.{access_row_at, RowIn};
+ghost use Rattle.verdict.specs.Tallying.{
   PackedAs,
-  packedLess,
+  packed_less,
   KeyPackedAs,
-  rowsMeet,
-  kindsClash,
-  locksApart,
-  rowsPass,
+  rows_meet,
+  kinds_clash,
+  locks_apart,
+  rows_pass,
   unordered,
-  countedApart,
-  rowRange,
-  rowName,
-  rowElement,
-  rowIn,
-  raceFrom,
-  raceBetween,
-  raceAtByte,
-  nameIn,
+  counted_apart,
+  row_range,
+  row_name,
+  row_element,
+  row_in,
+  race_from,
+  race_between,
+  race_at_byte,
+  name_in,
   SideOf,
-  raceInSum,
-  tallyIn,
-  countedIn,
-  noSum,
-  aboveAt,
-  beforeLeast,
-  comesLater,
+  race_in_sum,
+  tally_in,
+  counted_in,
+  no_sum,
+  above_at,
+  before_least,
+  comes_later,
   Adds,
-  tallyRow,
-  tallyAll,
+  tally_row,
+  tally_all,
   RowFits,
   TablesFit,
   BlockIn,
@@ -65,7 +48,15 @@ ghost use Rattle·verdict·specs.specs.Tallying.{
   BlockTallied,
 };
 
+use crate::lineage::{LINK_WORDS, counted_apart, link};
+use crate::matrix::bit;
+use crate::race::{Name, Race};
+use crate::rows::{AccessRow, access_at, word_at};
+use bundle::command::Range;
+use order::range::{Lowest, element_at, shared_byte};
+
 // What the race that is looked for lies above: a witness and two names, where they are given.
+#[derive(Clone, Copy)]
 pub struct Key {
     pub given: bool,
     pub witness: u32,
@@ -74,6 +65,7 @@ pub struct Key {
 }
 
 // The races met so far: how many, and the least above the key, if one was found.
+#[derive(Clone, Copy)]
 pub struct Tally {
     pub count: u32,
     pub found: bool,
@@ -81,6 +73,7 @@ pub struct Tally {
 }
 
 // A key with its names as numbers.
+#[derive(Clone, Copy)]
 pub struct Packed {
     pub witness: u32,
     pub first: u64,
@@ -89,6 +82,7 @@ pub struct Packed {
 
 // A tally in five numbers, which stay in registers: of each access of its race the name and the place of its row are one number. What else a
 // race carries is read from the rows at the end.
+#[derive(Clone, Copy)]
 struct Sum {
     count: u32,
     found: bool,
@@ -99,7 +93,7 @@ struct Sum {
 
 // A name as one number: the order of the numbers is that of the names.
 fn pack(name: Name) -> u64
-    ensures { λ r. ⌜ PackedAs name r ⌝ }
+    ensures { PackedAs name result }
 {
     let team = name.team as u64;
     let member = name.member as u64;
@@ -108,14 +102,14 @@ fn pack(name: Name) -> u64
 }
 
 fn name_below(one: Name, other: Name) -> bool
-    ensures { λ r. ⌜ r ≡ nameBelow one other ⌝ }
+    ensures { result ≡ name_below one other }
 {
     pack(one) < pack(other)
 }
 
 // By witness, then first name, then second.
 fn packed_less(one: Packed, other: Packed) -> bool
-    ensures { λ r. ⌜ r ≡ packedLess one other ⌝ }
+    ensures { result ≡ packed_less one other }
 {
     (one.witness < other.witness)
         | ((one.witness == other.witness)
@@ -124,7 +118,7 @@ fn packed_less(one: Packed, other: Packed) -> bool
 }
 
 fn pack_key(witness: u32, first: Name, second: Name) -> Packed
-    ensures { λ r. ⌜ KeyPackedAs witness first second r ⌝ }
+    ensures { KeyPackedAs witness first second result }
 {
     Packed {
         witness,
@@ -142,7 +136,7 @@ fn key_below(
     other_first: Name,
     other_second: Name,
 ) -> bool
-    ensures { λ r. ⌜ r ≡ lexLess (keyOf witness first second) (keyOf «other_witness» «other_first» «other_second») ⌝ }
+    ensures { result ≡ lex_less (key_of witness first second) (key_of other_witness other_first other_second) }
 {
     packed_less(
         pack_key(witness, first, second),
@@ -152,7 +146,7 @@ fn key_below(
 
 // Whether the race of a witness and two names is above the key.
 fn above(key: Key, witness: u32, first: Name, second: Name) -> bool
-    ensures { λ r. ⌜ r ≡ aboveAt key witness first second ⌝ }
+    ensures { result ≡ above_at key witness first second }
 {
     let given = key.given;
     !given | key_below(key.witness, key.first, key.second, witness, first, second)
@@ -160,7 +154,7 @@ fn above(key: Key, witness: u32, first: Name, second: Name) -> bool
 
 // Whether it comes before the least so far, if one was found.
 fn before_least(sum: Sum, witness: u32, first: Name, second: Name) -> bool
-    ensures { λ r. ⌜ r ≡ beforeLeast sum witness first second ⌝ }
+    ensures { result ≡ before_least sum witness first second }
 {
     let found = sum.found;
     !found
@@ -176,15 +170,15 @@ fn before_least(sum: Sum, witness: u32, first: Name, second: Name) -> bool
 
 // Whether it takes the place of the least so far.
 fn takes_place(key: Key, sum: Sum, witness: u32, first: Name, second: Name) -> bool
-    ensures { λ r. ⌜ r ≡ (aboveAt key witness first second && beforeLeast sum witness first second) ⌝ }
+    ensures { result ≡ (above_at key witness first second && before_least sum witness first second) }
 {
     above(key, witness, first, second) & before_least(sum, witness, first, second)
 }
 
 // One race more, which is not kept.
 fn counted(sum: Sum) -> Sum
-    requires { ⌜ sum .count < 4294967295 ⌝ }
-    ensures { λ r. ⌜ r ≡ countedIn sum ⌝ }
+    requires { sum.count < 4294967295 }
+    ensures { result ≡ counted_in sum }
 {
     let found = sum.found;
     Sum {
@@ -197,7 +191,7 @@ fn counted(sum: Sum) -> Sum
 }
 
 fn name_of(row: AccessRow) -> Name
-    ensures { λ r. ⌜ r ≡ rowName row ⌝ }
+    ensures { result ≡ row_name row }
 {
     Name {
         team: row.team,
@@ -207,7 +201,7 @@ fn name_of(row: AccessRow) -> Name
 }
 
 fn range_of(row: AccessRow) -> Range
-    ensures { λ r. ⌜ r ≡ rowRange row ⌝ }
+    ensures { result ≡ row_range row }
 {
     Range {
         base: row.base,
@@ -219,8 +213,8 @@ fn range_of(row: AccessRow) -> Range
 
 // Whether there is no path either way between two segments.
 fn no_path(matrix: &[u32], one: u16, other: u16) -> bool
-    requires { ⌜ Within (now matrix) one other ⌝ }
-    ensures { λ r. ⌜ r ≡ unordered (now (matrix .entry)) one other ⌝ }
+    requires { Within matrix.now one other }
+    ensures { result ≡ unordered matrix.now one other }
 {
     let a = one as usize;
     let b = other as usize;
@@ -232,14 +226,14 @@ fn no_path(matrix: &[u32], one: u16, other: u16) -> bool
 
 // An access's name and the place of its row as one number.
 fn side_of(name: Name, place: u32) -> u64
-    requires { ⌜ place < 1024 ⌝ }
-    ensures { λ r. ⌜ SideOf name place r ⌝ }
+    requires { place < 1024 }
+    ensures { SideOf name place result }
 {
     pack(name) * 65536 + place as u64
 }
 
 pub fn name_in(side: u64) -> Name
-    ensures { λ r. ⌜ r ≡ nameIn side ⌝ }
+    ensures { result ≡ name_in side }
 {
     Name {
         team: (side / 1099511627776 % 65536) as u16,
@@ -250,7 +244,7 @@ pub fn name_in(side: u64) -> Name
 
 // Whether the race of two accesses comes after the least so far: told by the witness and the names, before anything is made of it.
 fn comes_later(sum: Sum, one: AccessRow, other: AccessRow, witness: u32) -> bool
-    ensures { λ r. ⌜ r ≡ comesLater (sum .found) (sum .witness) (nameIn (sum .first)) (rowName one) (rowName other) witness ⌝ }
+    ensures { result ≡ comes_later sum.found sum.witness (name_in sum.first) (row_name one) (row_name other) witness }
 {
     let found = sum.found;
     let least = name_in(sum.first);
@@ -270,8 +264,8 @@ fn add_ordered(
     key: Key,
     sum: Sum,
 ) -> Sum
-    requires { ⌜ (i < 1024) × (j < 1024) × (sum .count < 4294967295) ⌝ }
-    ensures { λ r. ⌜ Adds key one i other j (some (raceFrom one other witness)) sum r ⌝ }
+    requires { (i < 1024) × (j < 1024) × (sum.count < 4294967295) }
+    ensures { Adds key one i other j (some (race_from one other witness)) sum result }
 {
     let first = name_of(one);
     let second = name_of(other);
@@ -289,8 +283,8 @@ fn add_ordered(
 
 // The race of two accesses that share a byte. Most races come later than the least, and are only counted.
 fn add_at(one: AccessRow, i: u32, other: AccessRow, j: u32, witness: u32, key: Key, sum: Sum) -> Sum
-    requires { ⌜ (i < 1024) × (j < 1024) × (sum .count < 4294967295) ⌝ }
-    ensures { λ r. ⌜ Adds key one i other j (some (raceBetween one other witness)) sum r ⌝ }
+    requires { (i < 1024) × (j < 1024) × (sum.count < 4294967295) }
+    ensures { Adds key one i other j (some (race_between one other witness)) sum result }
 {
     if comes_later(sum, one, other, witness) {
         return counted(sum);
@@ -303,15 +297,15 @@ fn add_at(one: AccessRow, i: u32, other: AccessRow, j: u32, witness: u32, key: K
 
 // Whether a base lies in the first element of a range.
 fn near(base: u32, size: u8, other: u32) -> bool
-    ensures { λ r. ⌜ r ≡ (leb base other && ltb other (base + size)) ⌝ }
+    ensures { result ≡ (leb base other && ltb other (base + size)) }
 {
     (base <= other) & ((other as u64) < base as u64 + size as u64)
 }
 
 // The lowest byte that two accesses share. One that lies in the first element of the other is told at once.
 pub fn lowest(one: AccessRow, other: AccessRow) -> Lowest
-    requires { ⌜ RowFits one × RowFits other ⌝ }
-    ensures { λ r. ⌜ lowestOf r ≡ sharedByte (rowRange one) (rowRange other) ⌝ }
+    requires { RowFits one × RowFits other }
+    ensures { lowest_of result ≡ shared_byte (row_range one) (row_range other) }
 {
     let base = one.base;
     let other_base = other.base;
@@ -326,8 +320,8 @@ pub fn lowest(one: AccessRow, other: AccessRow) -> Lowest
 
 // The race of two accesses that clash, if they share a byte.
 fn add_clash(one: AccessRow, i: u32, other: AccessRow, j: u32, key: Key, sum: Sum) -> Sum
-    requires { ⌜ RowFits one × RowFits other × (i < 1024) × (j < 1024) × (sum .count < 4294967295) ⌝ }
-    ensures { λ r. ⌜ Adds key one i other j (raceAtByte one other (sharedByte (rowRange one) (rowRange other))) sum r ⌝ }
+    requires { RowFits one × RowFits other × (i < 1024) × (j < 1024) × (sum.count < 4294967295) }
+    ensures { Adds key one i other j (race_at_byte one other (shared_byte (row_range one) (row_range other))) sum result }
 {
     match lowest(one, other) {
         Lowest::Byte(byte) => add_at(one, i, other, j, byte as u32, key, sum),
@@ -337,16 +331,16 @@ fn add_clash(one: AccessRow, i: u32, other: AccessRow, j: u32, key: Key, sum: Su
 
 // Whether the bounds of an access meet those of the j-th.
 fn bounds_meet(rows: &[u32], j: usize, one: AccessRow) -> bool
-    requires { ⌜ RowIn (now rows) j ⌝ }
-    ensures { λ r. ⌜ r ≡ rowsMeet one (accessRowAt (now (rows .entry)) j) ⌝ }
+    requires { RowIn rows.now j }
+    ensures { result ≡ rows_meet one (access_row_at rows.now j) }
 {
     (one.base <= word_at(rows, j + 1024)) & (word_at(rows, j) <= one.last)
 }
 
 // Whether locks and those of the j-th access have none in common.
 fn locks_apart(rows: &[u32], j: usize, locks: u64) -> bool
-    requires { ⌜ RowIn (now rows) j ⌝ }
-    ensures { λ r. ⌜ r ≡ locksApart locks (accessRowAt (now (rows .entry)) j .locks) ⌝ }
+    requires { RowIn rows.now j }
+    ensures { result ≡ locks_apart locks (access_row_at rows.now j).locks }
 {
     let low = (locks % 4294967296) as u32;
     let high = (locks / 4294967296) as u32;
@@ -355,8 +349,8 @@ fn locks_apart(rows: &[u32], j: usize, locks: u64) -> bool
 
 // Whether at least one of a kind and that of the j-th access writes, and not both are atomic.
 fn kinds_clash(rows: &[u32], j: usize, kind: u8) -> bool
-    requires { ⌜ RowIn (now rows) j ⌝ }
-    ensures { λ r. ⌜ r ≡ kindsClash kind (accessRowAt (now (rows .entry)) j .kind) ⌝ }
+    requires { RowIn rows.now j }
+    ensures { result ≡ kinds_clash kind (access_row_at rows.now j).kind }
 {
     let one = kind as u32;
     let other = word_at(rows, j + 4096) % 16;
@@ -365,16 +359,16 @@ fn kinds_clash(rows: &[u32], j: usize, kind: u8) -> bool
 
 // Whether an access and the j-th race if they are not ordered and share a byte.
 fn passes(rows: &[u32], j: usize, one: AccessRow) -> bool
-    requires { ⌜ RowIn (now rows) j ⌝ }
-    ensures { λ r. ⌜ r ≡ rowsPass one (accessRowAt (now (rows .entry)) j) ⌝ }
+    requires { RowIn rows.now j }
+    ensures { result ≡ rows_pass one (access_row_at rows.now j) }
 {
     bounds_meet(rows, j, one) & (locks_apart(rows, j, one.locks) & kinds_clash(rows, j, one.kind))
 }
 
 // Which of 32 accesses pass with one, the first of them lowest. No branch and no call: the words are tested side by side.
 fn passing(rows: &[u32], first: usize, one: AccessRow) -> u32
-    requires { ⌜ BlockIn (now rows) first ⌝ }
-    ensures { λ r. ⌜ TestWord (λ j. rowsPass one (accessRowAt (now (rows .entry)) j)) first r ⌝ }
+    requires { BlockIn rows.now first }
+    ensures { TestWord (λ j. rows_pass one (access_row_at rows.now j)) first result }
 {
     let mut word: u32 = 0;
     let mut k: usize = 0;
@@ -387,8 +381,8 @@ fn passing(rows: &[u32], first: usize, one: AccessRow) -> u32
 
 // Whether the bounds of one of 32 accesses meet those of another.
 pub fn some_meet(rows: &[u32], first: usize, one: AccessRow) -> bool
-    requires { ⌜ BlockIn (now rows) first ⌝ }
-    ensures { λ r. ⌜ (r ≡ false → NoneMeet one (now (rows .entry)) first 32) ⌝ }
+    requires { BlockIn rows.now first }
+    ensures { result ≡ false → NoneMeet one rows.now first 32 }
 {
     let mut some = false;
     let mut k: usize = 0;
@@ -400,16 +394,16 @@ pub fn some_meet(rows: &[u32], first: usize, one: AccessRow) -> bool
 }
 
 fn segment_at(rows: &[u32], j: u32) -> u16
-    requires { ⌜ RowIn (now rows) j ⌝ }
-    ensures { λ r. ⌜ r ≡ accessRowAt (now (rows .entry)) j .segment ⌝ }
+    requires { RowIn rows.now j }
+    ensures { result ≡ (access_row_at rows.now j).segment }
 {
     (word_at(rows, j as usize + 7168) / 65536) as u16
 }
 
 // Whether an access and the j-th clash by the tests so far: the lowest bit of `left` says whether they pass, and there is no path.
 pub fn clash(matrix: &[u32], rows: &[u32], one: AccessRow, left: u32, j: u32) -> bool
-    requires { ⌜ RowIn (now rows) j × Within (now matrix) (one .segment) (accessRowAt (now rows) j .segment) ⌝ }
-    ensures { λ r. ⌜ r ≡ (eqb (left % 2) 1 && unordered (now (matrix .entry)) (one .segment) (accessRowAt (now (rows .entry)) j .segment)) ⌝ }
+    requires { RowIn rows.now j × Within matrix.now one.segment (access_row_at rows.now j).segment }
+    ensures { result ≡ (eqb (left % 2) 1 && unordered matrix.now one.segment (access_row_at rows.now j).segment) }
 {
     if left % 2 == 0 {
         return false;
@@ -429,8 +423,8 @@ fn clash_counted(
     left: u32,
     j: u32,
 ) -> bool
-    requires { ⌜ PairFits (now matrix) (now rows) (now forks) (now links) regions one i j ⌝ }
-    ensures { λ r. ⌜ r ≡ ((eqb (left % 2) 1 && unordered (now (matrix .entry)) (one .segment) (accessRowAt (now (rows .entry)) j .segment)) && countedApart (forksIn (now (forks .entry)) regions) one (accessRowAt (now (rows .entry)) j)) ⌝ }
+    requires { PairFits matrix.now rows.now forks.now links.now regions one i j }
+    ensures { result ≡ ((eqb (left % 2) 1 && unordered matrix.now one.segment (access_row_at rows.now j).segment) && counted_apart (forks_in forks.now regions) one (access_row_at rows.now j)) }
 {
     if !clash(matrix, rows, one, left, j) {
         return false;
@@ -451,8 +445,8 @@ fn keep_apart(
     first: u32,
     end: u32,
 ) -> u32
-    requires { ⌜ WordFits (now matrix) (now rows) (now forks) (now links) regions one i word first end ⌝ }
-    ensures { λ r. ⌜ ClashWord (now (matrix .entry)) (forksIn (now (forks .entry)) regions) (now (rows .entry)) one first end r ⌝ }
+    requires { WordFits matrix.now rows.now forks.now links.now regions one i word first end }
+    ensures { ClashWord matrix.now (forks_in forks.now regions) rows.now one first end result }
 {
     let mut kept: u32 = 0;
     let mut left = word;
@@ -480,24 +474,15 @@ pub fn clashing(
     first: u32,
     end: u32,
 ) -> u32
-    requires { ⌜ RowsFit (now matrix) (now rows) one i first end × BlockIn (now rows) first × Around (now rows) (now forks) (now links) regions held i end ⌝ }
-    ensures { λ r. ⌜ ClashWord (now (matrix .entry)) (forksIn (now (forks .entry)) regions) (now (rows .entry)) one first end r ⌝ }
+    requires { RowsFit matrix.now rows.now one i first end × BlockIn rows.now first × Around rows.now forks.now links.now regions held i end }
+    ensures { ClashWord matrix.now (forks_in forks.now regions) rows.now one first end result }
 {
     let word = passing(rows, first as usize, one);
     if !held {
         return word;
     }
     keep_apart(
-        matrix,
-        rows,
-        forks,
-        regions,
-        links,
-        one,
-        i,
-        word,
-        first,
-        end,
+        matrix, rows, forks, regions, links, one, i, word, first, end,
     )
 }
 
@@ -515,8 +500,8 @@ fn add_passing(
     key: Key,
     before: Sum,
 ) -> Sum
-    requires { ⌜ BlockFits (now matrix) (now rows) one i first end (before .count) × ClashWord (now matrix) (forksIn (now forks) regions) (now rows) one first end word ⌝ }
-    ensures { λ r. ⌜ BlockTallied (now (matrix .entry)) (forksIn (now (forks .entry)) regions) (now (rows .entry)) key one first end (tallyIn (now (rows .entry)) before) (tallyIn (now (rows .entry)) r) ⌝ }
+    requires { BlockFits matrix.now rows.now one i first end before.count × ClashWord matrix.now (forks_in forks.now regions) rows.now one first end word }
+    ensures { BlockTallied matrix.now (forks_in forks.now regions) rows.now key one first end (tally_in rows.now before) (tally_in rows.now result) }
 {
     let mut sum = before;
     let mut left = word;
@@ -549,43 +534,24 @@ fn add_block(
     key: Key,
     sum: Sum,
 ) -> Sum
-    requires { ⌜ BlockFits (now matrix) (now rows) one i first end (sum .count) × BlockIn (now rows) first × Around (now rows) (now forks) (now links) regions held i end ⌝ }
-    ensures { λ r. ⌜ BlockTallied (now (matrix .entry)) (forksIn (now (forks .entry)) regions) (now (rows .entry)) key one first end (tallyIn (now (rows .entry)) sum) (tallyIn (now (rows .entry)) r) ⌝ }
+    requires { BlockFits matrix.now rows.now one i first end sum.count × BlockIn rows.now first × Around rows.now forks.now links.now regions held i end }
+    ensures { BlockTallied matrix.now (forks_in forks.now regions) rows.now key one first end (tally_in rows.now sum) (tally_in rows.now result) }
 {
     if !some_meet(rows, first as usize, one) {
         return sum;
     }
     let word = clashing(
-        matrix,
-        rows,
-        forks,
-        regions,
-        links,
-        held,
-        one,
-        i,
-        first,
-        end,
+        matrix, rows, forks, regions, links, held, one, i, first, end,
     );
     add_passing(
-        matrix,
-        rows,
-        forks,
-        regions,
-        one,
-        i,
-        word,
-        first,
-        end,
-        key,
-        sum,
+        matrix, rows, forks, regions, one, i, word, first, end, key, sum,
     )
 }
 
 // The end of the block of 32 that begins at `first`, of i accesses.
 pub fn block_end(first: u32, i: u32) -> u32
-    requires { ⌜ first < 1024 ⌝ }
-    ensures { λ r. ⌜ r ≡ min (first + 32) i ⌝ }
+    requires { first < 1024 }
+    ensures { result ≡ min (first + 32) i }
 {
     let end = first + 32;
     if end <= i { end } else { i }
@@ -603,8 +569,8 @@ fn add_row(
     key: Key,
     before: Sum,
 ) -> Sum
-    requires { ⌜ TablesFit (now matrix) (now rows) (i + 1) × Around (now rows) (now forks) (now links) regions held i (i + 1) × (before .count + i ≤ 4294967295) ⌝ }
-    ensures { λ r. ⌜ tallyIn (now (rows .entry)) r ≡ tallyRow (now (matrix .entry)) (forksIn (now (forks .entry)) regions) (now (rows .entry)) key (accessRowAt (now (rows .entry)) i) (tallyIn (now (rows .entry)) before) i ⌝ }
+    requires { TablesFit matrix.now rows.now (i + 1) × Around rows.now forks.now links.now regions held i (i + 1) × (before.count + i ≤ 4294967295) }
+    ensures { tally_in rows.now result ≡ tally_row matrix.now (forks_in forks.now regions) rows.now key (access_row_at rows.now i) (tally_in rows.now before) i }
 {
     let one = access_at(rows, i);
     let mut sum = before;
@@ -631,7 +597,7 @@ fn add_row(
 }
 
 fn no_sum() -> Sum
-    ensures { λ r. ⌜ r ≡ noSum ⌝ }
+    ensures { result ≡ no_sum }
 {
     Sum {
         count: 0,
@@ -644,23 +610,23 @@ fn no_sum() -> Sum
 
 // The lowest element of an access that covers a byte.
 fn row_element(row: AccessRow, byte: u32) -> u32
-    ensures { λ r. ⌜ r ≡ rowElement row byte ⌝ }
+    ensures { result ≡ row_element row byte }
 {
     element_at(range_of(row), byte)
 }
 
 // The row that a number of a sum names.
 fn row_in(rows: &[u32], side: u64) -> AccessRow
-    requires { ⌜ 8192 ≤ length (now rows) ⌝ }
-    ensures { λ r. ⌜ r ≡ rowIn (now (rows .entry)) side ⌝ }
+    requires { 8192 ≤ length rows.now }
+    ensures { result ≡ row_in rows.now side }
 {
     access_at(rows, (side % 1024) as u32)
 }
 
 // What the race of a sum carries.
 fn race_of(rows: &[u32], sum: Sum) -> Race
-    requires { ⌜ 8192 ≤ length (now rows) ⌝ }
-    ensures { λ r. ⌜ r ≡ raceInSum (now (rows .entry)) sum ⌝ }
+    requires { 8192 ≤ length rows.now }
+    ensures { result ≡ race_in_sum rows.now sum }
 {
     let witness = sum.witness;
     let one = row_in(rows, sum.first);
@@ -687,8 +653,8 @@ fn add_rows(
     held: bool,
     key: Key,
 ) -> Sum
-    requires { ⌜ TablesFit (now matrix) (now rows) n × AllAround (now rows) (now forks) (now links) regions held n ⌝ }
-    ensures { λ r. ⌜ tallyIn (now (rows .entry)) r ≡ tallyAll (now (matrix .entry)) (forksIn (now (forks .entry)) regions) (now (rows .entry)) key n ⌝ }
+    requires { TablesFit matrix.now rows.now n × AllAround rows.now forks.now links.now regions held n }
+    ensures { tally_in rows.now result ≡ tally_all matrix.now (forks_in forks.now regions) rows.now key n }
 {
     let mut sum = no_sum();
     let mut i = 0;
@@ -708,8 +674,8 @@ pub fn all_pairs(
     regions: u32,
     key: Key,
 ) -> Tally
-    requires { ⌜ TablesFit (now matrix) (now rows) n × LineagesFit (now rows) (now forks) regions n ⌝ }
-    ensures { λ r. ⌜ r ≡ tallyAll (now (matrix .entry)) (forksIn (now (forks .entry)) regions) (now (rows .entry)) key n ⌝ }
+    requires { TablesFit matrix.now rows.now n × LineagesFit rows.now forks.now regions n }
+    ensures { result ≡ tally_all matrix.now (forks_in forks.now regions) rows.now key n }
 {
     let mut links = [0u32; LINK_WORDS];
     let held = link(rows, n, forks, regions, &mut links);

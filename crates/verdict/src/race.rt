@@ -2,6 +2,7 @@
 use bundle::refusal::Cause;
 
 // An access is named by team, member and its number in the chunk from 0.
+#[derive(Clone, Copy)]
 pub struct Name {
     pub team: u16,
     pub member: u8,
@@ -9,6 +10,7 @@ pub struct Name {
 }
 
 // Two accesses that race, lower name first, with the lowest byte that both touch, their sites, and the lowest element of each that covers the byte.
+#[derive(Clone, Copy)]
 pub struct Race {
     pub witness: u32,
     pub first: Name,
@@ -19,6 +21,7 @@ pub struct Race {
     pub second_element: u32,
 }
 
+#[derive(Clone, Copy)]
 pub enum Verdict {
     RaceFree,
     // The least race.
@@ -26,6 +29,7 @@ pub enum Verdict {
 }
 
 // The counts of the bundle's chunks, segments, accesses and races, and the verdict.
+#[derive(Clone, Copy)]
 pub struct Judgement {
     pub chunks: u32,
     pub segments: u32,
@@ -35,12 +39,14 @@ pub struct Judgement {
 }
 
 // What judging a bundle gives.
+#[derive(Clone, Copy)]
 pub enum Judging {
     Judged(Judgement),
     Refused { place: usize, cause: Cause },
 }
 
 // What the next race above a key is.
+#[derive(Clone, Copy)]
 pub enum Next {
     Found(Race),
     Nothing,

@@ -1,13 +1,12 @@
 // The rows of the accesses in the second half of the work area: eight columns of 1,024 words, so that the words that many rows are tested
 // by lie side by side.
-ghost use mathlib.Core.Path.{_≡_};
-ghost use Prim.Native.Nat.{_+_, _*_, _<_};
-ghost use lib.ListN.{length, getD};
-ghost use Rattle·bundle.specs.Index.{Added};
-ghost use Rattle·verdict·specs.specs.Working.{accessRowAt, RowIn, Slim};
+ghost use Rattle.std.specs.Prelude.{◌≡◌, ◌+◌, ◌*◌, ◌<◌, length, get_or};
+ghost use Rattle.bundle.specs.Index.{Added};
+ghost use Rattle.verdict.specs.Working.{access_row_at, RowIn, Slim};
 
 // An access: its range and last byte, its name and site, the place of its segment among all, its kind (1 added where it writes, 2 where
 // it is atomic) and the locks that it holds.
+#[derive(Clone, Copy)]
 pub struct AccessRow {
     pub base: u32,
     pub stride: u16,
@@ -25,16 +24,16 @@ pub struct AccessRow {
 
 // The word at an index.
 pub fn word_at(words: &[u32], i: usize) -> u32
-    requires { ⌜ i < length (now words) ⌝ }
-    ensures { λ r. ⌜ r ≡ getD (now (words .entry)) i 0 ⌝ }
+    requires { i < length words.now }
+    ensures { result ≡ get_or words.now i 0 }
 {
     words[i]
 }
 
 // The row of the i-th access.
 pub fn access_at(rows: &[u32], i: u32) -> AccessRow
-    requires { ⌜ RowIn (now rows) i ⌝ }
-    ensures { λ r. ⌜ r ≡ accessRowAt (now (rows .entry)) i ⌝ }
+    requires { RowIn rows.now i }
+    ensures { result ≡ access_row_at rows.now i }
 {
     let at = i as usize;
     let low = word_at(rows, at + 2048) as u64;
@@ -61,23 +60,23 @@ pub fn access_at(rows: &[u32], i: u32) -> AccessRow
 
 // Two numbers of 16 bits in a word.
 fn two(low: u16, high: u16) -> u32
-    ensures { λ r. ⌜ r ≡ low + 65536 * high ⌝ }
+    ensures { result ≡ low + 65536 * high }
 {
     low as u32 + 65536 * (high as u32)
 }
 
 // A kind, a size and a member in 16 bits.
 fn small(kind: u8, size: u8, member: u8) -> u16
-    requires { ⌜ (kind < 16) × (size < 16) ⌝ }
-    ensures { λ r. ⌜ r ≡ kind + 16 * size + 256 * member ⌝ }
+    requires { (kind < 16) × (size < 16) }
+    ensures { result ≡ kind + 16 * size + 256 * member }
 {
     kind as u16 + 16 * (size as u16) + 256 * (member as u16)
 }
 
 // Writes the row of the i-th access, whose kind and size have four bits each.
 pub fn add_access(rows: &mut [u32], i: u32, row: AccessRow)
-    requires { ⌜ RowIn (now rows) i × Slim row ⌝ }
-    ensures { λ _. ⌜ Added accessRowAt (now (rows .entry)) (now (rows .exit)) i row ⌝ }
+    requires { RowIn rows.old i × Slim row }
+    ensures { Added access_row_at rows.old rows.new i row }
 {
     let at = i as usize;
     let locks = row.locks;

@@ -1,25 +1,25 @@
 -- `judge_build::names::judge_arguments` meets its contract. The measure: the arguments left. Assumes nothing.
-use borrow.Author.Needs.{needs}
-use Prim.Native.Nat.{_-_}
-use Rattle·judge_build·proofs.proofs.names.judge_arguments.Statement.{statement}
-use Rattle·judge_build·proofs.proofs.names.judge_arguments.Tie as tie
+use borrow.Author.Rules.{rules}
+use Prim.Native.Nat.{◌-◌}
+use Rattle.judge_build.proofs.names.judge_arguments.Statement.{statement}
+use Rattle.judge_build.proofs.names.judge_arguments.Tie as tie
 
-abbrev Inv-loop : tie.InvT-loop
-Inv-loop count going₀ number₀ going number = Unit {0}
+abbrev invariant-loop : tie.invariant-loop
+invariant-loop count going₀ number₀ going number = Unit {0}
 
-abbrev μ-loop : tie.MeasureT-loop
-μ-loop count going₀ number₀ going number = count - number
+abbrev decreases-loop : tie.decreases-loop
+decreases-loop count going₀ number₀ going number = count - number
 
 pub judge-arguments-spec : {M : Type 1} → statement M
 judge-arguments-spec =
     tie.close
     (tie.spec
-    Inv-loop
-    μ-loop
-    (λ c. search needs)
-    (λ c κs. search needs)
-    (λ c. search needs)
-    (λ c. search needs)
-    (λ c. search needs)
-    (λ c. search needs)
-    (λ c. search needs))
+    invariant-loop
+    decreases-loop
+    (λ c. search rules)
+    (λ c κs. search rules)
+    (λ c. search rules)
+    (λ c. search rules)
+    (λ c. search rules)
+    (λ c. search rules)
+    (λ c. search rules))

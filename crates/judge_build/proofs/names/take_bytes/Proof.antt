@@ -1,30 +1,30 @@
 -- `judge_build::names::take_bytes` meets its contract. The measure: the bytes left. Assumes nothing.
-use borrow.Author.Needs.{needs}
-use mathlib.Core.Path.{_≡_}
-use Prim.Native.Nat.{_-_, _≤_}
+use borrow.Author.Rules.{rules}
+use mathlib.Core.Path.{◌≡◌}
+use Prim.Native.Nat.{◌-◌, ◌≤◌}
 use lib.ListN.{length}
-use Rattle·judge_build·proofs.proofs.names.take_bytes.Statement.{statement}
-use Rattle·judge_build·proofs.proofs.names.take_bytes.Tie as tie
+use Rattle.judge_build.proofs.names.take_bytes.Statement.{statement}
+use Rattle.judge_build.proofs.names.take_bytes.Tie as tie
 
-abbrev Inv-loop : tie.InvT-loop
-Inv-loop bytes name₀ naming₀ i₀ name naming i = (i ≤ length bytes) × (length name ≡ length name₀)
+abbrev invariant-loop : tie.invariant-loop
+invariant-loop bytes name₀ naming₀ i₀ name naming i = (i ≤ length bytes) × (length name ≡ length name₀)
 
-abbrev μ-loop : tie.MeasureT-loop
-μ-loop bytes name₀ naming₀ i₀ name naming i = length bytes - i
+abbrev decreases-loop : tie.decreases-loop
+decreases-loop bytes name₀ naming₀ i₀ name naming i = length bytes - i
 
 pub take-bytes-spec : {M : Type 1} → statement M
 take-bytes-spec =
     tie.close
     (tie.spec
-    Inv-loop
-    μ-loop
-    (λ c. search needs)
-    (λ c. search needs)
-    (λ c κs. search needs)
-    (λ c. search needs)
-    (λ c. search needs)
-    (λ c. search needs)
-    (λ c. search needs)
-    (λ c. search needs)
-    (λ c. search needs)
-    (λ c. search needs))
+    invariant-loop
+    decreases-loop
+    (λ c. search rules)
+    (λ c. search rules)
+    (λ c κs. search rules)
+    (λ c. search rules)
+    (λ c. search rules)
+    (λ c. search rules)
+    (λ c. search rules)
+    (λ c. search rules)
+    (λ c. search rules)
+    (λ c. search rules))

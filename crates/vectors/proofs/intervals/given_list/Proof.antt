@@ -1,56 +1,56 @@
 -- `vectors::intervals::given_list` is safe and ends. The measure: the records left. Assumes nothing.
-use mathlib.Core.Path.{_≡_}
-use Prim.Native.Nat.{_≤_, _-_}
+use mathlib.Core.Path.{◌≡◌}
+use Prim.Native.Nat.{◌≤◌, ◌-◌}
 use lib.ListN.{length}
-use borrow.Author.Needs.{needs}
-use Rattle·vectors·proofs.proofs.intervals.given_list.Statement.{statement}
-use Rattle·vectors·proofs.proofs.intervals.given_list.Tie as tie
+use borrow.Author.Rules.{rules}
+use Rattle.vectors.proofs.intervals.given_list.Statement.{statement}
+use Rattle.vectors.proofs.intervals.given_list.Tie as tie
 
-abbrev Inv-loop : tie.InvT-loop
-Inv-loop body count list₀ i₀ list i = (i ≤ count) × (length list ≡ 520)
+abbrev invariant-loop : tie.invariant-loop
+invariant-loop body count list₀ i₀ list i = (i ≤ count) × (length list ≡ 520)
 
-abbrev μ-loop : tie.MeasureT-loop
-μ-loop body count list₀ i₀ list i = count - i
+abbrev decreases-loop : tie.decreases-loop
+decreases-loop body count list₀ i₀ list i = count - i
 
-filler-row-requires : tie.Need-filler-row-requires Inv-loop μ-loop
-filler-row-requires c κs = search needs
+filler-row-requires : tie.Need-filler-row-requires invariant-loop decreases-loop
+filler-row-requires c κs = search rules
 
-loop-holds : tie.Need-loop-holds Inv-loop μ-loop
-loop-holds c = search needs
+loop-holds : tie.Need-loop-init invariant-loop decreases-loop
+loop-holds c = search rules
 
-mul-row-at : tie.Need-mul-row-at Inv-loop μ-loop
-mul-row-at c = search needs
+mul-row-at : tie.Need-overflow-mul-row-at invariant-loop decreases-loop
+mul-row-at c = search rules
 
-add-row-at : tie.Need-add-row-at Inv-loop μ-loop
-add-row-at c = search needs
+add-row-at : tie.Need-overflow-add-row-at invariant-loop decreases-loop
+add-row-at c = search rules
 
-row-at-requires : tie.Need-row-at-requires Inv-loop μ-loop
-row-at-requires c κs = search needs
+row-at-requires : tie.Need-row-at-requires invariant-loop decreases-loop
+row-at-requires c κs = search rules
 
-mul-list : tie.Need-mul-list Inv-loop μ-loop
-mul-list c = search needs
+mul-list : tie.Need-overflow-mul-list invariant-loop decreases-loop
+mul-list c = search rules
 
-array-set-from-list : tie.Need-array-set-from-list Inv-loop μ-loop
-array-set-from-list c = search needs
+array-set-from-list : tie.Need-array-set-from-list invariant-loop decreases-loop
+array-set-from-list c = search rules
 
-add-i : tie.Need-add-i Inv-loop μ-loop
-add-i c = search needs
+add-i : tie.Need-overflow-add-i invariant-loop decreases-loop
+add-i c = search rules
 
-loop-less : tie.Need-loop-less Inv-loop μ-loop
-loop-less c = search needs
+loop-less : tie.Need-loop-smaller invariant-loop decreases-loop
+loop-less c = search rules
 
-loop-again : tie.Need-loop-again Inv-loop μ-loop
-loop-again c = search needs
+loop-again : tie.Need-loop-preserved invariant-loop decreases-loop
+loop-again c = search rules
 
-returns : tie.Need-returns Inv-loop μ-loop
-returns c = search needs
+returns : tie.Need-returns invariant-loop decreases-loop
+returns c = search rules
 
 pub given-list-spec : {M : Type 1} → statement M
 given-list-spec =
     tie.close
     (tie.spec
-    Inv-loop
-    μ-loop
+    invariant-loop
+    decreases-loop
     filler-row-requires
     loop-holds
     mul-row-at

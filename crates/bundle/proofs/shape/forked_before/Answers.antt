@@ -1,0 +1,6 @@
+-- `bundle::shape::forked_before` meets its contract. Assumes nothing.
+use borrow.Author.Rules.{rules}
+use Rattle.bundle.proofs.shape.forked_before.Goals as goal
+
+pub returns : goal.returns
+returns c = rw (c.slot_of.ensures, c.fork_at-row.ensures)

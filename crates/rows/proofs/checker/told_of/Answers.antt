@@ -1,0 +1,14 @@
+-- `rows::checker::told_of` meets its contract. Assumes nothing.
+use borrow.Author.Tests.{lt-ltb, le-ltb}
+use mathlib.Core.Path.{sym, ap}
+use borrow.Author.Rules.{rules}
+use Rattle.rows.proofs.checker.told_of.Goals as goal
+
+pub returns-then-same-count : goal.returns-then-same-count
+returns-then-same-count c = rw (c.in-Accepted.is, c.if-same-count.true)
+
+pub returns-else-same-count : goal.returns-else-same-count
+returns-else-same-count c = rw (c.in-Accepted.is, c.if-same-count.false)
+
+pub returns-in-Refused : goal.returns-in-Refused
+returns-in-Refused c = rw c.in-Refused.is

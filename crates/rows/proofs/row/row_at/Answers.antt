@@ -1,0 +1,9 @@
+-- `rows::row::row_at` meets its contract. Assumes nothing.
+use mathlib.Core.Path.{◌∙◌, ap}
+use Rattle.rows.specs.Slots.{held_in, slot_at, row_in}
+use borrow.Author.Rules.{rules}
+use Rattle.rows.proofs.row.row_at.Goals as goal
+
+pub returns : goal.returns
+unfolding row_in slot_at
+returns c = rw (c.held_in.ensures, c.unpack-other.ensures, c.word_at-3.ensures, c.unpack-one.ensures, c.word_at-2.ensures, c.word_at.ensures)
