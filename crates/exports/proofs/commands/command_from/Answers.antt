@@ -1,5 +1,7 @@
 -- `exports::commands::command_from` meets its contract: the first word decides. Assumes nothing.
+use Prim.Native.Nat.{◌≤◌, ◌<◌}
 use native.Mathlib.Omega.{arith}
+use lib.ListN.{get_or}
 use Rattle.exports.proofs.Widths.{by-member, by_end, by-cut, by-region, by-barrier, by-acquire, by-release, by-access, by-wide-access, by-none}
 use borrow.Author.Rules.{rules}
 use Rattle.exports.proofs.commands.command_from.Goals as goal
@@ -27,30 +29,26 @@ returns-in-33 c = rw (by-release _ _ c.in-33.is) c.release_from.ensures
 
 pub returns-in-48-to-51 : goal.returns-in-48-to-51
 returns-in-48-to-51 c =
-    rw (by-access _ _ c.if-this-lt48.false c.if-this-lt52.true, ← c.kind_of.ensures)
+    let low : 48 ≤ get_or c.args.words.now 0 0 = omega arith in
+    let high : get_or c.args.words.now 0 0 < 52 = omega arith in
+    rw (by-access _ _ low high, ← c.kind_of.ensures)
     c.access_from.ensures
 
 pub returns-in-56-to-59 : goal.returns-in-56-to-59
 returns-in-56-to-59 c =
-    rw (by-wide-access _ _ c.if-this-lt56.false c.if-this-lt60.true, ← c.kind_of-in-56-to-59.ensures)
+    let low : 56 ≤ get_or c.args.words.now 0 0 = omega arith in
+    let high : get_or c.args.words.now 0 0 < 60 = omega arith in
+    rw (by-wide-access _ _ low high, ← c.kind_of-in-56-to-59.ensures)
     c.access_from-in-56-to-59.ensures
 
 pub returns-in_default : goal.returns-in_default
 returns-in_default c =
-    let r = c.in_default-1.rest in
-    let below = c.if-this-lt48.true in
-    by-none _ _ r.0.0.0.0.0.0.1 r.0.0.0.0.0.1 r.0.0.0.0.1 r.0.0.0.1 r.0.0.1 r.0.1 r.1 (λ low high. omega arith) (λ low high. omega arith)
+    by-none _ _ (λ q. omega arith) (λ q. omega arith) (λ q. omega arith) (λ q. omega arith) (λ q. omega arith) (λ q. omega arith) (λ q. omega arith) (λ low high. omega arith) (λ low high. omega arith)
 
 pub returns-in_default-2 : goal.returns-in_default-2
 returns-in_default-2 c =
-    let r = c.in_default-1.rest in
-    let below = c.if-this-lt56.true in
-    let above = c.if-this-lt48.false in
-    let past = c.if-this-lt52.false in
-    by-none _ _ r.0.0.0.0.0.0.1 r.0.0.0.0.0.1 r.0.0.0.0.1 r.0.0.0.1 r.0.0.1 r.0.1 r.1 (λ low high. omega arith) (λ low high. omega arith)
+    by-none _ _ (λ q. omega arith) (λ q. omega arith) (λ q. omega arith) (λ q. omega arith) (λ q. omega arith) (λ q. omega arith) (λ q. omega arith) (λ low high. omega arith) (λ low high. omega arith)
 
 pub returns-in_default-3 : goal.returns-in_default-3
 returns-in_default-3 c =
-    let r = c.in_default-1.rest in
-    let above = c.if-this-lt60.false in
-    by-none _ _ r.0.0.0.0.0.0.1 r.0.0.0.0.0.1 r.0.0.0.0.1 r.0.0.0.1 r.0.0.1 r.0.1 r.1 (λ low high. omega arith) (λ low high. omega arith)
+    by-none _ _ (λ q. omega arith) (λ q. omega arith) (λ q. omega arith) (λ q. omega arith) (λ q. omega arith) (λ q. omega arith) (λ q. omega arith) (λ low high. omega arith) (λ low high. omega arith)

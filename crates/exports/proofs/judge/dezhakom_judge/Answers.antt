@@ -5,7 +5,7 @@ use borrow.Author.Rules.{rules}
 use Rattle.exports.proofs.judge.dezhakom_judge.Goals as goal
 
 pub returns-in-Judged : goal.returns-in-Judged
-returns-in-Judged c = ap judge_told c.judge.ensures.0 ∙ rw (c.in-Judged.is, c.judgement_words.ensures) refl
+returns-in-Judged c = ap judge_told c.judge.ensures.work_value ∙ rw (c.in-Judged.is, c.judgement_words.ensures) refl
 
 pub returns-in-Refused : goal.returns-in-Refused
-returns-in-Refused c = ap judge_told c.judge.ensures.0 ∙ rw (c.in-Refused.is, c.number.ensures) refl
+returns-in-Refused c = ap judge_told c.judge.ensures.work_value ∙ rw (c.in-Refused.is, c.number.ensures) refl
