@@ -12,7 +12,6 @@ use Rattle.bundle.specs.Answer.{gives}
 use Rattle.bundle.specs.Commands.{Bytes, Taken, kind_byte, access_byte, in_range, read_at}
 use Rattle.bundle.specs.declared.command.AccessKind.{AccessKind}
 use Rattle.bundle.specs.declared.command.AccessKind.TheVariants as Kind
-use Rattle.bundle.specs.declared.command.Access.{Access}
 use Rattle.bundle.specs.declared.command.Command.{Command}
 use Rattle.bundle.specs.declared.command.Command.TheVariants as Com
 use Rattle.bundle.proofs.Forms.{kind_in, kind-in}

@@ -33,7 +33,7 @@ pub fn dezhakom_find_chunk(
     end: &mut usize,
     place: &mut usize,
 ) -> u32
-    ensures { ends_told (ends_of bytes.now team member) ≡ record { number = result; place = place.new; answer = record { start = start.exit.now; end = end.new } } }
+    ensures { ends_told (ends_of bytes.now team member) ≡ record { number = result; place = place.new; answer = record { start = start.new; end = end.new } } }
 {
     match find_ends(bytes, team, member) {
         Found::At {

@@ -64,7 +64,7 @@ pub fn dezhakom_read_command(
     next: &mut usize,
     place: &mut usize,
 ) -> u32
-    ensures { read_told (read_at bytes.now position) ≡ record { number = result; place = place.new; answer = record { command = command.exit.now; next = next.new } } }
+    ensures { read_told (read_at bytes.now position) ≡ record { number = result; place = place.new; answer = record { command = command.new; next = next.new } } }
 {
     match read_command(bytes, position) {
         Reading::Taken {

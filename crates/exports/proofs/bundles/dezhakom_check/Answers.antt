@@ -2,7 +2,6 @@
 use mathlib.Core.Path.{sym, ap, ◌∙◌}
 use Rattle.exports.specs.Told.{check_told}
 use Rattle.bundle.specs.Check.{checking_of}
-use borrow.Author.Rules.{rules}
 use Rattle.exports.proofs.bundles.dezhakom_check.Goals as goal
 
 pub returns-in-Accepted : goal.returns-in-Accepted

@@ -2,7 +2,6 @@
 use mathlib.Core.Path.{sym, ap, ◌∙◌}
 use Rattle.exports.specs.Told.{ends_told}
 use Rattle.bundle.specs.Find.{found_of}
-use borrow.Author.Rules.{rules}
 use Rattle.exports.proofs.bundles.dezhakom_find_chunk.Goals as goal
 
 pub returns-in-At : goal.returns-in-At

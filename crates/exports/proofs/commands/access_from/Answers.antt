@@ -1,8 +1,6 @@
 -- `exports::commands::access_from` meets its contract: an operand over its width is out of range. Assumes nothing.
 use native.Mathlib.Omega.{arith}
 use Rattle.exports.proofs.Widths.{access-wide}
-use mathlib.Core.Path.{refl}
-use borrow.Author.Rules.{rules}
 use Rattle.exports.proofs.commands.access_from.Goals as goal
 
 pub returns-then-stride-gt65535 : goal.returns-then-stride-gt65535

@@ -3,7 +3,6 @@ use Prim.Native.Nat.{◌≤◌, ◌<◌}
 use native.Mathlib.Omega.{arith}
 use lib.ListN.{get_or}
 use Rattle.exports.proofs.Widths.{by-member, by_end, by-cut, by-region, by-barrier, by-acquire, by-release, by-access, by-wide-access, by-none}
-use borrow.Author.Rules.{rules}
 use Rattle.exports.proofs.commands.command_from.Goals as goal
 
 pub returns-in-1 : goal.returns-in-1

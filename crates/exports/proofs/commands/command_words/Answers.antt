@@ -1,7 +1,6 @@
 -- `exports::commands::command_words` meets its contract: each command has its words. Assumes nothing.
 use mathlib.Core.Path.{sym, ap, ◌∙◌}
 use Rattle.exports.specs.CommandWords.{command_words}
-use borrow.Author.Rules.{rules}
 use Rattle.exports.proofs.commands.command_words.Goals as goal
 
 pub returns-in-Member : goal.returns-in-Member

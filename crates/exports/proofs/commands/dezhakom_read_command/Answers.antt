@@ -2,7 +2,6 @@
 use mathlib.Core.Path.{sym, ap, ◌∙◌}
 use Rattle.exports.specs.Told.{read_told}
 use Rattle.bundle.specs.Commands.{reading_of}
-use borrow.Author.Rules.{rules}
 use Rattle.exports.proofs.commands.dezhakom_read_command.Goals as goal
 
 pub returns-in-Taken : goal.returns-in-Taken

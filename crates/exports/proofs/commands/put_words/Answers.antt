@@ -3,7 +3,6 @@ use Rattle.exports.specs.CommandWords.{command_from}
 use Rattle.exports.specs.Inner.{Makes}
 use mathlib.Core.Path.{subst}
 use Rattle.exports.proofs.Widths.{put-wide}
-use borrow.Author.Rules.{rules}
 use Rattle.exports.proofs.commands.put_words.Goals as goal
 
 pub returns-in-Command : goal.returns-in-Command

@@ -1,7 +1,6 @@
 -- `exports::commands::region_from` meets its contract: an operand over its width is out of range. Assumes nothing.
 use native.Mathlib.Omega.{arith}
 use Rattle.exports.proofs.Widths.{region-wide}
-use borrow.Author.Rules.{rules}
 use Rattle.exports.proofs.commands.region_from.Goals as goal
 
 pub returns-then-team-gt65535 : goal.returns-then-team-gt65535

@@ -1,7 +1,6 @@
 -- `exports::judge::dezhakom_judge` meets its contract: the words of the answer, and the work area that judge leaves. Assumes nothing.
 use mathlib.Core.Path.{refl, ap, ◌∙◌}
 use Rattle.exports.specs.RaceWords.{judge_told}
-use borrow.Author.Rules.{rules}
 use Rattle.exports.proofs.judge.dezhakom_judge.Goals as goal
 
 pub returns-in-Judged : goal.returns-in-Judged

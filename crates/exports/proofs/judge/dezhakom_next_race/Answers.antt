@@ -1,7 +1,6 @@
 -- `exports::judge::dezhakom_next_race` meets its contract: the words of the answer, and the work area that next race leaves. Assumes nothing.
 use mathlib.Core.Path.{refl, ap, ◌∙◌}
 use Rattle.exports.specs.RaceWords.{next_told}
-use borrow.Author.Rules.{rules}
 use Rattle.exports.proofs.judge.dezhakom_next_race.Goals as goal
 
 pub returns-in-Found : goal.returns-in-Found

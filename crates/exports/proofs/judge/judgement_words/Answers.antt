@@ -1,7 +1,6 @@
 -- `exports::judge::judgement_words` meets its contract: each verdict has its words. Assumes nothing.
 use mathlib.Core.Path.{ap}
 use Rattle.exports.specs.RaceWords.{least_words}
-use borrow.Author.Rules.{rules}
 use Rattle.exports.proofs.judge.judgement_words.Goals as goal
 
 pub returns-in-RaceFree : goal.returns-in-RaceFree

@@ -3,7 +3,6 @@ use Rattle.order.specs.Labels.{comparison_of}
 use mathlib.Core.Path.{sym, ap, ◌∙◌}
 use Rattle.exports.specs.LabelWords.{order_told}
 use Rattle.exports.specs.LabelWords.{order_told}
-use borrow.Author.Rules.{rules}
 use Rattle.exports.proofs.labels.dezhakom_compare_labels.Goals as goal
 
 pub returns-in-Compared : goal.returns-in-Compared

@@ -1,6 +1,5 @@
 -- `exports::labels::dezhakom_label_of_segment` meets its contract: the number and place of the answer, and the words of the label beside it. Assumes nothing.
 use Rattle.exports.proofs.LabelAnswers.{label-found, label-refused}
-use borrow.Author.Rules.{rules}
 use Rattle.exports.proofs.labels.dezhakom_label_of_segment.Goals as goal
 
 pub returns-in-Found : goal.returns-in-Found

@@ -3,7 +3,6 @@ use lib.ListN.{get_or}
 use Rattle.exports.proofs.Listed.{whole-reads, not-whole}
 use mathlib.Core.Path.{refl, ap, ◌∙◌}
 use Rattle.exports.specs.RaceWords.{list_told}
-use borrow.Author.Rules.{rules}
 use Rattle.exports.proofs.races.dezhakom_list_races.Goals as goal
 
 pub returns-in-Whole : goal.returns-in-Whole

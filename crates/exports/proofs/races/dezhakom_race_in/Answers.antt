@@ -1,7 +1,6 @@
 -- `exports::races::dezhakom_race_in` meets its contract. Assumes nothing.
 use mathlib.Core.Path.{ap, ◌∙◌}
 use Rattle.exports.specs.RaceWords.{race_words}
-use borrow.Author.Rules.{rules}
 use Rattle.exports.proofs.races.dezhakom_race_in.Goals as goal
 
 pub returns : goal.returns

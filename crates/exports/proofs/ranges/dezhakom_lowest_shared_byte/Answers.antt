@@ -2,7 +2,6 @@
 use mathlib.Core.Path.{sym, ap, ◌∙◌}
 use Rattle.exports.specs.Told.{shared_told}
 use Rattle.order.specs.Ranges.{sharing_of}
-use borrow.Author.Rules.{rules}
 use Rattle.exports.proofs.ranges.dezhakom_lowest_shared_byte.Goals as goal
 
 pub returns-in-Byte : goal.returns-in-Byte
