@@ -1,4 +1,4 @@
--- Laws of `decodeAt` and `readAt`: what an answer says, that it depends only on the bytes from the position on, and that
+-- Laws of `decode_at` and `read_at`: what an answer says, that it depends only on the bytes from the position on, and that
 -- bytes appended do not change it.
 -- Assumes nothing.
 use mathlib.Core.Path.{◌≡◌, refl, sym, ap, ap₂, subst, ◌∙◌}

@@ -1,4 +1,4 @@
--- Operands of given widths, one behind the other: what `operandBytes` writes `operandsFrom` reads, and the other way round, at
+-- Operands of given widths, one behind the other: what `operand_bytes` writes `operands_from` reads, and the other way round, at
 -- every list of widths.
 -- Assumes nothing.
 use mathlib.Core.Path.{◌≡◌, refl, sym, ap, ap₂, ◌∙◌}

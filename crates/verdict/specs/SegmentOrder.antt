@@ -38,7 +38,7 @@ SameIsItself =
     (s : List ℕ) → Accepted s → (g h : Segment) → SegmentIn s g → SegmentIn s h
     → (order_in s g.node h.node ≡ gives Ord.Same) ↔ (g ≡ h)
 
--- the key of a label: of each triple the interval, then the offset. Keys are compared as lists of numbers, a proper prefix first (`lexLess`)
+-- the key of a label: of each triple the interval, then the offset. Keys are compared as lists of numbers, a proper prefix first (`lex_less`)
 unfoldable pub sort_key : List Triple → List ℕ
 sort_key [] = []
 sort_key (t ∷ ts) = t.interval ∷ t.offset ∷ sort_key ts

@@ -1,4 +1,4 @@
--- `bundle::command::range_ok` meets its contract: each test that failed is one of `rangeOk`'s. Assumes nothing.
+-- `bundle::command::range_ok` meets its contract: each test that failed is one of `range_ok`'s. Assumes nothing.
 use mathlib.Core.Path.{sym, ◌∙◌}
 use borrow.Author.Tests.{le-leb, lt-leb}
 use Rattle.bundle.specs.Commands.{range_ok}

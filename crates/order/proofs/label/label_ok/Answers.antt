@@ -1,4 +1,4 @@
--- `order::label::label_ok` meets its contract: each test that failed is one of `labelOk`'s. Assumes nothing.
+-- `order::label::label_ok` meets its contract: each test that failed is one of `label_ok`'s. Assumes nothing.
 use mathlib.Core.Path.{ap, ◌∙◌}
 use mathlib.Core.Bool.{Bool, ◌&&◌}
 use native.Mathlib.Omega.{arith}
