@@ -27,7 +27,7 @@ race_words r =
     ∷ access_words r.first r.first_site r.first_element
     (access_words r.second r.second_site r.second_element [])
 
--- judge: the four counts, 1 for a race or 0 for race_free, and the least race: 16 words
+-- judge: the four counts, 1 for a race or 0 for race-free, and the least race: 16 words
 abbrev pub least_words : Verdict → List ℕ
 least_words Ver.RaceFree = zero_words 12
 least_words (Ver.Least r) = 1 ∷ race_words r

@@ -38,9 +38,10 @@ use Rattle.listing.specs.Pushing.{race_byte}
 use Rattle.listing.proofs.NumberLists.{Numbers, ranks_of, number-witness, number-first, number-second}
 use Rattle.listing.proofs.RankedAccesses.{Ranked, ranked, RankOf, rank-of, name_of, names-ascend, below_of, of-below}
 
-all-mem : (P : ℕ → Type 0) {xs : List ℕ} {x : ℕ} → All P xs → Memᴰ x xs → P x
-all-mem P {xs = y ∷ ys} {x} a (mathlib.Core.List.Memᴰ.head e) = subst P (sym e) a.0
-all-mem P {xs = y ∷ ys} {x} a (mathlib.Core.List.Memᴰ.tail m) = all-mem P a.1 m
+all-mem : (P : ℕ → Type 0) {x : ℕ} {xs : List ℕ} → All P xs → Memᴰ x xs → P x
+all-mem P {x} {xs = []} a m = elim m [ ]
+all-mem P {x} {xs = y ∷ ys} a (mathlib.Core.List.Memᴰ.head e) = subst P (sym e) a.0
+all-mem P {x} {xs = y ∷ ys} a (mathlib.Core.List.Memᴰ.tail m) = all-mem P a.1 m
 
 -- numbers are compared part by part
 number-less :

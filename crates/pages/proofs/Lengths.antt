@@ -33,7 +33,7 @@ race names number =
 last : (n : ℕ) → n < 4294967296 → Within 17 (last_line n)
 unfolding last_line race_free_line
 last n h =
-    cond-elim (Within 17) (eqb n 0) race_free_line (pairs_line n) (λ e. within 17 (omega arith) (word "race_free" 9 refl then end))
+    cond-elim (Within 17) (eqb n 0) race_free_line (pairs_line n) (λ e. within 17 (omega arith) (word "race-free" 9 refl then end))
     (λ e. pairs-length n h)
 
 -- counts of 32 bits, as the code has them

@@ -100,7 +100,7 @@ pairs-ends n = ended_by (word "pairs " refl then number n)
 
 pub race-free-ends : IsLine race_free_line
 unfolding race_free_line
-race-free-ends = ended_by (word "race_free" refl)
+race-free-ends = ended_by (word "race-free" refl)
 
 pub refused-ends : (n place : ℕ) → IsLine (refused_line n place)
 unfolding refused_line

@@ -43,7 +43,7 @@ pairs_line n = ascii "pairs " ++ decimal n ++ line_end
 
 -- "Without races the second and only other line is `race-free`"
 unfoldable pub race_free_line : List ℕ
-race_free_line = ascii "race_free" ++ line_end
+race_free_line = ascii "race-free" ++ line_end
 
 -- "A refusal prints just `refused N at P`, number and offset"
 unfoldable pub refused_line : ℕ → ℕ → List ℕ

@@ -64,7 +64,7 @@ module _ {s t : List ℕ} {at n most : ℕ} {line : List ℕ} (made : Extended s
       }
 
 -- the line of a judgement, by its pieces in the order in which the code puts them
-pub free-made : (j : Judgement) {s t u : List ℕ} {m n : ℕ} → Extended s t 0 m 10 (ascii "race_free ")
+pub free-made : (j : Judgement) {s t u : List ℕ} {m n : ℕ} → Extended s t 0 m 10 (ascii "race-free ")
     → Extended t u m n 58 (counts_line j.chunks j.segments j.accesses) → Extended s u 0 n 152 (verdict_line j Ver.RaceFree)
 unfolding verdict_line
 free-made j word counts = extended-as 152 (omega arith) refl (extended_then word counts)

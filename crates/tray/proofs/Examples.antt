@@ -26,7 +26,7 @@ line-of-E = refl
 
 pub line-of-P2 :
     bundle_line (gives (record { chunks = 3; segments = 6; accesses = 2; races = 0; verdict = Ver.RaceFree }))
-    ≡ ascii "race_free chunks 3 segments 6 accesses 2\n"
+    ≡ ascii "race-free chunks 3 segments 6 accesses 2\n"
 unfolding bundle_line verdict_line counts_line digit_byte digits width_within width_of
 line-of-P2 = refl
 

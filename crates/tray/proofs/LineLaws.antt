@@ -44,7 +44,7 @@ spaced-from l = rw (line-body l) (from-both l.body (ascii " ") l.clean refl)
 
 pub verdict-ends : (j : Judgement) (v : Verdict) → IsLine (verdict_line j v)
 unfolding verdict_line
-verdict-ends j Ver.RaceFree = line-behind (ascii "race_free ") refl (counts-ends j.chunks j.segments j.accesses)
+verdict-ends j Ver.RaceFree = line-behind (ascii "race-free ") refl (counts-ends j.chunks j.segments j.accesses)
 verdict-ends j (Ver.Least r) =
     let c = counts_line j.chunks j.segments j.accesses in
     line-behind (ascii "race " ++ spaced c ++ spaced (race_line r))
@@ -65,6 +65,6 @@ unreadable-ends = record { body = ascii "refused unreadable"; ended = refl; clea
 pub build_ends : (w : Word) → IsLine (build_line w)
 unfolding build_line
 build_ends Wor.Missing = record { body = ascii "build missing"; ended = refl; clean = refl }
-build_ends Wor.RaceFree = record { body = ascii "build race_free"; ended = refl; clean = refl }
+build_ends Wor.RaceFree = record { body = ascii "build race-free"; ended = refl; clean = refl }
 build_ends Wor.Refused = record { body = ascii "build refused"; ended = refl; clean = refl }
 build_ends Wor.Race = record { body = ascii "build race"; ended = refl; clean = refl }

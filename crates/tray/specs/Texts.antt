@@ -16,7 +16,7 @@ spaced line = take (length line - 1) line ++ ascii " "
 
 -- `race chunks C segments S accesses A race W T.M.K SITE T.M.K SITE pairs N`, `race-free chunks C segments S accesses A`
 unfoldable pub verdict_line : Judgement → Verdict → List ℕ
-verdict_line j Ver.RaceFree = ascii "race_free " ++ counts_line j.chunks j.segments j.accesses
+verdict_line j Ver.RaceFree = ascii "race-free " ++ counts_line j.chunks j.segments j.accesses
 verdict_line j (Ver.Least r) =
     ascii "race " ++ spaced (counts_line j.chunks j.segments j.accesses) ++ spaced (race_line r) ++ pairs_line j.races
 
@@ -32,6 +32,6 @@ unreadable_line = ascii "refused unreadable" ++ line_end
 -- the last line
 unfoldable pub build_line : Word → List ℕ
 build_line Wor.Missing = ascii "build missing" ++ line_end
-build_line Wor.RaceFree = ascii "build race_free" ++ line_end
+build_line Wor.RaceFree = ascii "build race-free" ++ line_end
 build_line Wor.Refused = ascii "build refused" ++ line_end
 build_line Wor.Race = ascii "build race" ++ line_end

@@ -63,7 +63,7 @@ fn make_race_free(judgement: Judgement, line: &mut [u8; 256]) -> usize
     requires { length line.old ≡ 256 }
     ensures { Extended line.old line.new 0 result 152 (verdict_line judgement Ver.RaceFree) }
 {
-    let next = add_word(b"race_free ", line, 0);
+    let next = add_word(b"race-free ", line, 0);
     add_counts(judgement, line, next)
 }
 

@@ -27,7 +27,7 @@ fn put_race<P: Print>(to: &P, race: Race) {
 
 fn put_verdict<P: Print>(to: &P, verdict: Verdict) {
     match verdict {
-        Verdict::RaceFree => text::put_text(to, b"race_free"),
+        Verdict::RaceFree => text::put_text(to, b"race-free"),
         Verdict::Least(race) => put_race(to, race),
     }
 }

@@ -152,9 +152,9 @@ module _ (s : List ℕ) (ok : Accepted s) where
       record { segment = p.behind_it; present = back o p.behind_in; chunk = together o p.behind_in; holds = (p.behind_opened, p.behind_early) }
 
   -- the REGION of a team
-  pub fork_at : {p : Segment} {u : ℕ} → Memᴰ p ss → p.ended ≡ of_region u → (f : Fork) × Memᴰ f fs × Forks p f × (f.team ≡ u)
+  pub fork_at_lem : {p : Segment} {u : ℕ} → Memᴰ p ss → p.ended ≡ of_region u → (f : Fork) × Memᴰ f fs × Forks p f × (f.team ≡ u)
   unfolding forks_of
-  fork_at m e =
+  fork_at_lem m e =
       let o = of m in
       let f = fork-of o.run.runs o.inside e in
       (f.0, concat_map-intro forks_in o.present f.1, f.2, f.3)
@@ -174,8 +174,8 @@ module _ (s : List ℕ) (ok : Accepted s) where
 
   once-of : {p q : Segment} {u : ℕ} → Memᴰ p ss → Memᴰ q ss → p.ended ≡ of_region u → q.ended ≡ of_region u → p ≡ q
   once-of {p} {q} m n e f =
-      let a = fork_at m e in
-      let b = fork_at n f in
+      let a = fork_at_lem m e in
+      let b = fork_at_lem n f in
       let same : a.0 ≡ b.0 = one-fork a.1 b.1 (a.3 ∙ sym b.3) in
       let t : p.node.team ≡ q.node.team = sym a.2.parent ∙ ap (λ (x : Fork). x.parent) same ∙ b.2.parent in
       let v : p.node.member ≡ q.node.member = sym a.2.member ∙ ap (λ (x : Fork). x.member) same ∙ b.2.member in
@@ -191,7 +191,7 @@ module _ (s : List ℕ) (ok : Accepted s) where
 
   label-of : {p : Segment} {u : ℕ} → Memᴰ p ss → p.ended ≡ of_region u → fork_label (suc u) fs u ≡ segment_label fs p.node.team p.node.member p.state
   label-of {p} {u} m e =
-      let a = fork_at m e in
+      let a = fork_at_lem m e in
       climbs fs (team-falls s ok) u (fork-found a.1 a.3) ∙ same-triples a.0 a.2
     where
       same-triples : (f : Fork) → Forks p f → segment_label fs f.parent f.member f.state ≡ segment_label fs p.node.team p.node.member p.state

@@ -1,5 +1,5 @@
 -- Judge and next race, case by case: the tables in the work area, the counts, the answers, and demand 3.
-use Prim.Native.Nat.{ℕ, suc, ◌≤◌, ◌<◌}
+use Prim.Native.Nat.{ℕ, suc, ◌+◌, ◌≤◌, ◌<◌}
 use mathlib.Core.Path.{◌≡◌, refl, sym, ◌∙◌, ap, ap₂, subst}
 use mathlib.Core.Bool.{Bool, true, false, cond, not, ◌||◌}
 use mathlib.Core.List.{List, [], ◌∷◌, ◌++◌, append-nil, Memᴰ}
@@ -13,10 +13,10 @@ use borrow.Author.Tests.{lt-ltb, le-ltb}
 use Rattle.bundle.specs.Answer.{Answer, gives, refuses, number_of}
 use Rattle.bundle.specs.Lists.{first}
 use Rattle.bundle.specs.Commands.{Bytes, Lent, range_ok}
-use Rattle.bundle.specs.Walk.{Segment, forks_of}
+use Rattle.bundle.specs.Walk.{opens_segment, adds_access, Segment, forks_of}
 use Rattle.bundle.specs.Chunks.{Chunk, chunks_of}
 use Rattle.bundle.specs.Check.{fork_of, check_of, Accepted}
-use Rattle.bundle.specs.Index.{chunk_row_at, fork_row_at, rows_from, chunk_rows, Indexed}
+use Rattle.bundle.specs.Index.{total, log_of, chunk_row_at, fork_row_at, rows_from, chunk_rows, Indexed}
 use Rattle.bundle.specs.declared.index.Fork.{Fork}
 use Rattle.bundle.specs.declared.refusal.Cause.{Cause}
 use Rattle.bundle.proofs.Tables.{table-length, table-in}
@@ -252,7 +252,7 @@ verdict-free rs key t none-given e = go rs t.found e
 rows-length : (g n : ℕ) (cs : List Chunk) → length (rows_from g n cs) ≡ length cs
 unfolding rows_from
 rows-length g n [] = refl
-rows-length g n (c ∷ cs) = ap suc (rows-length _ _ cs)
+rows-length g n (c ∷ cs) = ap suc (rows-length (g + total opens_segment (log_of c)) (n + total adds_access (log_of c)) cs)
 
 pub chunk_count : (s : List ℕ) (n m : ℕ) (chunks forks : List ℕ) → Indexed s n m chunks forks → n ≡ length (chunks_of s)
 chunk_count s n m chunks forks x =

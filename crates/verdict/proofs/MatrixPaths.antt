@@ -36,10 +36,9 @@ module _ (ss : List Segment) (distinct : Distinct (map node_of ss)) {before : Li
 
   -- a path of edges is a walk along the bits
   path-walk :
-      {i j : ℕ} {a b : Segment}
+      {c : Node} {i j : ℕ} {a b : Segment} {d : Node}
       → get_elem? ss i ≡ some a
       → get_elem? ss j ≡ some b
-      → {c d : Node}
       → a.node ≡ c
       → b.node ≡ d
       → GraphPath ss c d
@@ -51,7 +50,7 @@ module _ (ss : List Segment) (distinct : Distinct (map node_of ss)) {before : Li
       let t = mem-at e.to_in in
       let k = same_place node_of ss t.0 j distinct t.1 q (e.to_node ∙ sym v) in
       along
-      (path-walk p f.1 u e.from_node w)
+      (path-walk {j = f.0} p f.1 u e.from_node w)
       (at_below ss f.0 f.1)
       (subst (λ (n : ℕ). bit_at before f.0 n ≡ true) k (edges.bits f.0 t.0 f.1 t.1 ∙ joined-joins e.from e.to e.joined))
 

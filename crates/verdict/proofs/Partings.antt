@@ -18,7 +18,7 @@ use Rattle.verdict.proofs.AccessSegments.{Standing, stands}
 use Rattle.verdict.proofs.LineageLaws.{forker, above-forked}
 use Rattle.verdict.proofs.LineageTails.{Through, parting}
 use Rattle.verdict.proofs.ForkJoin.{ForkJoin, Ahead, after, after-path, ahead-path, path-trans}
-use Rattle.verdict.proofs.BundleForkJoin.{fork-join, fork_at, fork-found}
+use Rattle.verdict.proofs.BundleForkJoin.{fork-join, fork_at_lem, fork-found}
 use Rattle.verdict.proofs.LabelPaths.{Peers, peer_same, peer_ahead, peer_behind, peer_aside, own-member, other_member, peers, Down, at, via, down-path, up-path, ended-one, from-root}
 
 -- the REGION that ends a segment
@@ -126,7 +126,7 @@ module _ (s : List ℕ) (ok : Accepted s) where
 
   forked-by : (p : Segment) (u : ℕ) → Memᴰ p (segments_of cs) → p.ended ≡ of_region u → Forked (forks_of cs) p u
   forked-by p u m e =
-      let f = fork_at s ok m e in
+      let f = fork_at_lem s ok m e in
       record { fork = f.0; found = fork-found s ok f.1 f.3; parent = f.2.parent; member = f.2.member }
 
 -- any two accesses of an accepted bundle with no path either way

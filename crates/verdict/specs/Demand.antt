@@ -20,7 +20,7 @@ pub data Ascending : List Race → Type 0 where
 
 -- what a judgement says of a bundle
 pub record Exact (b : List ℕ) (j : Judgement) : Type 0 where
-  -- "race_free exactly when the bundle has no race"
+  -- "race-free exactly when the bundle has no race"
   pub race_free : (j.verdict ≡ Ver.RaceFree) ↔ ((r : Race) → IsRace (chunks_of b) r → ⊥)
   -- "Otherwise the answer gives one of the bundle's races with its lowest shared byte, and every other race of the bundle comes later"
   pub a_race : (r : Race) → j.verdict ≡ Ver.Least r → IsRace (chunks_of b) r

@@ -19,12 +19,12 @@ use Rattle.verdict.specs.declared.race.Judging.TheVariants as Jud
 use Rattle.verdict.specs.declared.race.Next.{Next}
 use Rattle.verdict.specs.declared.race.Next.TheVariants as Nex
 
--- "the least race or race_free"
+-- "the least race or race-free"
 unfoldable pub verdict_of : List Race → Verdict
 verdict_of [] = Ver.RaceFree
 verdict_of (r ∷ rs) = Ver.Least r
 
--- "Judging gives the counts of the bundle's chunks, segments, accesses and races, each race counted once, and the least race or race_free"
+-- "Judging gives the counts of the bundle's chunks, segments, accesses and races, each race counted once, and the least race or race-free"
 unfoldable pub judgement_of : List Chunk → Judgement
 judgement_of cs =
     let races = races_of cs in

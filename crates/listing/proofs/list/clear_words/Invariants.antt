@@ -1,0 +1,15 @@
+-- `listing::list::clear_words` meets its contract. The invariant: the words passed are 0, the others as they were. The measure: those left. Assumes nothing.
+use mathlib.Core.Path.{◌≡◌, refl, ap, ◌∙◌}
+use Prim.Native.Nat.{ℕ, ◌≤◌, ◌-◌}
+use mathlib.Core.List.{List, ◌++◌}
+use lib.ListN.{length, set, drop, replicate, length-set}
+use borrow.Author.Fill.{fill_more}
+use Rattle.verdict.proofs.JudgeCases.{cleared}
+use borrow.Author.Rules.{rules}
+use Rattle.listing.proofs.list.clear_words.Given as goal
+
+abbrev pub invariant-loop-i : goal.invariant-loop-i
+invariant-loop-i l = (l.i ≤ length l.initial.words) × (length l.words ≡ length l.initial.words) × (l.words ≡ replicate l.i 0 ++ drop l.i l.initial.words)
+
+abbrev pub decreases-loop-i : goal.decreases-loop-i
+decreases-loop-i l = length l.initial.words - l.i

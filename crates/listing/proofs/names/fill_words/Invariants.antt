@@ -1,0 +1,19 @@
+-- `listing::names::fill_words` meets its contract. The invariant: the words of the accesses passed stand in front, the others are as they were. The measure: those left. Assumes nothing.
+use mathlib.Core.Path.{◌≡◌, ◌∙◌, ap}
+use Prim.Native.Nat.{◌≤◌, ◌-◌, ◌+◌, ◌*◌}
+use mathlib.Core.List.{◌++◌}
+use native.Mathlib.Omega.{arith}
+use lib.ListN.{length, drop, length-set}
+use Rattle.bundle.specs.Index.{table}
+use Rattle.verdict.specs.Tallying.{packed, row_name}
+use Rattle.verdict.specs.declared.rows.AccessRow.{AccessRow}
+use Rattle.listing.specs.Ranking.{name_word}
+use Rattle.listing.proofs.Fronts.{table-none-yet, table-more-yet, table-all}
+use borrow.Author.Rules.{rules}
+use Rattle.listing.proofs.names.fill_words.Given as goal
+
+abbrev pub invariant-loop-i : goal.invariant-loop-i
+invariant-loop-i l = (l.i ≤ l.n) × (length l.words ≡ length l.initial.words) × (l.words ≡ table (name_word l.rows) l.i ++ drop l.i l.initial.words)
+
+abbrev pub decreases-loop-i : goal.decreases-loop-i
+decreases-loop-i l = l.n - l.i

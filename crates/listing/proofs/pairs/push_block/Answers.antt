@@ -1,0 +1,16 @@
+-- `listing::pairs::push_block` meets its contract. Assumes nothing.
+use borrow.Author.Rules.{rules}
+use borrow.Author.Tests.{not-true}
+use Rattle.listing.proofs.BlockLaws.{none-met}
+use Rattle.listing.proofs.pairs.push_block.Goals as goal
+
+pub returns-then-not-some_meet : goal.returns-then-not-some_meet
+returns-then-not-some_meet c =
+    let fits = c.requires.0.rows_fit in
+    none-met _ _ _ _ _ _ _ _ _ fits.row_is fits.ordered fits.short (c.some_meet.ensures c.if-not-some_meet.true)
+
+pub clashing-word-requires : goal.clashing-word-requires
+clashing-word-requires c = (c.requires.0.rows_fit, c.requires.1, c.requires.2)
+
+pub push_passing-requires : goal.push_passing-requires
+push_passing-requires c = (c.requires.0, c.clashing-word.ensures)

@@ -1,0 +1,7 @@
+-- `text::digits::scale` meets its contract. Assumes nothing.
+use Rattle.text.proofs.Widths.{scaled}
+use borrow.Author.Rules.{rules}
+use Rattle.text.proofs.digits.scale.Goals as goal
+
+pub returns : goal.returns
+returns c = scaled _ c.requires.0 c.requires.1

@@ -1,0 +1,7 @@
+-- `verdict::edges::reach` meets its contract. Assumes nothing.
+use borrow.Author.Rules.{rules}
+use Rattle.verdict.proofs.EdgeCodes.{tables-reach}
+use Rattle.verdict.proofs.edges.reach.Goals as goal
+
+pub returns : goal.returns
+returns c = tables-reach c.fill_edges.ensures c.close.ensures

@@ -1,0 +1,8 @@
+-- `verdict::fill::row_here` meets its contract. Assumes nothing.
+use Rattle.verdict.specs.Filling.{row_here}
+use borrow.Author.Rules.{rules}
+use Rattle.verdict.proofs.fill.row_here.Goals as goal
+
+pub returns : goal.returns
+unfolding row_here
+returns c = rw (c.last_byte.ensures, c.kind_code.ensures)

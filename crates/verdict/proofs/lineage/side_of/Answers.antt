@@ -1,0 +1,6 @@
+-- `verdict::lineage::side_of` meets its contract. Assumes nothing.
+use borrow.Author.Rules.{rules}
+use Rattle.verdict.proofs.lineage.side_of.Goals as goal
+
+pub returns : goal.returns
+returns c = rw c.word_at.ensures

@@ -1,0 +1,8 @@
+-- `verdict::lineage::team_at` meets its contract. Assumes nothing.
+use borrow.Author.Rules.{rules}
+use Rattle.verdict.specs.Working.{access_row_at}
+use Rattle.verdict.proofs.lineage.team_at.Goals as goal
+
+pub returns : goal.returns
+unfolding access_row_at
+returns c = rw c.word_at.ensures

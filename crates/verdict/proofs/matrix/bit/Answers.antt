@@ -1,0 +1,9 @@
+-- `verdict::matrix::bit` meets its contract. Assumes nothing.
+use borrow.Author.Rules.{rules}
+use mathlib.Core.Path.{refl}
+use Rattle.verdict.specs.Matrix.{bit_at}
+use Rattle.verdict.proofs.matrix.bit.Goals as goal
+
+pub returns : goal.returns
+unfolding bit_at
+returns c = refl

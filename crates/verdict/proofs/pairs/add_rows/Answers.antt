@@ -1,0 +1,25 @@
+-- `verdict::pairs::add_rows` meets its contract. The invariant: the accesses passed are compared with those before them. The measure: those left. Assumes nothing.
+use mathlib.Core.Path.{◌≡◌, ap}
+use native.Mathlib.Omega.{arith}
+use Prim.Native.Nat.{◌≤◌, ◌-◌}
+use borrow.Author.Rules.{rules}
+use Rattle.verdict.specs.Linking.{forks_in}
+use Rattle.verdict.specs.Tallying.{tally_in, tally_all}
+use Rattle.verdict.proofs.LinkLaws.{around-below}
+use Rattle.verdict.proofs.PairCases.{all_fit, all_more, all-all}
+use Rattle.verdict.proofs.pairs.add_rows.Goals as goal
+
+pub loop-i-init : goal.loop-i-init
+unfolding tally_all
+loop-i-init c = (search rules, ap (tally_in _) c.no_sum-sum.ensures)
+
+pub add_row-sum-requires : goal.add_row-sum-requires
+add_row-sum-requires c =
+    let fits = all_fit _ _ _ _ _ _ c.requires.0 c.loop-i-test.true c.loop-i.invariant.1 in
+    (fits.0, around-below c.requires.0.few c.requires.1 c.loop-i-test.true (omega (arith, c.loop-i-test.true)), fits.1)
+
+pub loop-i-preserved : goal.loop-i-preserved
+loop-i-preserved c = (search rules, all_more _ _ _ _ _ c.loop-i.invariant.1 c.add_row-sum.ensures)
+
+pub returns : goal.returns
+returns c = all-all _ _ _ _ _ _ c.loop-i.invariant.0 c.loop-i-test.false c.loop-i.invariant.1

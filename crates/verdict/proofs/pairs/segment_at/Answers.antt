@@ -1,0 +1,8 @@
+-- `verdict::pairs::segment_at` meets its contract. Assumes nothing.
+use borrow.Author.Rules.{rules}
+use Rattle.verdict.specs.Working.{access_row_at}
+use Rattle.verdict.proofs.pairs.segment_at.Goals as goal
+
+pub returns : goal.returns
+unfolding access_row_at
+returns c = rw c.word_at.ensures
