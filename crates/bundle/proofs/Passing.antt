@@ -33,7 +33,7 @@ use Rattle.bundle.proofs.Delimiters.{plain, closes, closes-forks-none, closes-ke
 use Rattle.bundle.proofs.Tables.{table-added}
 use Rattle.bundle.proofs.Gathering.{gather-plain, gather-closes}
 use Rattle.bundle.proofs.Decoding.{decode-next}
-use Rattle.bundle.proofs.Scanning.{no-fault, passes, tested}
+use Rattle.bundle.proofs.Scanning.{no-fault, tested}
 
 -- a command that is no MEMBER stands inside a chunk
 inside-plain : (k : Scan) (c : Command) → plain c ≡ true → misplaced k c ≡ false → k.inside ≡ true

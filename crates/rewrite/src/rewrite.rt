@@ -114,7 +114,7 @@ fn rewrite_accepted(bytes: &[u8], chunks: &[u64], count: u32, buffer: &mut [u8])
 // Puts an accepted bundle into the buffer with its chunks by team, then member. Refused, the buffer is untouched.
 pub fn rewrite(bytes: &[u8], buffer: &mut [u8]) -> Rewriting
     ensures buffer_after { record { answer = rewriting_of result; buffer = buffer.new } ≡ rewrite_of bytes.now buffer.old }
-    ensures fixedorder { Accepted bytes.now → Rewrites bytes.now }
+    ensures fixed_order { Accepted bytes.now → Rewrites bytes.now }
 {
     let mut chunks = [0u64; CHUNK_WORDS];
     let mut forks = [0u64; FORK_WORDS];

@@ -11,12 +11,7 @@ pub mod IntervalOrder
 pub mod Layouts
 pub mod Answers
 pub mod Filling
-pub mod Called
-pub mod Counting
-pub mod MakesRow
-pub mod Words
 pub mod RecordLaws
-pub mod Laying
 pub mod Comparing
 pub mod IntervalSizes
 pub mod IntervalNumbers

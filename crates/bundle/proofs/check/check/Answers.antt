@@ -1,7 +1,6 @@
 -- `bundle::check::check` meets its contract. Assumes nothing.
 use mathlib.Core.Path.{sym}
 use Rattle.bundle.proofs.CheckCases.{indexed-accepted, indexed-refused}
-use borrow.Author.Rules.{rules}
 use Rattle.bundle.proofs.check.check.Goals as goal
 
 pub returns-in-Accepted : goal.returns-in-Accepted

@@ -1,5 +1,4 @@
 -- `bundle::check::count_in` meets its contract. Assumes nothing.
-use borrow.Author.Rules.{rules}
 use Rattle.bundle.proofs.check.count_in.Goals as goal
 
 pub returns-in-Accepted : goal.returns-in-Accepted

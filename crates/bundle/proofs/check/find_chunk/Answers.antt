@@ -3,7 +3,6 @@ use mathlib.Core.Path.{sym, ◌∙◌, ap}
 use native.Mathlib.Omega.{arith}
 use Rattle.bundle.specs.Find.{found_of}
 use Rattle.bundle.proofs.CheckCases.{found_part, refused-part, ends-within}
-use borrow.Author.Rules.{rules}
 use Rattle.bundle.proofs.check.find_chunk.Goals as goal
 
 pub slice_bounds-result-count : goal.slice_bounds-result-count

@@ -1,7 +1,6 @@
 -- `bundle::check::find_ends` meets its contract. Assumes nothing.
 use mathlib.Core.Path.{sym, ◌∙◌}
 use Rattle.bundle.proofs.CheckCases.{indexed-accepted, indexed-refused, find-rows, find-refused}
-use borrow.Author.Rules.{rules}
 use Rattle.bundle.proofs.check.find_ends.Goals as goal
 
 pub slice_bounds-ends_in-end : goal.slice_bounds-ends_in-end

@@ -1,6 +1,5 @@
 -- `bundle::check::index_bundle` meets its contract. Assumes nothing.
 use Rattle.bundle.proofs.CheckCases.{check-long, check-refused, check-rows, surveyed-tables, surveyed-refusal}
-use borrow.Author.Rules.{rules}
 use Rattle.bundle.proofs.check.index_bundle.Goals as goal
 
 pub returns-then-bytes-gt-MOST_BYTES : goal.returns-then-bytes-gt-MOST_BYTES

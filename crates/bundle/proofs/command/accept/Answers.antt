@@ -1,8 +1,6 @@
 -- `bundle::command::accept` meets its contract. Assumes nothing.
 use mathlib.Core.Path.{sym, ◌∙◌}
-use borrow.Author.Tests.{not-true, not-false}
 use Rattle.bundle.proofs.Arms.{accept-beyond, accept-within}
-use borrow.Author.Rules.{rules}
 use Rattle.bundle.proofs.command.accept.Goals as goal
 
 pub returns-then-not-in_range : goal.returns-then-not-in_range

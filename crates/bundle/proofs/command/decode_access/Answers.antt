@@ -3,7 +3,6 @@ use mathlib.Core.Path.{◌∙◌}
 use mathlib.Core.Bool.{true, false}
 use Rattle.bundle.specs.Commands.{sum}
 use Rattle.bundle.proofs.Arms.{access-cut, wide_at, narrow_at, wide-to, narrow-to}
-use borrow.Author.Rules.{rules}
 use Rattle.bundle.proofs.command.decode_access.Goals as goal
 
 pub returns-then-bytes-position-lt14 : goal.returns-then-bytes-position-lt14

@@ -5,7 +5,6 @@ use Rattle.bundle.specs.declared.command.Command.TheVariants as Com
 use Rattle.bundle.proofs.Digits.{number-one}
 use Rattle.bundle.proofs.Arms.{decode-cut, decode-whole}
 use native.Mathlib.Omega.{arith}
-use borrow.Author.Rules.{rules}
 use Rattle.bundle.proofs.command.decode_acquire.Goals as goal
 
 pub returns-then-bytes-position-lt2 : goal.returns-then-bytes-position-lt2

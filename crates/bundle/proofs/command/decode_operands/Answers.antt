@@ -1,6 +1,5 @@
 -- `bundle::command::decode_operands` meets its contract. Assumes nothing.
 use Rattle.bundle.proofs.Arms.{access-decoded}
-use borrow.Author.Rules.{rules}
 use Rattle.bundle.proofs.command.decode_operands.Goals as goal
 
 pub returns : goal.returns

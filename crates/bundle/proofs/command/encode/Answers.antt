@@ -1,6 +1,5 @@
 -- `bundle::command::encode` meets its contract. Assumes nothing.
 use Rattle.bundle.specs.Commands.{form_of, code_of, widths_of, operand_bytes, bytes_of}
-use borrow.Author.Rules.{rules}
 use Rattle.bundle.proofs.command.encode.Goals as goal
 
 pub returns-in-Member : goal.returns-in-Member

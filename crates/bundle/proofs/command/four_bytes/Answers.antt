@@ -2,7 +2,6 @@
 use mathlib.Core.Path.{sym, ap₂, ◌∙◌}
 use Prim.Native.Nat.{ℕ, ◌+◌, ◌*◌}
 use Rattle.bundle.proofs.Digits.{number-parts}
-use borrow.Author.Rules.{rules}
 use Rattle.bundle.proofs.command.four_bytes.Goals as goal
 
 pub returns : goal.returns

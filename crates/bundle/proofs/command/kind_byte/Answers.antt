@@ -1,7 +1,6 @@
 -- `bundle::command::kind_byte` meets its contract. Assumes nothing.
 use mathlib.Core.Path.{sym, ap}
 use Rattle.bundle.specs.Commands.{kind_byte}
-use borrow.Author.Rules.{rules}
 use Rattle.bundle.proofs.command.kind_byte.Goals as goal
 
 pub returns-in-Read : goal.returns-in-Read

@@ -2,9 +2,7 @@
 use mathlib.Core.Path.{sym, ◌∙◌}
 use lib.ListN.{length}
 use native.Mathlib.Omega.{arith}
-use borrow.Author.Tests.{not-true, not-false}
 use Rattle.bundle.proofs.Copying.{encoded-length, encoded-prefix, room, put-out-of-range, put-no-room, put_written}
-use borrow.Author.Rules.{rules}
 use Rattle.bundle.proofs.command.put_command.Goals as goal
 
 pub returns-then-not-in_range : goal.returns-then-not-in_range

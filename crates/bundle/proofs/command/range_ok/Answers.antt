@@ -1,6 +1,6 @@
 -- `bundle::command::range_ok` meets its contract: each test that failed is one of `rangeOk`'s. Assumes nothing.
 use mathlib.Core.Path.{sym, ◌∙◌}
-use borrow.Author.Tests.{le-leb, lt-leb, not-true, not-false}
+use borrow.Author.Tests.{le-leb, lt-leb}
 use Rattle.bundle.specs.Commands.{range_ok}
 use Rattle.bundle.proofs.Ranges.{size-within}
 use Rattle.bundle.proofs.command.range_ok.Goals as goal

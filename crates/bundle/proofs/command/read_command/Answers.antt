@@ -1,6 +1,5 @@
 -- `bundle::command::read_command` meets its contract. Assumes nothing.
 use mathlib.Core.Path.{refl}
-use mathlib.Core.Logic.{⊎_elim}
 use native.Mathlib.Omega.{arith}
 use Rattle.bundle.specs.Commands.{form_of, code_of, sum, width_of, widths_of, fit_widths, operands_ok, in_range, command_at}
 use Rattle.bundle.proofs.Forms.{no-form}
@@ -16,8 +15,8 @@ pub decode_access-requires : goal.decode_access-requires
 decode_access-requires c =
     let within = c.if-bytes-position.false in
     elim c.in-48-to-51-1.branch [
-      then-this-lt52 w ↦ of_narrow _ _ within (omega arith) (omega arith)
-    | else-this-lt52+else-this-lt56+then-this-lt60 w ↦ of-wide _ _ within (omega arith) (omega arith)
+      | then-this-lt52 w ↦ of_narrow _ _ within (omega arith) (omega arith)
+      | else-this-lt52+else-this-lt56+then-this-lt60 w ↦ of-wide _ _ within (omega arith) (omega arith)
     ]
 
 pub returns-in-1 : goal.returns-in-1

@@ -1,5 +1,4 @@
 -- `bundle::command::site_at` meets its contract. Assumes nothing.
-use borrow.Author.Rules.{rules}
 use Rattle.bundle.proofs.command.site_at.Goals as goal
 
 pub returns-then-wide : goal.returns-then-wide

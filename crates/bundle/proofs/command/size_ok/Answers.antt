@@ -1,5 +1,4 @@
 -- `bundle::command::size_ok` meets its contract. Assumes nothing.
-use borrow.Author.Rules.{rules}
 use Rattle.bundle.proofs.Ranges.{size-beyond, size-bits}
 use Rattle.bundle.proofs.command.size_ok.Goals as goal
 

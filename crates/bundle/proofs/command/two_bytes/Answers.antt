@@ -2,7 +2,6 @@
 use Prim.Native.Nat.{◌+◌}
 use native.Mathlib.Omega.{arith}
 use Rattle.bundle.specs.Commands.{number_at}
-use borrow.Author.Rules.{rules}
 use Rattle.bundle.proofs.command.two_bytes.Goals as goal
 
 pub overflow_cast-result : goal.overflow_cast-result

@@ -1,10 +1,7 @@
 -- `bundle::copy::copy_in` meets its contract. The invariant: the first i bytes are copied, the rest
 -- is as it was. The measure: the bytes left. Assumes nothing.
 use borrow.Author.Rules.{rules}
-use mathlib.Core.Path.{◌≡◌}
-use Prim.Native.Nat.{◌≤◌, ◌-◌}
-use lib.ListN.{length}
-use lib.Seq.{paste, paste-zero}
+use lib.Seq.{paste-zero}
 use Rattle.bundle.proofs.Copying.{copy_more, copy-all}
 use Rattle.bundle.proofs.copy.copy_in.Goals as goal
 

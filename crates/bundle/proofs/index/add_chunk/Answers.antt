@@ -1,6 +1,5 @@
 -- `bundle::index::add_chunk` meets its contract. Assumes nothing.
 use Rattle.bundle.proofs.Tables.{chunk-added, stored_past}
-use borrow.Author.Rules.{rules}
 use Rattle.bundle.proofs.index.add_chunk.Goals as goal
 
 pub returns : goal.returns

@@ -2,7 +2,6 @@
 use native.Mathlib.Omega.{arith}
 use lib.ListN.{length-set}
 use Rattle.bundle.proofs.Tables.{fork-added, stored-fork}
-use borrow.Author.Rules.{rules}
 use Rattle.bundle.proofs.index.add_fork.Goals as goal
 
 pub bounds-forks-at-2 : goal.bounds-forks-at-2

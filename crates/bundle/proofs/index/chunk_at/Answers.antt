@@ -1,6 +1,5 @@
 -- `bundle::index::chunk_at` meets its contract. Assumes nothing.
 use Rattle.bundle.specs.Index.{chunk_row_at, chunk_row_of}
-use borrow.Author.Rules.{rules}
 use Rattle.bundle.proofs.index.chunk_at.Goals as goal
 
 pub returns : goal.returns

@@ -1,11 +1,8 @@
 -- `bundle::index::chunk_of` meets its contract. Assumes nothing.
-use Prim.Native.Nat.{ℕ, ◌≤◌, ◌<◌, ◌-◌}
-use mathlib.Core.Path.{◌≡◌, sym, ◌∙◌}
-use mathlib.Core.Bool.{false}
+use mathlib.Core.Path.{sym, ◌∙◌}
 use native.Mathlib.Omega.{arith}
 use borrow.Author.Rules.{rules}
 use borrow.Author.Count.{below_more}
-use Rattle.bundle.specs.Index.{chunk_row_at, is_row}
 use Rattle.bundle.proofs.Tables.{index-found, all-missed}
 use Rattle.bundle.proofs.index.chunk_of.Goals as goal
 

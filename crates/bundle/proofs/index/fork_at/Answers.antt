@@ -1,6 +1,5 @@
 -- `bundle::index::fork_at` meets its contract. Assumes nothing.
 use Rattle.bundle.specs.Index.{fork_row_at, fork_row_of}
-use borrow.Author.Rules.{rules}
 use Rattle.bundle.proofs.index.fork_at.Goals as goal
 
 pub returns : goal.returns

@@ -1,6 +1,5 @@
 -- `bundle::refusal::number` meets its contract: each cause has its number. Assumes nothing.
 use mathlib.Core.Path.{sym, ap}
-use borrow.Author.Rules.{rules}
 use Rattle.bundle.specs.Answer.{number_of}
 use Rattle.bundle.proofs.refusal.number.Goals as goal
 

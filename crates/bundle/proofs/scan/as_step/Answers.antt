@@ -1,5 +1,4 @@
 -- `bundle::scan::as_step` meets its contract. Assumes nothing.
-use borrow.Author.Rules.{rules}
 use Rattle.bundle.proofs.scan.as_step.Goals as goal
 
 pub returns-in-Taken : goal.returns-in-Taken

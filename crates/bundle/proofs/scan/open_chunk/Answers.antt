@@ -1,5 +1,4 @@
 -- `bundle::scan::open_chunk` meets its contract. Assumes nothing.
-use borrow.Author.Rules.{rules}
 use Rattle.bundle.proofs.scan.open_chunk.Goals as goal
 
 pub returns : goal.returns

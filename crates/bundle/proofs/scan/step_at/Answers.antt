@@ -1,6 +1,5 @@
 -- `bundle::scan::step_at` meets its contract. Assumes nothing.
 use mathlib.Core.Path.{◌∙◌}
-use borrow.Author.Rules.{rules}
 use Rattle.bundle.proofs.Stepping.{step-refused, step-taken}
 use Rattle.bundle.proofs.scan.step_at.Goals as goal
 

@@ -1,5 +1,4 @@
 -- `bundle::scan::test` meets its contract. Assumes nothing.
-use borrow.Author.Rules.{rules}
 use Rattle.bundle.proofs.scan.test.Goals as goal
 
 pub returns-in-Member : goal.returns-in-Member

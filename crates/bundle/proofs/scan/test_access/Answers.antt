@@ -1,5 +1,4 @@
 -- `bundle::scan::test_access` meets its contract. Assumes nothing.
-use borrow.Author.Rules.{rules}
 use Rattle.bundle.proofs.scan.test_access.Goals as goal
 
 pub returns-then-access : goal.returns-then-access

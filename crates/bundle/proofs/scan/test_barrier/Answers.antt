@@ -1,6 +1,5 @@
 -- `bundle::scan::test_barrier` meets its contract. Assumes nothing.
 use mathlib.Core.Path.{refl, sym, ◌∙◌}
-use borrow.Author.Rules.{rules}
 use Rattle.bundle.specs.Commands.{form_of, code_of, widths_of, operands_ok, fit_widths, in_range}
 use Rattle.bundle.specs.Scan.{is_member, misplaced, of_other_group, above_own_team, misuses_lock, opens_segment, adds_access}
 use Rattle.bundle.proofs.Stepping.{tested, many-segments, after-barrier}

@@ -1,7 +1,6 @@
 -- `bundle::scan::test_member` meets its contract. Assumes nothing.
 use mathlib.Core.Path.{refl, sym, ◌∙◌}
 use native.Mathlib.Nat.{add-zero}
-use borrow.Author.Rules.{rules}
 use Rattle.bundle.specs.Scan.{is_member, misplaced, of_other_group, above_own_team, misuses_lock, opens_segment, adds_access, scanned}
 use Rattle.bundle.proofs.Stepping.{tested, beyond-range, many-segments}
 use Rattle.bundle.proofs.scan.test_member.Goals as goal

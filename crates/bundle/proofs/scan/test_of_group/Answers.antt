@@ -1,6 +1,5 @@
 -- `bundle::scan::test_of_group` meets its contract. Assumes nothing.
 use mathlib.Core.Path.{refl, sym, ◌∙◌}
-use borrow.Author.Rules.{rules}
 use Rattle.bundle.specs.Scan.{is_member, misplaced, above_own_team, misuses_lock, opens_segment, adds_access}
 use Rattle.bundle.proofs.Stepping.{tested, other-group, beyond-range, many-accesses, after-access}
 use Rattle.bundle.proofs.scan.test_of_group.Goals as goal

@@ -1,6 +1,5 @@
 -- `bundle::scan::test_region` meets its contract. Assumes nothing.
 use mathlib.Core.Path.{refl, sym, ◌∙◌}
-use borrow.Author.Rules.{rules}
 use Rattle.bundle.specs.Scan.{is_member, misplaced, of_other_group, above_own_team, misuses_lock, opens_segment, adds_access}
 use Rattle.bundle.proofs.Stepping.{tested, beyond-team, many-segments, after_region}
 use Rattle.bundle.proofs.scan.test_region.Goals as goal

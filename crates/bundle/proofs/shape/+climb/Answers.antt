@@ -1,8 +1,6 @@
 -- `bundle::shape::climb` meets its contract. Assumes nothing.
-use borrow.Author.Rules.{rules}
 use Rattle.bundle.proofs.Slots.{climbs-none, climbs-ends, climbs-goes}
 use mathlib.Core.Path.{◌∙◌}
-use Prim.Native.Nat.{ℕ, ◌<◌}
 use Rattle.bundle.proofs.shape.+climb.Goals as goal
 
 pub returns-then-levels-eq0 : goal.returns-then-levels-eq0

@@ -1,6 +1,5 @@
 -- `bundle::shape::fails` meets its contract. Assumes nothing.
 use Rattle.bundle.specs.Shape.{fails_by}
-use borrow.Author.Rules.{rules}
 use Rattle.bundle.proofs.shape.fails.Goals as goal
 
 pub returns-in-ForkedBefore : goal.returns-in-ForkedBefore

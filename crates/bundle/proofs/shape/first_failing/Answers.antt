@@ -1,11 +1,8 @@
 -- `bundle::shape::first_failing` meets its contract. Assumes nothing.
 use borrow.Author.Rules.{rules}
-use Rattle.bundle.specs.Shape.{fails_by}
 use borrow.Author.Count.{below_more}
 use native.Mathlib.Omega.{arith}
-use Prim.Native.Nat.{ℕ, ◌≤◌, ◌<◌, ◌-◌}
-use mathlib.Core.Bool.{false}
-use mathlib.Core.Path.{◌≡◌, sym, ◌∙◌}
+use mathlib.Core.Path.{sym, ◌∙◌}
 use Rattle.bundle.proofs.shape.first_failing.Goals as goal
 
 pub loop-row-init : goal.loop-row-init

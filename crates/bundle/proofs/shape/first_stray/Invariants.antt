@@ -1,14 +1,10 @@
 -- `bundle::shape::first_stray` meets its contract. Assumes nothing.
-use borrow.Author.Rules.{rules}
-use Rattle.bundle.proofs.ShapeTests.{slot_is, slot-room, stray-is, stray-noted}
 use Rattle.bundle.specs.Shape.{stray_row, fails_at, Met}
 use Rattle.bundle.specs.Index.{chunk_row_at, fork_row_at, table}
-use borrow.Author.Count.{below_more}
-use native.Mathlib.Omega.{arith}
 use lib.ListN.{length}
 use Prim.Native.Nat.{ℕ, ◌≤◌, ◌<◌, ◌-◌}
 use mathlib.Core.Bool.{false}
-use mathlib.Core.Path.{◌≡◌, refl, sym, ◌∙◌}
+use mathlib.Core.Path.{◌≡◌}
 use Rattle.bundle.proofs.shape.first_stray.Given as goal
 
 abbrev pub invariant-loop-i : goal.invariant-loop-i

@@ -1,5 +1,4 @@
 -- `bundle::shape::forked_before` meets its contract. Assumes nothing.
-use borrow.Author.Rules.{rules}
 use Rattle.bundle.proofs.shape.forked_before.Goals as goal
 
 pub returns : goal.returns

@@ -1,5 +1,4 @@
 -- `bundle::shape::is_stray` meets its contract. Assumes nothing.
-use borrow.Author.Rules.{rules}
 use Rattle.bundle.proofs.shape.is_stray.Goals as goal
 
 pub returns : goal.returns

@@ -1,13 +1,9 @@
 -- `bundle::shape::lacks_member` meets its contract. Assumes nothing.
-use borrow.Author.Tests.{not-true, not-false}
-use mathlib.Core.Path.{sym, ◌∙◌, ◌≡◌}
+use mathlib.Core.Path.{sym, ◌∙◌}
 use borrow.Author.Rules.{rules}
 use Rattle.bundle.proofs.MetTables.{lacks-one, lacks-none}
-use Rattle.bundle.specs.Shape.{met_at}
 use borrow.Author.Count.{below_more}
 use native.Mathlib.Omega.{arith}
-use Prim.Native.Nat.{ℕ, ◌≤◌, ◌<◌, ◌-◌}
-use mathlib.Core.Bool.{true}
 use Rattle.bundle.proofs.shape.lacks_member.Goals as goal
 
 pub loop-member-init : goal.loop-member-init

@@ -1,11 +1,6 @@
 -- `bundle::shape::lacks_member` meets its contract. Assumes nothing.
-use borrow.Author.Tests.{not-true, not-false}
-use mathlib.Core.Path.{sym, ◌∙◌, ◌≡◌}
-use borrow.Author.Rules.{rules}
-use Rattle.bundle.proofs.MetTables.{lacks-one, lacks-none}
+use mathlib.Core.Path.{◌≡◌}
 use Rattle.bundle.specs.Shape.{met_at}
-use borrow.Author.Count.{below_more}
-use native.Mathlib.Omega.{arith}
 use Prim.Native.Nat.{ℕ, ◌≤◌, ◌<◌, ◌-◌}
 use mathlib.Core.Bool.{true}
 use Rattle.bundle.proofs.shape.lacks_member.Given as goal

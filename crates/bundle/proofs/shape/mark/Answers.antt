@@ -3,7 +3,6 @@ use native.Mathlib.Omega.{arith}
 use Prim.Native.Nat.{◌%◌}
 use Rattle.bundle.proofs.LockBits.{one_shifted}
 use Rattle.bundle.specs.Shape.{marked_at}
-use borrow.Author.Rules.{rules}
 use Rattle.bundle.proofs.shape.mark.Goals as goal
 
 pub returns : goal.returns

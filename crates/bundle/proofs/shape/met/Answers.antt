@@ -2,7 +2,6 @@
 use Rattle.bundle.proofs.MetTables.{met-past}
 use Rattle.bundle.specs.Shape.{met_at}
 use mathlib.Core.Path.{refl}
-use borrow.Author.Rules.{rules}
 use Rattle.bundle.proofs.shape.met.Goals as goal
 
 pub returns-then-masks-at : goal.returns-then-masks-at

@@ -1,6 +1,5 @@
 -- `bundle::shape::note` meets its contract. Assumes nothing.
 use Rattle.bundle.specs.Shape.{noted_lead}
-use borrow.Author.Rules.{rules}
 use Rattle.bundle.proofs.shape.note.Goals as goal
 
 pub returns-then-row-leads : goal.returns-then-row-leads

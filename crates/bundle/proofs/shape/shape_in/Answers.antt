@@ -1,5 +1,4 @@
 -- `bundle::shape::shape_in` meets its contract. Assumes nothing.
-use borrow.Author.Rules.{rules}
 use Rattle.bundle.proofs.MetTables.{nothing-met}
 use Rattle.bundle.proofs.Tables.{table_none}
 use Rattle.bundle.proofs.TeamOrder.{ordered-for}

@@ -1,5 +1,4 @@
 -- `bundle::shape::shape_large` meets its contract. Assumes nothing.
-use borrow.Author.Rules.{rules}
 use native.Mathlib.Omega.{arith}
 use Rattle.bundle.proofs.TeamOrder.{front-is, blank}
 use Rattle.bundle.proofs.shape.shape_large.Goals as goal

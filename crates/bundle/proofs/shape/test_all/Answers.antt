@@ -1,7 +1,7 @@
 -- `bundle::shape::test_all` meets its contract. Assumes nothing.
 use Rattle.bundle.proofs.ShapeTests.{forked-twice, one-stray, none-stray, past-9}
 use Rattle.bundle.specs.Check.{checking_of}
-use mathlib.Core.Path.{refl, ap, ◌∙◌}
+use mathlib.Core.Path.{ap, ◌∙◌}
 use Rattle.bundle.proofs.shape.test_all.Goals as goal
 
 pub first_failing-i-requires : goal.first_failing-i-requires

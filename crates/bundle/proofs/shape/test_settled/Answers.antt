@@ -1,9 +1,7 @@
 -- `bundle::shape::test_settled` meets its contract. Assumes nothing.
 use Rattle.bundle.proofs.ShapeTests.{root-missing, chunk-missing, one-deep, none_deep}
 use Rattle.bundle.specs.Check.{checking_of}
-use borrow.Author.Tests.{not-true, not-false}
 use mathlib.Core.Path.{ap, ◌∙◌}
-use borrow.Author.Rules.{rules}
 use Rattle.bundle.proofs.shape.test_settled.Goals as goal
 
 pub returns-then-not-met : goal.returns-then-not-met

@@ -2,7 +2,6 @@
 use Rattle.bundle.specs.Shape.{deep_by}
 use borrow.Author.Tests.{lt-ltb, le-ltb}
 use mathlib.Core.Path.{sym}
-use borrow.Author.Rules.{rules}
 use Rattle.bundle.proofs.shape.too_deep.Goals as goal
 
 pub returns-then-team-lt4 : goal.returns-then-team-lt4

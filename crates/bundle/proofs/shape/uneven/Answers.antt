@@ -1,6 +1,5 @@
 -- `bundle::shape::uneven` meets its contract. Assumes nothing.
 use Rattle.bundle.specs.Shape.{uneven_by}
-use borrow.Author.Rules.{rules}
 use Rattle.bundle.proofs.shape.uneven.Goals as goal
 
 pub returns-then-row : goal.returns-then-row

@@ -1,6 +1,5 @@
 -- `bundle::shape::unlike_lowest` meets its contract. Assumes nothing.
 use Rattle.bundle.specs.Shape.{unlike_by}
-use borrow.Author.Rules.{rules}
 use Rattle.bundle.proofs.shape.unlike_lowest.Goals as goal
 
 pub returns : goal.returns

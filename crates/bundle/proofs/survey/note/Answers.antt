@@ -4,7 +4,6 @@ use Rattle.bundle.specs.Chunks.{is_end}
 use Rattle.bundle.specs.Survey.{pass_after, new_chunks, new_forks}
 use Rattle.bundle.proofs.Delimiters.{closes}
 use Rattle.bundle.proofs.Passing.{noted-none, noted-chunk, noted-fork}
-use borrow.Author.Rules.{rules}
 use Rattle.bundle.proofs.survey.note.Goals as goal
 
 pub opened-chunk-requires : goal.opened-chunk-requires

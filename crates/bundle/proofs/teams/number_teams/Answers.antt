@@ -2,10 +2,7 @@
 use borrow.Author.Rules.{rules}
 use Rattle.bundle.proofs.TeamOrder.{written-more, written_all}
 use Rattle.bundle.proofs.Tables.{table_none}
-use Rattle.bundle.specs.Index.{fork_row_at, table}
-use lib.ListN.{length, take}
-use Prim.Native.Nat.{◌+◌, ◌*◌, ◌≤◌, ◌-◌}
-use mathlib.Core.Path.{◌≡◌, refl, sym}
+use mathlib.Core.Path.{refl, sym}
 use Rattle.bundle.proofs.teams.number_teams.Goals as goal
 
 pub loop-i-init : goal.loop-i-init

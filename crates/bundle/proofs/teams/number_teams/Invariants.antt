@@ -1,11 +1,8 @@
 -- `bundle::teams::number_teams` meets its contract. Assumes nothing.
-use borrow.Author.Rules.{rules}
-use Rattle.bundle.proofs.TeamOrder.{written-more, written_all}
-use Rattle.bundle.proofs.Tables.{table_none}
 use Rattle.bundle.specs.Index.{fork_row_at, table}
 use lib.ListN.{length, take}
 use Prim.Native.Nat.{◌+◌, ◌*◌, ◌≤◌, ◌-◌}
-use mathlib.Core.Path.{◌≡◌, refl, sym}
+use mathlib.Core.Path.{◌≡◌}
 use Rattle.bundle.proofs.teams.number_teams.Given as goal
 
 abbrev pub invariant-loop-i : goal.invariant-loop-i

@@ -1,7 +1,6 @@
 -- `bundle::teams::slot_of` meets its contract. Assumes nothing.
 use native.Mathlib.Omega.{arith}
 use Rattle.bundle.proofs.Slots.{key_fits}
-use borrow.Author.Rules.{rules}
 use Rattle.bundle.proofs.teams.slot_of.Goals as goal
 
 pub overflow_cast-result : goal.overflow_cast-result

@@ -2,7 +2,6 @@
 -- are twice the team, and one more for a segment of it. Assumes nothing.
 use mathlib.Core.Path.{◌∙◌, ap}
 use native.Mathlib.Omega.{arith}
-use borrow.Author.Rules.{rules}
 use Rattle.order.specs.Climbing.{extended}
 use Rattle.order.proofs.Climbs.{fork-team, fork-none, fork-some, row-few, room-left, label-from, root-chunk, unforked-chunk, forked-chunk}
 use Rattle.order.proofs.climb.+label_at_label_of_chunk.Goals as goal

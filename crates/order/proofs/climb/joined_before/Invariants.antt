@@ -1,11 +1,8 @@
 -- `order::climb::joined_before` meets its contract: the count over the rows passed. Assumes nothing.
 use Prim.Native.Nat.{◌-◌, ◌≤◌}
 use mathlib.Core.Path.{◌≡◌}
-use native.Mathlib.Omega.{arith}
-use borrow.Author.Rules.{rules}
 use Rattle.bundle.specs.Index.{fork_row_at, table}
 use Rattle.order.specs.Climbing.{joined_before}
-use Rattle.order.proofs.SegmentRows.{joined-none, joined-more, joined-fits, joined-all}
 use Rattle.order.proofs.climb.joined_before.Given as goal
 
 abbrev pub invariant-loop-i : goal.invariant-loop-i

@@ -1,6 +1,5 @@
 -- `order::climb::joins` meets its contract. Assumes nothing.
 use native.Mathlib.Omega.{arith}
-use borrow.Author.Rules.{rules}
 use Rattle.order.specs.Climbing.{joins_before}
 use Rattle.order.proofs.Climbs.{row-few}
 use Rattle.order.proofs.climb.joins.Goals as goal

@@ -1,6 +1,5 @@
 -- `order::climb::label_by_rows` meets its contract: the chunk's row, the regions joined, and the label by climbing. Assumes nothing.
 use mathlib.Core.Path.{subst}
-use borrow.Author.Rules.{rules}
 use Rattle.bundle.specs.Index.{table, fork_row_at}
 use Rattle.order.specs.Labels.{Labelled}
 use Rattle.order.proofs.Climbs.{chunk-missing, segment-missing, segment-there, labelled}

@@ -1,6 +1,5 @@
 -- `order::climb::label_of_segment` meets its contract: as check, then the label by the index of an accepted bundle. Assumes nothing.
 use mathlib.Core.Path.{sym, subst}
-use borrow.Author.Rules.{rules}
 use Rattle.bundle.proofs.CheckCases.{indexed-accepted, indexed-refused}
 use Rattle.order.specs.Labels.{Labelled}
 use Rattle.order.proofs.Climbs.{climbable-rows, joinable-rows, found-label, check-refuses}

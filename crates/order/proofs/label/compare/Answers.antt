@@ -1,7 +1,5 @@
 -- `order::label::compare` meets its contract: the two tests for 15, then the counted triples. Assumes nothing.
 use mathlib.Core.Path.{sym, ◌∙◌}
-use borrow.Author.Rules.{rules}
-use borrow.Author.Tests.{not-true, not-false}
 use Rattle.order.specs.Labels.{compare_of}
 use Rattle.order.proofs.label.compare.Goals as goal
 

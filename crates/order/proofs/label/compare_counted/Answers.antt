@@ -1,11 +1,8 @@
 -- `order::label::compare_counted` meets its contract: the triples from `number` on decide the answer. Assumes nothing.
-use Prim.Native.Nat.{◌≤◌, ◌-◌}
-use mathlib.Core.Path.{◌≡◌, refl, sym, ◌∙◌}
+use mathlib.Core.Path.{refl, sym, ◌∙◌}
 use borrow.Author.Rules.{rules}
-use borrow.Author.Tests.{not-true, not-false}
-use lib.ListN.{take}
 use Rattle.order.specs.Labels.{counted, compare_from}
-use Rattle.order.proofs.Comparing.{few, room, span-positive, compare_rest, both_end, first_ends, second-ends, alike, unlike}
+use Rattle.order.proofs.Comparing.{few, room, span-positive, both_end, first_ends, second-ends, alike, unlike}
 use Rattle.order.proofs.label.compare_counted.Goals as goal
 
 pub loop-number-init : goal.loop-number-init
@@ -38,11 +35,10 @@ returns-then-not-same_triple c =
     ∙ c.loop-number.invariant.1
 
 pub loop-number-preserved : goal.loop-number-preserved
-loop-number-preserved c =
-    (
-      search rules,
-      alike c.loop-number.number c.args.first c.args.second (search rules) (room c.args.first c.requires.0 _ c.well_formed.0) (search rules) (room c.args.second c.requires.1 _ c.well_formed.1.0) (sym c.same_triple.ensures ∙ c.if-not-same_triple.false) ∙ c.loop-number.invariant.1,
-    )
+loop-number-preserved c = (
+  search rules,
+  alike c.loop-number.number c.args.first c.args.second (search rules) (room c.args.first c.requires.0 _ c.well_formed.0) (search rules) (room c.args.second c.requires.1 _ c.well_formed.1.0) (sym c.same_triple.ensures ∙ c.if-not-same_triple.false) ∙ c.loop-number.invariant.1,
+)
 
 pub returns-then-number-second_count : goal.returns-then-number-second_count
 unfolding counted compare_from

@@ -1,11 +1,9 @@
 -- `order::label::compare_counted` meets its contract: the triples from `number` on decide the answer. Assumes nothing.
 use Prim.Native.Nat.{◌≤◌, ◌-◌}
-use mathlib.Core.Path.{◌≡◌, refl, sym, ◌∙◌}
-use borrow.Author.Rules.{rules}
-use borrow.Author.Tests.{not-true, not-false}
+use mathlib.Core.Path.{◌≡◌}
 use lib.ListN.{take}
-use Rattle.order.specs.Labels.{counted, compare_from}
-use Rattle.order.proofs.Comparing.{few, room, span-positive, compare_rest, both_end, first_ends, second-ends, alike, unlike}
+use Rattle.order.specs.Labels.{compare_from}
+use Rattle.order.proofs.Comparing.{compare_rest}
 use Rattle.order.proofs.label.compare_counted.Given as goal
 
 abbrev pub invariant-loop-number : goal.invariant-loop-number

@@ -1,5 +1,4 @@
 -- `order::label::compare_triples` meets its contract: each test that was left is one of `compareTriples`'. Assumes nothing.
-use borrow.Author.Rules.{rules}
 use borrow.Author.Tests.{lt-ltb, le-ltb, eq-eqb, ne_eqb}
 use Rattle.order.specs.Labels.{compare_triples}
 use Rattle.order.proofs.label.compare_triples.Goals as goal

@@ -1,13 +1,9 @@
 -- `order::label::spans_ok` meets its contract: the spans from triple i on decide the answer. Assumes nothing.
-use Prim.Native.Nat.{◌≤◌, ◌-◌}
-use mathlib.Core.Path.{◌≡◌, refl, sym, ◌∙◌}
+use mathlib.Core.Path.{refl, sym, ◌∙◌}
 use native.Mathlib.Omega.{arith}
 use borrow.Author.Rules.{rules}
-use borrow.Author.Tests.{not-true, not-false}
-use lib.ListN.{take}
-use Rattle.bundle.specs.Lists.{all}
 use Rattle.order.specs.Labels.{counted, span_ok}
-use Rattle.order.proofs.Comparing.{five, rest, rest-none, all-stops, all-goes-on}
+use Rattle.order.proofs.Comparing.{five, rest-none, all-stops, all-goes-on}
 use Rattle.order.proofs.label.spans_ok.Goals as goal
 
 pub loop-i-init : goal.loop-i-init

@@ -1,13 +1,10 @@
 -- `order::label::spans_ok` meets its contract: the spans from triple i on decide the answer. Assumes nothing.
 use Prim.Native.Nat.{◌≤◌, ◌-◌}
-use mathlib.Core.Path.{◌≡◌, refl, sym, ◌∙◌}
-use native.Mathlib.Omega.{arith}
-use borrow.Author.Rules.{rules}
-use borrow.Author.Tests.{not-true, not-false}
+use mathlib.Core.Path.{◌≡◌}
 use lib.ListN.{take}
 use Rattle.bundle.specs.Lists.{all}
-use Rattle.order.specs.Labels.{counted, span_ok}
-use Rattle.order.proofs.Comparing.{five, rest, rest-none, all-stops, all-goes-on}
+use Rattle.order.specs.Labels.{span_ok}
+use Rattle.order.proofs.Comparing.{rest}
 use Rattle.order.proofs.label.spans_ok.Given as goal
 
 abbrev pub invariant-loop-i : goal.invariant-loop-i

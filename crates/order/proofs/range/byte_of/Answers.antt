@@ -1,6 +1,5 @@
 -- `order::range::byte_of` meets its contract. Assumes nothing.
 use mathlib.Core.Path.{sym, ap}
-use borrow.Author.Rules.{rules}
 use Rattle.order.specs.Pairs.{meeting_byte}
 use Rattle.order.proofs.range.byte_of.Goals as goal
 

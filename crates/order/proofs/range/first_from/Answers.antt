@@ -1,6 +1,5 @@
 -- `order::range::first_from` meets its contract. Assumes nothing.
 use native.Mathlib.Omega.{arith}
-use borrow.Author.Rules.{rules}
 use Rattle.order.proofs.Euclid.{first-from, first_fits}
 use Rattle.order.proofs.range.first_from.Goals as goal
 

@@ -1,7 +1,5 @@
 -- `order::range::lowest_shared_byte` meets its contract. Assumes nothing.
 use mathlib.Core.Path.{sym, ◌∙◌}
-use borrow.Author.Rules.{rules}
-use borrow.Author.Tests.{not-true, not-false}
 use Rattle.order.specs.Ranges.{shared_of}
 use Rattle.order.proofs.range.lowest_shared_byte.Goals as goal
 

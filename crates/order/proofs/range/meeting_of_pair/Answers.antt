@@ -1,5 +1,4 @@
 -- `order::range::meeting_of_pair` meets its contract. Assumes nothing.
-use borrow.Author.Rules.{rules}
 use Rattle.order.proofs.Euclid.{elements-fit}
 use Rattle.order.proofs.PairBytes.{met-pair, met-nothing}
 use Rattle.order.proofs.range.meeting_of_pair.Goals as goal

@@ -1,6 +1,5 @@
 -- `order::range::outer_pair` meets its contract. Assumes nothing.
 use native.Mathlib.Omega.{arith}
-use borrow.Author.Rules.{rules}
 use Rattle.order.proofs.Euclid.{sum_fits, outer-some, outer-none, outer-nothing}
 use Rattle.order.proofs.range.outer_pair.Goals as goal
 

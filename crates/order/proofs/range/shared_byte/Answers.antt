@@ -1,7 +1,6 @@
 -- `order::range::shared_byte` meets its contract. Assumes nothing.
 use mathlib.Core.Path.{sym, ◌∙◌}
 use borrow.Author.Rules.{rules}
-use borrow.Author.Tests.{not-true, not-false}
 use Rattle.order.proofs.PairBytes.{meeting-shared, none_first, none-second, in_order}
 use Rattle.order.proofs.SharedByte.{shared-swap}
 use Rattle.order.proofs.range.shared_byte.Goals as goal

@@ -1,5 +1,4 @@
 -- `order::range::shared_upward` meets its contract. Assumes nothing.
-use borrow.Author.Rules.{rules}
 use Rattle.order.proofs.PairBytes.{valid-order, byte_fits, meeting-told, nothing-told}
 use Rattle.order.proofs.range.shared_upward.Goals as goal
 

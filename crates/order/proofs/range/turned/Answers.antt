@@ -1,5 +1,4 @@
 -- `order::range::turned` meets its contract. Assumes nothing.
-use borrow.Author.Rules.{rules}
 use mathlib.Core.Path.{sym, ap}
 use Rattle.order.specs.Ranges.{sharing_of}
 use Rattle.order.specs.Pairs.{turned_of}

@@ -1,6 +1,5 @@
 -- `sorting::search::first_with_key` meets its contract. Assumes nothing.
 use Rattle.sorting.proofs.KeyOrder.{key-large, key-past, key-found, key-other}
-use borrow.Author.Rules.{rules}
 use Rattle.sorting.proofs.search.first_with_key.Goals as goal
 
 pub returns-then-key-ge281474976710656 : goal.returns-then-key-ge281474976710656

@@ -1,7 +1,5 @@
 -- `sorting::search::lower_bound` meets its contract. The invariant: the search from `low` up to `high` gives the answer. Assumes nothing.
-use Prim.Native.Nat.{◌-◌}
-use borrow.Author.Rules.{rules}
-use Rattle.sorting.proofs.Halving.{Halved, halved_none, halved-up, halved-down, halved-all}
+use Rattle.sorting.proofs.Halving.{halved_none, halved-up, halved-down, halved-all}
 use Rattle.sorting.proofs.search.lower_bound.Goals as goal
 
 pub loop-low-init : goal.loop-low-init

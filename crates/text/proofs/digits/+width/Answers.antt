@@ -1,7 +1,6 @@
 -- `text::digits::width` meets its contract. The measure is the number. Assumes nothing.
 use Rattle.text.proofs.Widths.{long-below, long-more}
 use borrow.Author.Rules.{rules}
-use Prim.Native.Nat.{ℕ, ◌<◌}
 use Rattle.text.proofs.digits.+width.Goals as goal
 
 pub returns-then-number-lt10 : goal.returns-then-number-lt10

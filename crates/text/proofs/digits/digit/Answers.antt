@@ -1,7 +1,6 @@
 -- `text::digits::digit` meets its contract. Assumes nothing.
 use borrow.Author.Tests.{lt-ltb, le-ltb}
 use Rattle.text.specs.Digits.{digit_byte}
-use borrow.Author.Rules.{rules}
 use Rattle.text.proofs.digits.digit.Goals as goal
 
 pub returns-then-number-lt10 : goal.returns-then-number-lt10

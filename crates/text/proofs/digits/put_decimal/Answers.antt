@@ -1,6 +1,5 @@
 -- `text::digits::put_decimal` meets its contract. Assumes nothing.
 use Rattle.text.proofs.Making.{decimal-all}
-use borrow.Author.Rules.{rules}
 use Rattle.text.proofs.digits.put_decimal.Goals as goal
 
 pub returns : goal.returns

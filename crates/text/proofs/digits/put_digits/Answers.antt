@@ -1,7 +1,7 @@
 -- `text::digits::put_digits` meets its contract. The invariant: the digits from place i on are written. The measure: i. Assumes nothing.
 use native.Mathlib.Nat.{mod-lt}
 use native.Mathlib.Omega.{arith}
-use Rattle.text.proofs.Making.{Filled, filled_none, filled_more, filled-all}
+use Rattle.text.proofs.Making.{filled_none, filled_more, filled-all}
 use borrow.Author.Rules.{rules}
 use Rattle.text.proofs.digits.put_digits.Goals as goal
 

@@ -1,5 +1,4 @@
 -- `text::digits::put_hexadecimal` meets its contract. Assumes nothing.
-use borrow.Author.Rules.{rules}
 use Rattle.text.proofs.digits.put_hexadecimal.Goals as goal
 
 pub returns : goal.returns

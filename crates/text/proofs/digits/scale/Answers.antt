@@ -1,6 +1,5 @@
 -- `text::digits::scale` meets its contract. Assumes nothing.
 use Rattle.text.proofs.Widths.{scaled}
-use borrow.Author.Rules.{rules}
 use Rattle.text.proofs.digits.scale.Goals as goal
 
 pub returns : goal.returns

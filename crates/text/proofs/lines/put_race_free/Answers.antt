@@ -1,6 +1,5 @@
 -- `text::lines::put_race_free` meets its contract. Assumes nothing.
 use Rattle.text.specs.Lines.{race_free_line}
-use borrow.Author.Rules.{rules}
 use Rattle.text.proofs.lines.put_race_free.Goals as goal
 
 pub returns : goal.returns

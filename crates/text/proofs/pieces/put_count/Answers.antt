@@ -1,6 +1,5 @@
 -- `text::pieces::put_count` meets its contract. Assumes nothing.
 use Rattle.text.proofs.Making.{extended_then}
-use borrow.Author.Rules.{rules}
 use Rattle.text.proofs.pieces.put_count.Goals as goal
 
 pub returns : goal.returns

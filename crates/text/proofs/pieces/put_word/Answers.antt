@@ -1,6 +1,5 @@
 -- `text::pieces::put_word` meets its contract. Assumes nothing.
 use native.Mathlib.Omega.{arith}
-use borrow.Author.Rules.{rules}
 use Rattle.text.proofs.Making.{word-written}
 use Rattle.text.proofs.pieces.put_word.Goals as goal
 

@@ -1,6 +1,5 @@
 -- `text::sides::add_side` meets its contract. Assumes nothing.
 use Rattle.text.proofs.SideTable.{side-added, in-line, in_table}
-use borrow.Author.Rules.{rules}
 use Rattle.text.proofs.sides.add_side.Goals as goal
 
 pub returns : goal.returns

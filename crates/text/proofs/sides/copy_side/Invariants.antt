@@ -1,11 +1,9 @@
 -- `text::sides::copy_side` meets its contract. The invariant: the first i bytes are copied, the rest is as it was. The measure: the bytes
 -- left. Assumes nothing.
-use borrow.Author.Rules.{rules}
 use mathlib.Core.Path.{◌≡◌}
 use Prim.Native.Nat.{◌≤◌, ◌-◌}
 use lib.ListN.{length, drop}
-use lib.Seq.{paste, paste-zero}
-use Rattle.text.proofs.SideTable.{side-more, side-all}
+use lib.Seq.{paste}
 use Rattle.text.proofs.sides.copy_side.Given as goal
 
 abbrev pub invariant-loop-i : goal.invariant-loop-i

@@ -1,8 +1,7 @@
 -- `verdict::edges::edge_word` meets its contract. The invariant: the bits below k are the tests of their columns. The measure: the columns left. Assumes nothing.
-use borrow.Author.Rules.{rules}
 use Prim.Native.Nat.{◌≤◌, ◌-◌}
 use Rattle.verdict.specs.Edges.{edge_column}
-use Rattle.verdict.proofs.WordBits.{BitsTo, bits_none, bits-more, bits-all}
+use Rattle.verdict.proofs.WordBits.{BitsTo}
 use Rattle.verdict.proofs.edges.edge_word.Given as goal
 
 abbrev pub invariant-loop-k : goal.invariant-loop-k

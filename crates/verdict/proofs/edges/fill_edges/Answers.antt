@@ -1,10 +1,7 @@
 -- `verdict::edges::fill_edges` meets its contract. The invariant: the rows passed have the tests of their columns. The measure: the rows left. Assumes nothing.
 use borrow.Author.Rules.{rules}
-use mathlib.Core.Path.{◌≡◌, ◌∙◌}
-use Prim.Native.Nat.{◌≤◌, ◌-◌}
-use lib.ListN.{length}
-use Rattle.verdict.specs.Edges.{table_edge}
-use Rattle.verdict.proofs.EdgeWords.{FilledTo, filled_none, filled_more, filled-all}
+use mathlib.Core.Path.{◌∙◌}
+use Rattle.verdict.proofs.EdgeWords.{filled_none, filled_more, filled-all}
 use Rattle.verdict.proofs.edges.fill_edges.Goals as goal
 
 pub loop-i-init : goal.loop-i-init

@@ -1,11 +1,7 @@
 -- `verdict::edges::fill_row` meets its contract. The invariant: the words passed have the tests of their columns, the others are as they were. The measure: the words left. Assumes nothing.
 use borrow.Author.Rules.{rules}
-use mathlib.Core.Path.{◌≡◌}
-use Prim.Native.Nat.{◌≤◌, ◌-◌}
 use native.Mathlib.Omega.{arith}
-use lib.ListN.{length}
-use Rattle.verdict.specs.Edges.{edge_column}
-use Rattle.verdict.proofs.EdgeWords.{CellsTo, cells-none, cells-more, cells-all}
+use Rattle.verdict.proofs.EdgeWords.{cells-none, cells-more, cells-all}
 use Rattle.verdict.proofs.edges.fill_row.Goals as goal
 
 pub overflow_add-next : goal.overflow_add-next
@@ -19,12 +15,11 @@ pub edge_word-requires : goal.edge_word-requires
 edge_word-requires c = record { opens_in = search rules; nodes_in = search rules }
 
 pub loop-word-preserved : goal.loop-word-preserved
-loop-word-preserved c =
-    (
-      search rules,
-      search rules,
-      cells-more c.loop-word.matrix c.loop-word.word c.edge_word.result c.loop-word.invariant.2 (search rules) c.edge_word.ensures.bits,
-    )
+loop-word-preserved c = (
+  search rules,
+  search rules,
+  cells-more c.loop-word.matrix c.loop-word.word c.edge_word.result c.loop-word.invariant.2 (search rules) c.edge_word.ensures.bits,
+)
 
 pub returns : goal.returns
 returns c =

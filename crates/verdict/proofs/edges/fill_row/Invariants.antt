@@ -1,11 +1,9 @@
 -- `verdict::edges::fill_row` meets its contract. The invariant: the words passed have the tests of their columns, the others are as they were. The measure: the words left. Assumes nothing.
-use borrow.Author.Rules.{rules}
 use mathlib.Core.Path.{◌≡◌}
 use Prim.Native.Nat.{◌≤◌, ◌-◌}
-use native.Mathlib.Omega.{arith}
 use lib.ListN.{length}
 use Rattle.verdict.specs.Edges.{edge_column}
-use Rattle.verdict.proofs.EdgeWords.{CellsTo, cells-none, cells-more, cells-all}
+use Rattle.verdict.proofs.EdgeWords.{CellsTo}
 use Rattle.verdict.proofs.edges.fill_row.Given as goal
 
 abbrev pub invariant-loop-word : goal.invariant-loop-word

@@ -1,5 +1,4 @@
 -- `verdict::edges::last_event` meets its contract. Assumes nothing.
-use borrow.Author.Rules.{rules}
 use borrow.Author.Tests.{eq-eqb, ne_eqb}
 use Rattle.verdict.specs.Edges.{last_event}
 use Rattle.verdict.proofs.edges.last_event.Goals as goal

@@ -1,5 +1,4 @@
 -- `verdict::edges::reach` meets its contract. Assumes nothing.
-use borrow.Author.Rules.{rules}
 use Rattle.verdict.proofs.EdgeCodes.{tables-reach}
 use Rattle.verdict.proofs.edges.reach.Goals as goal
 

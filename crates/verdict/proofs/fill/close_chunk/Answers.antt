@@ -1,5 +1,4 @@
 -- `verdict::fill::close_chunk` meets its contract. Assumes nothing.
-use borrow.Author.Rules.{rules}
 use Rattle.verdict.specs.Working.{end_code}
 use Rattle.verdict.proofs.fill.close_chunk.Goals as goal
 

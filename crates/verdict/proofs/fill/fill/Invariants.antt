@@ -1,13 +1,8 @@
 -- `verdict::fill::fill` meets its contract. The invariant: what the tables hold, with what the rest of the bundle adds, is the whole. The
 -- measure: the bytes left. Assumes nothing.
-use mathlib.Core.Path.{sym, ◌∙◌, ap}
 use Prim.Native.Nat.{◌-◌}
 use lib.ListN.{length}
-use borrow.Author.Rules.{rules}
-use native.Mathlib.Omega.{arith}
-use Rattle.bundle.specs.Commands.{reading_of}
-use Rattle.bundle.proofs.Passing.{fewer-left}
-use Rattle.verdict.proofs.TablePass.{Filling, turn, turned, filling-start, filled-end, not-refused, lengths-kept}
+use Rattle.verdict.proofs.TablePass.{Filling}
 use Rattle.verdict.proofs.fill.fill.Given as goal
 
 abbrev pub invariant-loop-cursor : goal.invariant-loop-cursor

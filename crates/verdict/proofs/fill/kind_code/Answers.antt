@@ -1,6 +1,5 @@
 -- `verdict::fill::kind_code` meets its contract. Assumes nothing.
 use Rattle.verdict.specs.Working.{kind_code}
-use borrow.Author.Rules.{rules}
 use Rattle.verdict.proofs.fill.kind_code.Goals as goal
 
 pub returns-in-Read : goal.returns-in-Read

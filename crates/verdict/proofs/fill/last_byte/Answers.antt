@@ -3,7 +3,6 @@ use native.Mathlib.Omega.{arith}
 use mathlib.Core.Path.{refl}
 use Rattle.bundle.specs.Commands.{last_byte}
 use Rattle.verdict.proofs.NotedCases.{counted-some, sized-some, steps-below, start-below, last-below}
-use borrow.Author.Rules.{rules}
 use Rattle.verdict.proofs.fill.last_byte.Goals as goal
 
 pub overflow_sub-steps : goal.overflow_sub-steps

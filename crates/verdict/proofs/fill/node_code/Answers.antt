@@ -1,6 +1,5 @@
 -- `verdict::fill::node_code` meets its contract. Assumes nothing.
 use mathlib.Core.Path.{refl}
-use borrow.Author.Rules.{rules}
 use Rattle.verdict.specs.Working.{node_code}
 use Rattle.verdict.proofs.fill.node_code.Goals as goal
 

@@ -2,7 +2,6 @@
 use Rattle.verdict.proofs.NotedCases.{member-room, region-room, barrier-room, access-room, row_room, access-counts, noted-member, noted-closing, noted-region, noted-barrier, noted-acquire, noted-release, noted-access}
 use native.Mathlib.Omega.{arith}
 use Rattle.bundle.proofs.Delimiters.{closes}
-use borrow.Author.Rules.{rules}
 use Rattle.verdict.proofs.fill.note.Goals as goal
 
 pub open_segment-requires : goal.open_segment-requires

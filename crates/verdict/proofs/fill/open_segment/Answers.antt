@@ -1,6 +1,5 @@
 -- `verdict::fill::open_segment` meets its contract. Assumes nothing.
 use mathlib.Core.Path.{refl}
-use borrow.Author.Rules.{rules}
 use Rattle.verdict.proofs.fill.open_segment.Goals as goal
 
 pub returns : goal.returns

@@ -1,6 +1,5 @@
 -- `verdict::fill::row_here` meets its contract. Assumes nothing.
 use Rattle.verdict.specs.Filling.{row_here}
-use borrow.Author.Rules.{rules}
 use Rattle.verdict.proofs.fill.row_here.Goals as goal
 
 pub returns : goal.returns

@@ -2,16 +2,14 @@
 use mathlib.Core.Path.{refl, sym, ◌∙◌}
 use native.Mathlib.Omega.{arith}
 use Rattle.verdict.proofs.JudgeCases.{rows-room, tables-for, area-filled}
-use borrow.Author.Rules.{rules}
 use Rattle.verdict.proofs.judge.fill_area.Goals as goal
 
 pub fill_rows-counts-requires : goal.fill_rows-counts-requires
-fill_rows-counts-requires c =
-    (
-      c.requires.0,
-      record { end_table = refl; open_table = refl; node_table = refl; row_table = rows-room c.args.area.now c.requires.1 },
-      c.requires.1,
-    )
+fill_rows-counts-requires c = (
+  c.requires.0,
+  record { end_table = refl; open_table = refl; node_table = refl; row_table = rows-room c.args.area.now c.requires.1 },
+  c.requires.1,
+)
 
 pub slice_bounds-fill_matrix-end : goal.slice_bounds-fill_matrix-end
 slice_bounds-fill_matrix-end c = sym c.fill_rows-counts.ensures.0.end_table

@@ -1,7 +1,6 @@
 -- `verdict::judge::fill_matrix` meets its contract. Assumes nothing.
 use mathlib.Core.Path.{sym}
 use Rattle.verdict.proofs.JudgeCases.{matrix-long, matrix-filled}
-use borrow.Author.Rules.{rules}
 use Rattle.verdict.proofs.judge.fill_matrix.Goals as goal
 
 pub slice_bounds-reach-end-2 : goal.slice_bounds-reach-end-2

@@ -1,6 +1,5 @@
 -- `verdict::judge::fill_rows` meets its contract. Assumes nothing.
 use Rattle.verdict.proofs.JudgeCases.{rows-filled}
-use borrow.Author.Rules.{rules}
 use Rattle.verdict.proofs.judge.fill_rows.Goals as goal
 
 pub fill-requires : goal.fill-requires

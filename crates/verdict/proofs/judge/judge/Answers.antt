@@ -1,7 +1,6 @@
 -- `verdict::judge::judge` meets its contract. Assumes nothing.
 use native.Mathlib.Omega.{arith}
 use Rattle.verdict.proofs.JudgeCases.{judge-small, judge-large, promised}
-use borrow.Author.Rules.{rules}
 use Rattle.verdict.proofs.judge.judge.Goals as goal
 
 pub returns-then-work-lt-WORK_WORDS : goal.returns-then-work-lt-WORK_WORDS

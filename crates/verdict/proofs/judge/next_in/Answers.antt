@@ -2,7 +2,6 @@
 use mathlib.Core.Path.{refl, sym}
 use Rattle.bundle.proofs.CheckCases.{indexed-accepted, indexed-refused}
 use Rattle.verdict.proofs.JudgeCases.{regions-of, next-as, next-refused}
-use borrow.Author.Rules.{rules}
 use Rattle.verdict.proofs.judge.next_in.Goals as goal
 
 pub slice_bounds-take_census-end : goal.slice_bounds-take_census-end

@@ -1,6 +1,5 @@
 -- `verdict::judge::next_race` meets its contract. Assumes nothing.
 use Rattle.verdict.proofs.JudgeCases.{next_small, next-large}
-use borrow.Author.Rules.{rules}
 use Rattle.verdict.proofs.judge.next_race.Goals as goal
 
 pub returns-then-work-lt-WORK_WORDS : goal.returns-then-work-lt-WORK_WORDS

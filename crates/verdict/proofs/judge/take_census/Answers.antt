@@ -1,7 +1,6 @@
 -- `verdict::judge::take_census` meets its contract. Assumes nothing.
 use native.Mathlib.Omega.{arith}
 use Rattle.verdict.proofs.JudgeCases.{area-fits, census-counted}
-use borrow.Author.Rules.{rules}
 use Rattle.verdict.proofs.judge.take_census.Goals as goal
 
 pub fill_area-counts-requires : goal.fill_area-counts-requires
@@ -12,8 +11,7 @@ tally_area-tally-requires c =
     area-fits _ _ c.fill_area-counts.ensures.0 c.requires.0 c.requires.1 (omega (arith, c.fill_area-counts.ensures.1, c.requires.2))
 
 pub returns : goal.returns
-returns c =
-    (
-      census-counted _ _ c.fill_area-counts.ensures.0 c.requires.0 c.requires.1 _ c.tally_area-tally.ensures,
-      c.fill_area-counts.ensures.1,
-    )
+returns c = (
+  census-counted _ _ c.fill_area-counts.ensures.0 c.requires.0 c.requires.1 _ c.tally_area-tally.ensures,
+  c.fill_area-counts.ensures.1,
+)

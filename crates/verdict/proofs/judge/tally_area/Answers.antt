@@ -1,5 +1,4 @@
 -- `verdict::judge::tally_area` meets its contract. Assumes nothing.
-use borrow.Author.Rules.{rules}
 use Rattle.verdict.proofs.judge.tally_area.Goals as goal
 
 pub all_pairs-requires : goal.all_pairs-requires

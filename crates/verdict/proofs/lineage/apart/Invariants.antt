@@ -1,10 +1,8 @@
 -- `verdict::lineage::apart` meets its contract. The invariant: what the two sides count in common stays. The measure: the sum of the two team numbers. Assumes nothing.
 use Prim.Native.Nat.{◌+◌}
-use mathlib.Core.Path.{◌≡◌, refl, ◌∙◌}
-use native.Mathlib.Omega.{arith}
+use mathlib.Core.Path.{◌≡◌}
 use Rattle.verdict.specs.RaceLists.{common_counted}
 use Rattle.verdict.specs.Linking.{forks_in, side_holder, SidesFit}
-use Rattle.verdict.proofs.LinkLaws.{climb-falls, sides-meet, larger-forked, other-climbs, one-climbs}
 use Rattle.verdict.proofs.lineage.apart.Given as goal
 
 abbrev pub invariant-loop-first : goal.invariant-loop-first

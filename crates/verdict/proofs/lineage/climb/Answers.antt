@@ -1,5 +1,4 @@
 -- `verdict::lineage::climb` meets its contract. Assumes nothing.
-use borrow.Author.Rules.{rules}
 use Rattle.verdict.proofs.LinkLaws.{link-in, climbed-from}
 use Rattle.verdict.proofs.lineage.climb.Goals as goal
 

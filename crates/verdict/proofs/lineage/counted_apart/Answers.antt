@@ -1,5 +1,4 @@
 -- `verdict::lineage::counted_apart` meets its contract. Assumes nothing.
-use borrow.Author.Rules.{rules}
 use mathlib.Core.Path.{◌∙◌}
 use Rattle.verdict.proofs.LinkLaws.{one-linked, other-linked, sides-fit, sides_apart}
 use Rattle.verdict.proofs.lineage.counted_apart.Goals as goal

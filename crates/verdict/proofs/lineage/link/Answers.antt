@@ -1,6 +1,4 @@
 -- `verdict::lineage::link` meets its contract. Assumes nothing.
-use borrow.Author.Rules.{rules}
-use borrow.Author.Tests.{not-true}
 use Rattle.verdict.proofs.LinkLaws.{all-linked, not-linked}
 use Rattle.verdict.proofs.lineage.link.Goals as goal
 

@@ -1,11 +1,8 @@
 -- `verdict::lineage::link_accesses` meets its contract. The invariant: the accesses passed are linked. The measure: those left. Assumes nothing.
 use Prim.Native.Nat.{◌≤◌, ◌-◌}
-use mathlib.Core.Path.{◌≡◌, ◌∙◌}
-use native.Mathlib.Omega.{arith}
-use lib.ListN.{length, length-set}
-use borrow.Author.Rules.{rules}
+use mathlib.Core.Path.{◌≡◌}
+use lib.ListN.{length}
 use Rattle.verdict.specs.Linking.{AccessLinks}
-use Rattle.verdict.proofs.LinkLaws.{links-none, links-more, links-all}
 use Rattle.verdict.proofs.lineage.link_accesses.Given as goal
 
 abbrev pub invariant-loop-i : goal.invariant-loop-i

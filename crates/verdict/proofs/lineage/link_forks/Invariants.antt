@@ -1,9 +1,6 @@
 -- `verdict::lineage::link_forks` meets its contract. The invariant: the REGIONs passed are linked. The measure: those left. Assumes nothing.
 use Prim.Native.Nat.{◌≤◌, ◌-◌}
-use native.Mathlib.Omega.{arith}
-use borrow.Author.Rules.{rules}
 use Rattle.verdict.specs.Linking.{ForksLinked}
-use Rattle.verdict.proofs.LinkLaws.{regions-none, regions-more, regions-all}
 use Rattle.verdict.proofs.lineage.link_forks.Given as goal
 
 abbrev pub invariant-loop-k : goal.invariant-loop-k

@@ -1,5 +1,4 @@
 -- `verdict::lineage::link_of` meets its contract. Assumes nothing.
-use borrow.Author.Rules.{rules}
 use mathlib.Core.Path.{◌∙◌, ap}
 use native.Mathlib.Omega.{arith}
 use Rattle.verdict.specs.Linking.{fork_for}

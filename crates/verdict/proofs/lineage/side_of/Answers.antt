@@ -1,5 +1,4 @@
 -- `verdict::lineage::side_of` meets its contract. Assumes nothing.
-use borrow.Author.Rules.{rules}
 use Rattle.verdict.proofs.lineage.side_of.Goals as goal
 
 pub returns : goal.returns

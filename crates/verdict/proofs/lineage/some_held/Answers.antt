@@ -1,10 +1,8 @@
 -- `verdict::lineage::some_held` meets its contract. The invariant: no lock is held at the REGIONs passed. The measure: those left. Assumes nothing.
-use Prim.Native.Nat.{ℕ, ◌≤◌, ◌<◌, ◌-◌}
-use mathlib.Core.Path.{◌≡◌, sym, ◌∙◌}
+use mathlib.Core.Path.{sym, ◌∙◌}
 use native.Mathlib.Omega.{arith}
 use borrow.Author.Rules.{rules}
 use borrow.Author.Count.{below_more}
-use Rattle.bundle.specs.Index.{fork_row_at}
 use Rattle.bundle.proofs.Tests.{false-is-true}
 use Rattle.verdict.proofs.LinkLaws.{none-held-all}
 use Rattle.verdict.proofs.lineage.some_held.Goals as goal

@@ -1,5 +1,4 @@
 -- `verdict::lineage::team_at` meets its contract. Assumes nothing.
-use borrow.Author.Rules.{rules}
 use Rattle.verdict.specs.Working.{access_row_at}
 use Rattle.verdict.proofs.lineage.team_at.Goals as goal
 

@@ -1,5 +1,4 @@
 -- `verdict::matrix::bit` meets its contract. Assumes nothing.
-use borrow.Author.Rules.{rules}
 use mathlib.Core.Path.{refl}
 use Rattle.verdict.specs.Matrix.{bit_at}
 use Rattle.verdict.proofs.matrix.bit.Goals as goal

@@ -1,5 +1,4 @@
 -- `verdict::matrix::close` meets its contract. Assumes nothing.
-use borrow.Author.Rules.{rules}
 use Rattle.verdict.proofs.BitRows.{matrix-closed}
 use Rattle.verdict.proofs.matrix.close.Goals as goal
 

@@ -1,9 +1,8 @@
 -- `verdict::matrix::join_row` meets its contract. The invariant: the words passed are joined, the others as they were. The measure: the words left. Assumes nothing.
-use borrow.Author.Rules.{rules}
 use mathlib.Core.Path.{◌≡◌}
 use Prim.Native.Nat.{◌≤◌, ◌-◌}
 use lib.ListN.{length}
-use Rattle.verdict.proofs.BitRows.{WordsTo, words-none, words_more, words-all}
+use Rattle.verdict.proofs.BitRows.{WordsTo}
 use Rattle.verdict.proofs.matrix.join_row.Given as goal
 
 abbrev pub invariant-loop-word : goal.invariant-loop-word

@@ -1,10 +1,7 @@
 -- `verdict::matrix::pass` meets its contract. The invariant: the rows passed are relaxed, the others as they were. The measure: the rows left. Assumes nothing.
 use borrow.Author.Rules.{rules}
-use mathlib.Core.Path.{◌≡◌, ◌∙◌}
-use Prim.Native.Nat.{◌≤◌, ◌-◌}
-use lib.ListN.{length}
-use Rattle.verdict.specs.Matrix.{bit_at}
-use Rattle.verdict.proofs.BitRows.{RowsTo, rows_none, or_via, pass-more, pass_all}
+use mathlib.Core.Path.{◌∙◌}
+use Rattle.verdict.proofs.BitRows.{rows_none, pass-more, pass_all}
 use Rattle.verdict.proofs.matrix.pass.Goals as goal
 
 pub loop-i-init : goal.loop-i-init

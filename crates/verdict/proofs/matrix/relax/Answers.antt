@@ -1,5 +1,4 @@
 -- `verdict::matrix::relax` meets its contract. Assumes nothing.
-use borrow.Author.Rules.{rules}
 use mathlib.Core.Path.{sym, ◌∙◌}
 use Rattle.verdict.proofs.BitRows.{relaxed, not-relaxed}
 use Rattle.verdict.proofs.matrix.relax.Goals as goal

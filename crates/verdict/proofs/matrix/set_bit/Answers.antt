@@ -1,5 +1,4 @@
 -- `verdict::matrix::set_bit` meets its contract. Assumes nothing.
-use borrow.Author.Rules.{rules}
 use Rattle.verdict.proofs.BitRows.{bit-set}
 use Rattle.verdict.proofs.matrix.set_bit.Goals as goal
 

@@ -1,11 +1,7 @@
 -- `verdict::matrix::set_diagonal` meets its contract. The invariant: the rows passed have their bit, the others are as they were. The measure: the rows left. Assumes nothing.
 use borrow.Author.Rules.{rules}
-use mathlib.Core.Path.{◌≡◌, ◌∙◌}
-use Prim.Native.Nat.{◌≤◌, ◌-◌}
-use lib.ListN.{length}
-use Rattle.verdict.specs.Matrix.{bit_at}
-use Rattle.verdict.proofs.Warshall.{with_self}
-use Rattle.verdict.proofs.BitRows.{RowsTo, rows_none, diagonal-more, diagonal-all}
+use mathlib.Core.Path.{◌∙◌}
+use Rattle.verdict.proofs.BitRows.{rows_none, diagonal-more, diagonal-all}
 use Rattle.verdict.proofs.matrix.set_diagonal.Goals as goal
 
 pub loop-i-init : goal.loop-i-init

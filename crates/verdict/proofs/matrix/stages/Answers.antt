@@ -1,9 +1,7 @@
 -- `verdict::matrix::stages` meets its contract. The invariant: the passes for the nodes below k are done. The measure: the nodes left. Assumes nothing.
 use borrow.Author.Rules.{rules}
-use mathlib.Core.Path.{◌≡◌, ◌∙◌}
-use Prim.Native.Nat.{◌≤◌, ◌-◌}
-use lib.ListN.{length}
-use Rattle.verdict.proofs.BitRows.{StagesTo, stages-none, stages-more, stages-all}
+use mathlib.Core.Path.{◌∙◌}
+use Rattle.verdict.proofs.BitRows.{stages-none, stages-more, stages-all}
 use Rattle.verdict.proofs.matrix.stages.Goals as goal
 
 pub loop-k-init : goal.loop-k-init

@@ -1,5 +1,4 @@
 -- `verdict::pairs::add_at` meets its contract. Assumes nothing.
-use borrow.Author.Rules.{rules}
 use Rattle.verdict.proofs.PairCases.{one-first, other-first, later-summed}
 use Rattle.verdict.proofs.pairs.add_at.Goals as goal
 

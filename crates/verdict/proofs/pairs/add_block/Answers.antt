@@ -1,6 +1,4 @@
 -- `verdict::pairs::add_block` meets its contract. Assumes nothing.
-use borrow.Author.Rules.{rules}
-use borrow.Author.Tests.{not-true}
 use Rattle.verdict.proofs.PairBlocks.{none-met}
 use Rattle.verdict.proofs.pairs.add_block.Goals as goal
 

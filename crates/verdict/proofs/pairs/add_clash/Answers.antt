@@ -1,5 +1,4 @@
 -- `verdict::pairs::add_clash` meets its contract. Assumes nothing.
-use borrow.Author.Rules.{rules}
 use Rattle.verdict.proofs.PairCases.{byte_fits, clash-added, clash-apart}
 use Rattle.verdict.proofs.pairs.add_clash.Goals as goal
 

@@ -1,5 +1,4 @@
 -- `verdict::pairs::add_ordered` meets its contract. Assumes nothing.
-use borrow.Author.Rules.{rules}
 use Rattle.verdict.proofs.PairCases.{sum_kept, sum-counted}
 use Rattle.verdict.proofs.pairs.add_ordered.Goals as goal
 

@@ -1,12 +1,9 @@
 -- `verdict::pairs::add_passing` meets its contract. The invariant: the accesses passed are compared, and the bits of the others are left. The measure: those left. Assumes nothing.
 use mathlib.Core.Path.{◌∙◌, ap}
-use mathlib.Core.Logic.{⊎_elim}
-use Prim.Native.Nat.{◌≤◌, ◌-◌}
 use borrow.Author.Rules.{rules}
-use Rattle.verdict.specs.Linking.{forks_in}
 use Rattle.verdict.specs.Tallying.{tally_in}
 use Rattle.verdict.proofs.PairCases.{clash-passes, clash-fails}
-use Rattle.verdict.proofs.PairBlocks.{BlockTo, block_none, block_more, clash-told, block-stops, block-ends, row-in, row_within, rows_fit}
+use Rattle.verdict.proofs.PairBlocks.{block_none, block_more, clash-told, block-stops, block-ends, row-in, row_within, rows_fit}
 use Rattle.verdict.proofs.pairs.add_passing.Goals as goal
 use Rattle.verdict.proofs.pairs.add_passing.Goals.{then-clash, else-clash}
 
@@ -18,11 +15,10 @@ returns-then-left-eq0 c =
     block-stops _ _ _ _ _ c.loop-j.invariant.1 c.requires.1 c.loop-j.invariant.0 c.if-left-eq0.true
 
 pub clash-requires : goal.clash-requires
-clash-requires c =
-    (
-      row-in _ _ _ _ _ c.loop-j.invariant.1 c.requires.0 c.loop-j-test.true,
-      row_within _ _ _ _ _ c.loop-j.invariant.1 c.requires.0 c.loop-j-test.true,
-    )
+clash-requires c = (
+  row-in _ _ _ _ _ c.loop-j.invariant.1 c.requires.0 c.loop-j-test.true,
+  row_within _ _ _ _ _ c.loop-j.invariant.1 c.requires.0 c.loop-j-test.true,
+)
 
 pub access_at-requires : goal.access_at-requires
 access_at-requires c =
@@ -38,8 +34,8 @@ loop-j-preserved c =
       search rules,
       block_more _ _ _ _ _ c.loop-j.invariant.1 c.if-clash.sum
           (elim c.if-clash.branch [
-            then-clash w ↦ clash-passes _ _ _ _ _ _ _ told w.if-clash.true w.access_at.ensures (ap (tally_in _) w.sum-is ∙ w.add_clash-sum.ensures.added _ c.requires.0.rows_fit.row_is w.access_at.ensures)
-          | else-clash w ↦ clash-fails _ _ _ _ _ _ _ told w.if-clash.false (ap (tally_in _) w.sum-is)
+            | then-clash w ↦ clash-passes _ _ _ _ _ _ _ told w.if-clash.true w.access_at.ensures (ap (tally_in _) w.sum-is ∙ w.add_clash-sum.ensures.added _ c.requires.0.rows_fit.row_is w.access_at.ensures)
+            | else-clash w ↦ clash-fails _ _ _ _ _ _ _ told w.if-clash.false (ap (tally_in _) w.sum-is)
           ]),
     )
 

@@ -1,12 +1,8 @@
 -- `verdict::pairs::add_row` meets its contract. The invariant: the accesses of the blocks passed are compared. The measure: the blocks left. Assumes nothing.
-use native.Mathlib.Omega.{arith}
 use mathlib.Core.Path.{◌≡◌}
 use Prim.Native.Nat.{◌*◌, ◌≤◌, ◌-◌, min}
-use borrow.Author.Rules.{rules}
 use Rattle.verdict.specs.Linking.{forks_in}
 use Rattle.verdict.specs.Tallying.{tally_in, tally_row}
-use Rattle.verdict.proofs.LinkLaws.{around-before}
-use Rattle.verdict.proofs.PairBlocks.{blocks-none, block-fits, block_in, blocks_more, blocks-all}
 use Rattle.verdict.proofs.pairs.add_row.Given as goal
 
 abbrev pub invariant-loop-block : goal.invariant-loop-block

@@ -1,12 +1,8 @@
 -- `verdict::pairs::add_rows` meets its contract. The invariant: the accesses passed are compared with those before them. The measure: those left. Assumes nothing.
-use mathlib.Core.Path.{◌≡◌, ap}
-use native.Mathlib.Omega.{arith}
+use mathlib.Core.Path.{◌≡◌}
 use Prim.Native.Nat.{◌≤◌, ◌-◌}
-use borrow.Author.Rules.{rules}
 use Rattle.verdict.specs.Linking.{forks_in}
 use Rattle.verdict.specs.Tallying.{tally_in, tally_all}
-use Rattle.verdict.proofs.LinkLaws.{around-below}
-use Rattle.verdict.proofs.PairCases.{all_fit, all_more, all-all}
 use Rattle.verdict.proofs.pairs.add_rows.Given as goal
 
 abbrev pub invariant-loop-i : goal.invariant-loop-i

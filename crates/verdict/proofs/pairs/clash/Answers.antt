@@ -1,5 +1,4 @@
 -- `verdict::pairs::clash` meets its contract. Assumes nothing.
-use borrow.Author.Rules.{rules}
 use Rattle.verdict.proofs.PairBlocks.{clash-odd}
 use Rattle.verdict.proofs.pairs.clash.Goals as goal
 

@@ -1,5 +1,4 @@
 -- `verdict::pairs::clash_counted` meets its contract. Assumes nothing.
-use borrow.Author.Tests.{not-true, not-false}
 use Rattle.verdict.proofs.ClashWords.{counted-fails, counted-told}
 use Rattle.verdict.proofs.pairs.clash_counted.Goals as goal
 

@@ -1,6 +1,4 @@
 -- `verdict::pairs::clashing` meets its contract. Assumes nothing.
-use borrow.Author.Rules.{rules}
-use borrow.Author.Tests.{not-true, not-false}
 use Rattle.verdict.proofs.ClashWords.{own-word, word_fits}
 use Rattle.verdict.proofs.pairs.clashing.Goals as goal
 

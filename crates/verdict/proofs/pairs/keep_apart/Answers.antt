@@ -1,8 +1,6 @@
 -- `verdict::pairs::keep_apart` meets its contract. The invariant: the bits passed say which clash with all locks that count. The measure: those left. Assumes nothing.
-use Prim.Native.Nat.{◌+◌, ◌≤◌, ◌-◌}
 use native.Mathlib.Omega.{arith}
-use borrow.Author.Rules.{rules}
-use Rattle.verdict.proofs.ClashWords.{KeptTo, kept-none, kept_more, kept-all, pair_fits}
+use Rattle.verdict.proofs.ClashWords.{kept-none, kept_more, kept-all, pair_fits}
 use Rattle.verdict.proofs.pairs.keep_apart.Goals as goal
 
 pub loop-k-init : goal.loop-k-init

@@ -1,5 +1,4 @@
 -- `verdict::pairs::kinds_clash` meets its contract. Assumes nothing.
-use borrow.Author.Rules.{rules}
 use Rattle.verdict.specs.Working.{access_row_at}
 use Rattle.verdict.proofs.pairs.kinds_clash.Goals as goal
 

@@ -1,6 +1,5 @@
 -- `verdict::pairs::lowest` meets its contract. Assumes nothing.
 use mathlib.Core.Path.{◌∙◌, ap₂}
-use borrow.Author.Rules.{rules}
 use Rattle.order.specs.Ranges.{shared_byte}
 use Rattle.order.proofs.SharedByte.{shared-swap}
 use Rattle.verdict.proofs.PairCases.{base-near}

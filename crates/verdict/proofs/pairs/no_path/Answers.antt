@@ -1,5 +1,4 @@
 -- `verdict::pairs::no_path` meets its contract. Assumes nothing.
-use borrow.Author.Rules.{rules}
 use Rattle.verdict.proofs.PairBlocks.{path-one, path-other}
 use Rattle.verdict.proofs.pairs.no_path.Goals as goal
 

@@ -1,5 +1,4 @@
 -- `verdict::pairs::passes` meets its contract. Assumes nothing.
-use borrow.Author.Rules.{rules}
 use Rattle.verdict.specs.Tallying.{rows_pass}
 use Rattle.verdict.proofs.pairs.passes.Goals as goal
 

@@ -1,9 +1,8 @@
 -- `verdict::pairs::passing` meets its contract. The invariant: the bits below k are the tests of their accesses. The measure: those left. Assumes nothing.
 use Prim.Native.Nat.{ℕ, ◌≤◌, ◌-◌}
-use borrow.Author.Rules.{rules}
 use Rattle.verdict.specs.Working.{access_row_at}
 use Rattle.verdict.specs.Tallying.{rows_pass}
-use Rattle.verdict.proofs.WordBits.{BitsTo, bits_none, bits-more, bits-all}
+use Rattle.verdict.proofs.WordBits.{BitsTo}
 use Rattle.verdict.proofs.pairs.passing.Given as goal
 
 abbrev pub invariant-loop-k : goal.invariant-loop-k

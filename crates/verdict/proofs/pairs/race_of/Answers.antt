@@ -1,5 +1,4 @@
 -- `verdict::pairs::race_of` meets its contract. Assumes nothing.
-use borrow.Author.Rules.{rules}
 use Rattle.verdict.proofs.pairs.race_of.Goals as goal
 
 pub returns : goal.returns

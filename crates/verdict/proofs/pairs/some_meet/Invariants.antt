@@ -2,9 +2,7 @@
 use mathlib.Core.Path.{◌≡◌}
 use mathlib.Core.Bool.{false}
 use Prim.Native.Nat.{◌≤◌, ◌-◌}
-use borrow.Author.Rules.{rules}
 use Rattle.verdict.specs.Tallying.{NoneMeet}
-use Rattle.verdict.proofs.PairBlocks.{meet-none, meet-more, meet_all}
 use Rattle.verdict.proofs.pairs.some_meet.Given as goal
 
 abbrev pub invariant-loop-k : goal.invariant-loop-k

@@ -1,7 +1,6 @@
 -- `bundle::chunk::ChunkState::after_barrier` meets its contract. Assumes nothing.
 use borrow.Author.Tests.{lt-ltb, le-ltb}
 use Rattle.bundle.specs.Chunks.{after_barrier}
-use borrow.Author.Rules.{rules}
 use Rattle.bundle.proofs.chunk.ChunkState.after_barrier.Goals as goal
 
 pub returns-then-barriers-lt4294967295 : goal.returns-then-barriers-lt4294967295

@@ -1,7 +1,6 @@
 -- `bundle::chunk::ChunkState::after_join` meets its contract. Assumes nothing.
 use borrow.Author.Tests.{lt-ltb, le-ltb}
 use Rattle.bundle.specs.Chunks.{after_join}
-use borrow.Author.Rules.{rules}
 use Rattle.bundle.proofs.chunk.ChunkState.after_join.Goals as goal
 
 pub returns-then-regions-lt4294967295 : goal.returns-then-regions-lt4294967295
