@@ -3,23 +3,23 @@
 #![tactic(auto)]
 
 use bundle::limits::MOST_BYTES;
-use libc::{STDIN_FILENO, STDOUT_FILENO};
 use rewrite::rewrite::{Rewriting, rewrite};
+use telling::input::read_full;
 use telling::refusals::print_refused;
 
-fn print_rewritten(bytes: &[u8]) {
+fn print_rewritten<O: Print, E: Print>(output: &O, errors: &E, bytes: &[u8]) {
     let mut buffer = [0u8; MOST_BYTES];
     match rewrite(bytes, &mut buffer) {
         Rewriting::Written { size } => {
-            io::write_all(STDOUT_FILENO, &buffer[..size]);
+            let _ = output.write_all(&buffer[..size]);
         }
-        Rewriting::Refused { place, cause } => print_refused(place, cause),
+        Rewriting::Refused { place, cause } => print_refused(errors, place, cause),
     }
 }
 
 // One byte more than a bundle may have is read, so that a longer input is refused as too long.
-fn main() {
+fn main(rt: HostRuntime) {
     let mut bytes = [0u8; MOST_BYTES + 1];
-    let size = io::read_full(STDIN_FILENO, &mut bytes);
-    print_rewritten(&bytes[..size]);
+    let size = read_full(&mut rt.stdin(), &mut bytes);
+    print_rewritten(&rt.stdout(), &rt.stderr(), &bytes[..size]);
 }

@@ -7,10 +7,10 @@ ghost use Rattle.rewrite.specs.Rewriting.{rewriting_of};
 ghost use Rattle.rewrite.specs.Converting.{convert_of};
 
 use bundle::limits::MOST_BYTES;
-use libc::{STDERR_FILENO, STDIN_FILENO, STDOUT_FILENO};
 use rewrite::convert::{to_narrow, to_wide};
 use rewrite::rewrite::Rewriting;
-use telling::arguments::same_word;
+use telling::arguments::{argument, has_argument, same_word};
+use telling::input::read_full;
 use telling::refusals::print_refused;
 
 fn convert(bytes: &[u8], wide: bool, buffer: &mut [u8]) -> Rewriting
@@ -22,42 +22,44 @@ fn convert(bytes: &[u8], wide: bool, buffer: &mut [u8]) -> Rewriting
     to_narrow(bytes, buffer)
 }
 
-fn print_converted(bytes: &[u8], wide: bool) {
+fn print_converted<O: Print, E: Print>(output: &O, errors: &E, bytes: &[u8], wide: bool) {
     let mut buffer = [0u8; MOST_BYTES];
     match convert(bytes, wide, &mut buffer) {
         Rewriting::Written { size } => {
-            io::write_all(STDOUT_FILENO, &buffer[..size]);
+            let _ = output.write_all(&buffer[..size]);
         }
-        Rewriting::Refused { place, cause } => print_refused(place, cause),
+        Rewriting::Refused { place, cause } => print_refused(errors, place, cause),
     }
 }
 
 // One byte more than a bundle may have is read, so that a longer input is refused as too long.
-fn convert_input(wide: bool) {
+fn convert_input(rt: &HostRuntime, wide: bool) {
     let mut bytes = [0u8; MOST_BYTES + 1];
-    let size = io::read_full(STDIN_FILENO, &mut bytes);
-    print_converted(&bytes[..size], wide);
+    let size = read_full(&mut rt.stdin(), &mut bytes);
+    print_converted(&rt.stdout(), &rt.stderr(), &bytes[..size], wide);
 }
 
-fn convert_as(word: &[u8]) {
+fn convert_as(rt: &HostRuntime, word: &[u8]) {
     if same_word(word, b"wide") {
-        convert_input(true);
+        convert_input(rt, true);
         return;
     }
     if same_word(word, b"narrow") {
-        convert_input(false);
+        convert_input(rt, false);
         return;
     }
-    io::write_all(STDERR_FILENO, b"usage: convert wide|narrow < BUNDLE\n");
+    let _ = rt
+        .stderr()
+        .write_all(b"usage: convert wide|narrow < BUNDLE\n");
 }
 
 // Several arguments are none of the two words.
-fn main() {
-    let mut word = io::buffer();
-    let size = os::arg(1, &mut word);
-    if 2 < os::arg_count() {
-        convert_as(b"");
+fn main(rt: HostRuntime) {
+    let mut word = [0u8; 4096];
+    let size = argument(&rt, 1, &mut word);
+    if has_argument(&rt, 2) {
+        convert_as(&rt, b"");
         return;
     }
-    convert_as(&word[..size]);
+    convert_as(&rt, &word[..size]);
 }

@@ -9,82 +9,83 @@ mod line;
 use bundle::command::four_bytes;
 use bundle::limits::MOST_BYTES;
 use csv::{CSV_BYTES, fill_csv};
-use libc::{STDERR_FILENO, STDIN_FILENO, STDOUT_FILENO};
 use rows::checker::RowChecking;
 use rows::export::Exporting;
 use rows::records::{RECORD_BYTES, check_records};
-use telling::arguments::same_word;
+use telling::arguments::{argument, has_argument, same_word};
+use telling::input::read_full;
 use telling::refusals::print_refused;
 
 // The most that is looked at of the input of a check: a bundle that is too long, and one record more than a bundle can have.
 const CHECK_BYTES: usize = 81957;
 
-fn print_rows(bytes: &[u8]) {
+fn print_rows<O: Print, E: Print>(output: &O, errors: &E, bytes: &[u8]) {
     let mut buffer = [0u8; CSV_BYTES];
     match fill_csv(bytes, &mut buffer) {
         Exporting::Written { count: size } => {
-            io::write_all(STDOUT_FILENO, &buffer[..size]);
+            let _ = output.write_all(&buffer[..size]);
         }
-        Exporting::Refused { place, cause } => print_refused(place, cause),
+        Exporting::Refused { place, cause } => print_refused(errors, place, cause),
     }
 }
 
 // One byte more than a bundle may have is read, so that a longer input is refused as too long.
-fn print_input() {
+fn print_input(rt: &HostRuntime) {
     let mut bytes = [0u8; MOST_BYTES + 1];
-    let size = io::read_full(STDIN_FILENO, &mut bytes);
-    print_rows(&bytes[..size]);
+    let size = read_full(&mut rt.stdin(), &mut bytes);
+    print_rows(&rt.stdout(), &rt.stderr(), &bytes[..size]);
 }
 
-fn print_checked(bytes: &[u8], given: &[u8]) {
+fn print_checked<O: Print, E: Print>(output: &O, errors: &E, bytes: &[u8], given: &[u8]) {
     match check_records(bytes, given) {
         RowChecking::TheRows => {
-            io::write_all(STDOUT_FILENO, b"the rows\n");
+            let _ = output.write_all(b"the rows\n");
         }
-        RowChecking::Refused { place, cause } => print_refused(place, cause),
+        RowChecking::Refused { place, cause } => print_refused(errors, place, cause),
     }
 }
 
-fn print_unlike() {
-    io::write_all(STDERR_FILENO, b"interval_rows: not a bundle and records\n");
+fn print_unlike<E: Print>(errors: &E) {
+    let _ = errors.write_all(b"interval_rows: not a bundle and records\n");
 }
 
 // The length of a bundle, that bundle, and whole records; or something else.
-fn check_bytes(input: &[u8]) {
+fn check_bytes<O: Print, E: Print>(output: &O, errors: &E, input: &[u8]) {
     if input.len() < 4 {
-        print_unlike();
+        print_unlike(errors);
         return;
     }
     let length = four_bytes(input, 0) as usize;
     let rest = input.len() - 4;
     if rest < length {
-        print_unlike();
+        print_unlike(errors);
         return;
     }
     if (MOST_BYTES + 1 < length) | ((rest - length) % RECORD_BYTES != 0) {
-        print_unlike();
+        print_unlike(errors);
         return;
     }
-    print_checked(&input[4..4 + length], &input[4 + length..]);
+    print_checked(output, errors, &input[4..4 + length], &input[4 + length..]);
 }
 
-fn check_input() {
+fn check_input(rt: &HostRuntime) {
     let mut input = [0u8; CHECK_BYTES];
-    let size = io::read_full(STDIN_FILENO, &mut input);
-    check_bytes(&input[..size]);
+    let size = read_full(&mut rt.stdin(), &mut input);
+    check_bytes(&rt.stdout(), &rt.stderr(), &input[..size]);
 }
 
-fn main() {
-    let mut word = io::buffer();
-    let size = os::arg(1, &mut word);
-    let arguments = os::arg_count();
-    if arguments < 2 {
-        print_input();
+fn main(rt: HostRuntime) {
+    let mut word = [0u8; 4096];
+    let size = argument(&rt, 1, &mut word);
+    if !has_argument(&rt, 1) {
+        print_input(&rt);
         return;
     }
-    if (arguments == 2) & same_word(&word[..size], b"check") {
-        check_input();
+    if !has_argument(&rt, 2) & same_word(&word[..size], b"check") {
+        check_input(&rt);
         return;
     }
-    io::write_all(STDERR_FILENO, b"usage: interval_rows [check] < INPUT\n");
+    let _ = rt
+        .stderr()
+        .write_all(b"usage: interval_rows [check] < INPUT\n");
 }

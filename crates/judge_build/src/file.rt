@@ -4,9 +4,10 @@ ghost use Rattle.bundle.specs.Commands.{putting_of};
 ghost use Rattle.tray.specs.Inner.{next_of};
 ghost use Rattle.judge_build.specs.Reading.{ReadWithin};
 
-use crate::kind::is_regular;
+use crate::kind::{is_regular, path_of, text_of};
 use bundle::command::Putting;
-use libc::STDOUT_FILENO;
+use std::fs::File;
+use std::os::unix::fs::FileExt;
 use tray::tell::{Told, tell_bundle, tell_unreadable};
 use tray::word::Word;
 
@@ -25,27 +26,27 @@ enum Reading {
 }
 
 // Reads until the buffer is full or the file ends. What has no positions, as a pipe, is not read.
-fn read_file(fd: i32, bytes: &mut [u8]) -> Reading
+fn read_file(file: &File, bytes: &mut [u8]) -> Reading
     requires { length bytes.old ≡ 65537 }
     ensures { ReadWithin result (length bytes.new) }
 {
     let mut done = 0;
     while done < bytes.len() {
-        let got = libc::pread(fd, &mut bytes[done..], done as i64);
-        if got < 0 {
-            return Reading::Failed;
+        match file.read_at(&mut bytes[done..], done as u64) {
+            Ok(more) => {
+                if more == 0 {
+                    return Reading::Read(done);
+                }
+                done += more;
+            }
+            Err(_) => return Reading::Failed,
         }
-        let more = io::count(got, &bytes[done..]);
-        if more == 0 {
-            return Reading::Read(done);
-        }
-        done += more;
     }
     Reading::Read(done)
 }
 
 // Prints the line that was put at the start of an array.
-pub fn print_line(told: Told, line: &[u8]) -> Going
+pub fn print_line<P: Print>(to: &P, told: Told, line: &[u8]) -> Going
     requires { next_of (putting_of told.line) ≤ length line.now }
 {
     let word = told.word;
@@ -53,45 +54,53 @@ pub fn print_line(told: Told, line: &[u8]) -> Going
     match putting {
         Putting::Written(size) => Going {
             word,
-            on: io::write_all(STDOUT_FILENO, &line[..size]),
+            on: to.write_all(&line[..size]).is_ok(),
         },
         Putting::Refused { place: _, cause: _ } => Going { word, on: false },
     }
 }
 
-fn judge_bytes(bytes: &[u8], word: Word) -> Going {
+fn judge_bytes<P: Print>(to: &P, bytes: &[u8], word: Word) -> Going {
     let mut work = [0u32; 16384];
     let mut line = [0u8; 256];
     let told = tell_bundle(bytes, word, &mut work, &mut line, 0);
-    print_line(told, &line)
+    print_line(to, told, &line)
 }
 
-fn pass_unreadable(word: Word) -> Going {
+fn pass_unreadable<P: Print>(to: &P, word: Word) -> Going {
     let mut line = [0u8; 256];
     let told = tell_unreadable(word, &mut line, 0);
-    print_line(told, &line)
+    print_line(to, told, &line)
 }
 
 // One byte more than a bundle may have is read, so that a longer file is refused as too long.
-fn judge_open(fd: i32, word: Word) -> Going {
+fn judge_open<P: Print>(to: &P, file: File, word: Word) -> Going {
     let mut bytes = [0u8; 65537];
-    let reading = read_file(fd, &mut bytes);
-    libc::close(fd);
+    let reading = read_file(&file, &mut bytes);
+    drop(file);
     match reading {
-        Reading::Read(size) => judge_bytes(&bytes[..size], word),
-        Reading::Failed => pass_unreadable(word),
+        Reading::Read(size) => judge_bytes(to, &bytes[..size], word),
+        Reading::Failed => pass_unreadable(to, word),
     }
 }
 
-// The file of a name. One that cannot be opened, or read to its end, is unreadable; so is what is not a regular file. That is asked before
+// The file of a path. One that cannot be opened, or read to its end, is unreadable; so is what is not a regular file. That is asked before
 // the file is opened, since to open a named pipe is to wait for its writer.
-pub fn judge_file(name: &[u8], word: Word) -> Going {
-    if !is_regular(name) {
-        return pass_unreadable(word);
+fn judge_path(rt: &HostRuntime, path: &str, word: Word) -> Going {
+    if !is_regular(rt, path) {
+        return pass_unreadable(rt, word);
     }
-    let fd = os::open_read(name);
-    if fd < 0 {
-        return pass_unreadable(word);
+    match File::open(rt, path) {
+        Ok(file) => judge_open(rt, file, word),
+        Err(_) => pass_unreadable(rt, word),
     }
-    judge_open(fd, word)
+}
+
+// The file of a name. Std has paths of text alone: what is named by other bytes cannot be opened, and is unreadable.
+pub fn judge_file(rt: &HostRuntime, name: &[u8], word: Word) -> Going {
+    let path = path_of(name);
+    match text_of(&path) {
+        Some(text) => judge_path(rt, text, word),
+        None => pass_unreadable(rt, word),
+    }
 }

@@ -1,41 +1,19 @@
-// Whether a name is of a regular file.
+// Whether a path is of a regular file, and the path of a name.
 ghost use Rattle.std.specs.Prelude.{◌≡◌};
-ghost use Rattle.libc.specs.Io.{Ended};
-ghost use Rattle.judge_build.specs.Kind.{is_regular, path_of};
+ghost use Rattle.judge_build.specs.Kind.{is_regular, path_of, IsEnded};
 
 use bundle::copy::copy_in;
-use libc::PATH_MAX;
-use libc::types::{stat, timespec};
+use std::ffi::CStr;
+use std::fs;
+use std::os::unix::fs::MetadataExt;
+use std::rt::Files;
 
-const LAST: usize = PATH_MAX - 1;
+// The bytes of a path, with the 0 byte that ends it.
+pub const PATH_BYTES: usize = 4096;
 
-// What is known of no file.
-fn no_file() -> stat {
-    let never = timespec {
-        tv_sec: 0,
-        tv_nsec: 0,
-    };
-    let unused = [0i64; 3];
-    stat {
-        st_dev: 0,
-        st_ino: 0,
-        st_nlink: 0,
-        st_mode: 0,
-        st_uid: 0,
-        st_gid: 0,
-        __pad: 0,
-        st_rdev: 0,
-        st_size: 0,
-        st_blksize: 0,
-        st_blocks: 0,
-        st_atim: never,
-        st_mtim: never,
-        st_ctim: never,
-        __unused: unused,
-    }
-}
+const LAST: usize = PATH_BYTES - 1;
 
-// Whether libc::stat, where it answered so and gave this mode, was asked of a regular file.
+// Whether what was asked, where it was answered so and gave this mode, is a regular file.
 fn means_regular(status: i32, mode: u32) -> bool
     ensures { result ≡ is_regular status mode }
 {
@@ -45,21 +23,21 @@ fn means_regular(status: i32, mode: u32) -> bool
     mode / 4096 % 16 == 8
 }
 
-// Whether a path is of a regular file, or of a link to one. It lends a struct, so its proof is by hand, and it does no more than it must.
-fn is_regular_at(path: &[u8; PATH_MAX]) -> bool
-    requires { Ended path.now }
-{
-    let mut file = no_file();
-    let status = libc::stat(path, &mut file);
-    means_regular(status, file.st_mode)
+// Whether a path is of a regular file, or of a link to one.
+pub fn is_regular<R: Files>(rt: &R, path: &str) -> bool {
+    match fs::metadata(rt, path) {
+        Ok(found) => means_regular(0, found.mode()),
+        Err(_) => means_regular(-1, 0),
+    }
 }
 
 // A name as a path: its bytes, and then zeros. A longer one than a path may be is taken for an empty one: neither is the name of a file.
-fn path_of(name: &[u8]) -> [u8; PATH_MAX]
-    ensures { (result ≡ path_of name.now) × Ended result }
+pub fn path_of(name: &[u8]) -> [u8; PATH_BYTES]
+    ensures path { result ≡ path_of name.now }
+    ensures ended { IsEnded result }
 {
-    let mut path = [0u8; PATH_MAX];
-    if name.len() >= PATH_MAX {
+    let mut path = [0u8; PATH_BYTES];
+    if name.len() >= PATH_BYTES {
         return path;
     }
     copy_in(name, &mut path, 0);
@@ -67,8 +45,10 @@ fn path_of(name: &[u8]) -> [u8; PATH_MAX]
     path
 }
 
-// Whether a name is of a regular file, or of a link to one.
-pub fn is_regular(name: &[u8]) -> bool {
-    let path = path_of(name);
-    is_regular_at(&path)
+// The text of a path, up to its first 0 byte, where it is text.
+pub fn text_of(path: &[u8; PATH_BYTES]) -> Option<&str> {
+    match CStr::from_bytes_until_nul(path) {
+        Ok(named) => named.to_str().ok(),
+        Err(_) => None,
+    }
 }

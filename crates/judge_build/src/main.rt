@@ -8,11 +8,12 @@ mod names;
 
 use file::{Going, print_line};
 use names::{judge_arguments, judge_input};
+use telling::arguments::has_argument;
 use tray::line::put_build;
 use tray::tell::Told;
 
 // The build's line, if all lines before it were written.
-fn finish(going: Going) {
+fn finish<P: Print>(to: &P, going: Going) {
     if !going.on {
         return;
     }
@@ -22,14 +23,13 @@ fn finish(going: Going) {
         word,
         line: put_build(word, &mut line, 0),
     };
-    print_line(told, &line);
+    print_line(to, told, &line);
 }
 
-fn main() {
-    let count = os::arg_count();
-    if 1 < count {
-        finish(judge_arguments(count));
+fn main(rt: HostRuntime) {
+    if has_argument(&rt, 1) {
+        finish(&rt, judge_arguments(&rt));
         return;
     }
-    finish(judge_input());
+    finish(&rt, judge_input(&rt));
 }

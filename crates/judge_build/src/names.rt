@@ -1,25 +1,27 @@
 // The names of a build's files: the arguments, or standard input.
 use crate::file::{Going, judge_file};
-use libc::STDIN_FILENO;
+use std::io::Read;
+use telling::arguments::{argument, has_argument};
 use tray::word::Word;
 
 // An argument that is longer than a path may be is taken for an empty one: neither is the name of a file.
-fn judge_argument(number: usize, word: Word) -> Going {
-    let mut name = io::buffer();
-    let size = os::arg(number, &mut name);
-    judge_file(&name[..size], word)
+fn judge_argument(rt: &HostRuntime, number: usize, word: Word) -> Going {
+    let mut name = [0u8; 4096];
+    let size = argument(rt, number, &mut name);
+    judge_file(rt, &name[..size], word)
 }
 
-pub fn judge_arguments(count: usize) -> Going {
+pub fn judge_arguments(rt: &HostRuntime) -> Going {
     let mut going = Going {
         word: Word::Missing,
         on: true,
     };
-    let mut number = 1;
-    while number < count && going.on {
+    for number in 1..usize::MAX {
+        if !going.on || !has_argument(rt, number) {
+            break;
+        }
         let word = going.word;
-        going = judge_argument(number, word);
-        number += 1;
+        going = judge_argument(rt, number, word);
     }
     going
 }
@@ -47,19 +49,19 @@ fn after_file(going: Going) -> Naming {
 }
 
 // The file whose name is in the buffer.
-fn judge_named(name: &[u8], size: usize, word: Word) -> Naming {
+fn judge_named(rt: &HostRuntime, name: &[u8], size: usize, word: Word) -> Naming {
     if name.len() < size {
-        return after_file(judge_file(name, word));
+        return after_file(judge_file(rt, name, word));
     }
-    after_file(judge_file(&name[..size], word))
+    after_file(judge_file(rt, &name[..size], word))
 }
 
 // One byte of standard input.
-fn take_byte(byte: u8, naming: Naming, name: &mut [u8]) -> Naming {
+fn take_byte(rt: &HostRuntime, byte: u8, naming: Naming, name: &mut [u8]) -> Naming {
     let size = naming.size;
     let word = naming.word;
     if byte == 0 {
-        return judge_named(name, size, word);
+        return judge_named(rt, name, size, word);
     }
     if size < name.len() {
         name[size] = byte;
@@ -73,35 +75,44 @@ fn take_byte(byte: u8, naming: Naming, name: &mut [u8]) -> Naming {
     naming
 }
 
-fn take_bytes(bytes: &[u8], naming: Naming, name: &mut [u8]) -> Naming {
+fn take_bytes(rt: &HostRuntime, bytes: &[u8], naming: Naming, name: &mut [u8]) -> Naming {
     let mut naming = naming;
     let mut i = 0;
     while i < bytes.len() && naming.on {
-        naming = take_byte(bytes[i], naming, name);
+        naming = take_byte(rt, bytes[i], naming, name);
         i += 1;
     }
     naming
 }
 
 // Reads once. Where that fails the names are not known, so that nothing can be said of the build.
-fn take_block(naming: Naming, name: &mut [u8]) -> Naming {
-    let mut block = io::large_buffer();
-    let got = libc::read(STDIN_FILENO, &mut block);
-    if got <= 0 {
-        let word = naming.word;
-        return Naming {
+fn take_block(rt: &HostRuntime, naming: Naming, name: &mut [u8]) -> Naming {
+    let mut block = [0u8; 65536];
+    let word = naming.word;
+    let size = naming.size;
+    match rt.stdin().read(&mut block) {
+        Ok(count) => {
+            if count == 0 {
+                return Naming {
+                    word,
+                    on: true,
+                    more: false,
+                    size,
+                };
+            }
+            take_bytes(rt, &block[..count], naming, name)
+        }
+        Err(_) => Naming {
             word,
-            on: got == 0,
+            on: false,
             more: false,
-            size: naming.size,
-        };
+            size,
+        },
     }
-    let count = io::count(got, &block);
-    take_bytes(&block[..count], naming, name)
 }
 
 // Reads all names, so far as they are ended by a 0 byte. The loop counts its turns down, from a number that no run uses up.
-fn take_names(name: &mut [u8]) -> Naming {
+fn take_names(rt: &HostRuntime, name: &mut [u8]) -> Naming {
     let mut naming = Naming {
         word: Word::Missing,
         on: true,
@@ -110,16 +121,16 @@ fn take_names(name: &mut [u8]) -> Naming {
     };
     let mut turns = u64::MAX;
     while turns > 0 && naming.more {
-        naming = take_block(naming, name);
+        naming = take_block(rt, naming, name);
         turns -= 1;
     }
     naming
 }
 
 // The last name's 0 byte may be missing.
-pub fn judge_input() -> Going {
-    let mut name = io::buffer();
-    let naming = take_names(&mut name);
+pub fn judge_input(rt: &HostRuntime) -> Going {
+    let mut name = [0u8; 4096];
+    let naming = take_names(rt, &mut name);
     let word = naming.word;
     let on = naming.on & !naming.more;
     let size = naming.size;
@@ -129,7 +140,7 @@ pub fn judge_input() -> Going {
     if size == 0 {
         return Going { word, on };
     }
-    let last = judge_named(&name, size, word);
+    let last = judge_named(rt, &name, size, word);
     let word = last.word;
     Going { word, on: last.on }
 }

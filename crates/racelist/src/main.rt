@@ -3,14 +3,14 @@
 
 mod print;
 
-use libc::STDIN_FILENO;
 use listing::list::{Listed, MOST_NAME_WORDS, list_races};
 use print::{print_few, print_many, print_refused};
+use telling::input::read_full;
 use verdict::judge::WORK_WORDS;
 
 // Lists with room for the races of any bundle. Where even that were too little it would call itself: the compiler keeps a function that
 // does so apart from its caller, so that a small bundle does not pay for 6 MB of stack.
-fn list_many(bytes: &[u8], turns: u32) {
+fn list_many<P: Print>(to: &P, bytes: &[u8], turns: u32) {
     if turns < 1 {
         return;
     }
@@ -19,16 +19,16 @@ fn list_many(bytes: &[u8], turns: u32) {
     let mut numbers = [0u64; 523776];
     let mut spare = [0u64; 261888];
     match list_races(bytes, &mut work, &mut names, &mut numbers, &mut spare) {
-        Listed::Whole(totals) => print_many(totals, &names, &numbers),
-        Listed::TooMany(_) => list_many(bytes, turns - 1),
-        Listed::Refused { place, cause } => print_refused(place, cause),
+        Listed::Whole(totals) => print_many(to, totals, &names, &numbers),
+        Listed::TooMany(_) => list_many(to, bytes, turns - 1),
+        Listed::Refused { place, cause } => print_refused(to, place, cause),
     }
 }
 
 // Lists with room for as many races as a short bundle can have: in 1,568 bytes there are at most 130 accesses, and so 8,385 pairs.
-fn list(bytes: &[u8]) {
+fn list<P: Print>(to: &P, bytes: &[u8]) {
     if 1568 < bytes.len() {
-        list_many(bytes, 1);
+        list_many(to, bytes, 1);
         return;
     }
     let mut work = [0u32; WORK_WORDS];
@@ -36,15 +36,15 @@ fn list(bytes: &[u8]) {
     let mut numbers = [0u64; 8448];
     let mut spare = [0u64; 4224];
     match list_races(bytes, &mut work, &mut names, &mut numbers, &mut spare) {
-        Listed::Whole(totals) => print_few(totals, &names, &numbers),
-        Listed::TooMany(_) => list_many(bytes, 1),
-        Listed::Refused { place, cause } => print_refused(place, cause),
+        Listed::Whole(totals) => print_few(to, totals, &names, &numbers),
+        Listed::TooMany(_) => list_many(to, bytes, 1),
+        Listed::Refused { place, cause } => print_refused(to, place, cause),
     }
 }
 
 // One byte more than a bundle may have is read, so that a longer input is refused as too long.
-fn main() {
+fn main(rt: HostRuntime) {
     let mut bytes = [0u8; 65537];
-    let size = io::read_full(STDIN_FILENO, &mut bytes);
-    list(&bytes[..size]);
+    let size = read_full(&mut rt.stdin(), &mut bytes);
+    list(&rt.stdout(), &bytes[..size]);
 }

@@ -2,4 +2,5 @@
 #![tactic(auto)]
 
 pub mod arguments;
+pub mod input;
 pub mod refusals;

@@ -8,41 +8,41 @@ use rows::export::Exporting;
 use rows::row::Row;
 
 // "written N", or the refusal.
-fn put_exporting(exporting: Exporting) {
+fn put_exporting<P: Print>(to: &P, exporting: Exporting) {
     match exporting {
         Exporting::Written { count } => {
-            text::put_text(b"written");
-            text::put_field(count as u64);
+            text::put_text(to, b"written");
+            text::put_field(to, count as u64);
         }
-        Exporting::Refused { place, cause } => text::put_refusal(cause, place),
+        Exporting::Refused { place, cause } => text::put_refusal(to, cause, place),
     }
 }
 
-fn put_row_checking(checking: RowChecking) {
+fn put_row_checking<P: Print>(to: &P, checking: RowChecking) {
     match checking {
-        RowChecking::TheRows => text::put_text(b"the rows"),
-        RowChecking::Refused { place, cause } => text::put_refusal(cause, place),
+        RowChecking::TheRows => text::put_text(to, b"the rows"),
+        RowChecking::Refused { place, cause } => text::put_refusal(to, cause, place),
     }
 }
 
 // A space, and the eight columns with commas between them.
-fn put_row(row: Row) {
-    text::put_field(row.pid as u64);
-    text::put_after_comma(row.ppid as u64);
-    text::put_after_comma(row.bid as u64);
-    text::put_after_comma(row.offset as u64);
-    text::put_after_comma(row.span as u64);
-    text::put_after_comma(row.level as u64);
-    text::put_after_comma(row.begin as u64);
-    text::put_after_comma(row.size as u64);
+fn put_row<P: Print>(to: &P, row: Row) {
+    text::put_field(to, row.pid as u64);
+    text::put_after_comma(to, row.ppid as u64);
+    text::put_after_comma(to, row.bid as u64);
+    text::put_after_comma(to, row.offset as u64);
+    text::put_after_comma(to, row.span as u64);
+    text::put_after_comma(to, row.level as u64);
+    text::put_after_comma(to, row.begin as u64);
+    text::put_after_comma(to, row.size as u64);
 }
 
-fn put_list(list: [Row; 520], room: usize)
+fn put_list<P: Print>(to: &P, list: [Row; 520], room: usize)
     requires { room ≤ 520 }
 {
     let mut i = 0;
     while i < room {
-        put_row(list[i]);
+        put_row(to, list[i]);
         i += 1;
     }
 }
@@ -75,16 +75,16 @@ fn filler_list() -> [Row; 520] {
 }
 
 // Puts the records of the bundle into the first `room` of the list, and tells the answer.
-fn export_front(bytes: &[u8], list: [Row; 520], room: usize) -> [Row; 520]
+fn export_front<P: Print>(to: &P, bytes: &[u8], list: [Row; 520], room: usize) -> [Row; 520]
     requires { room ≤ 520 }
 {
     let mut rows = list;
-    put_exporting(rows::export::export_rows(bytes, &mut rows[..room]));
+    put_exporting(to, rows::export::export_rows(bytes, &mut rows[..room]));
     rows
 }
 
 // ROWS: the number of records that the list has room for (2 bytes, at most 520), then the bundle.
-pub fn export(body: &[u8]) -> bool {
+pub fn export<P: Print>(to: &P, body: &[u8]) -> bool {
     if body.len() < 2 {
         return false;
     }
@@ -92,7 +92,7 @@ pub fn export(body: &[u8]) -> bool {
     if 520 < room {
         return false;
     }
-    put_list(export_front(&body[2..], filler_list(), room), room);
+    put_list(to, export_front(to, &body[2..], filler_list(), room), room);
     true
 }
 
@@ -133,7 +133,7 @@ fn check_front(bytes: &[u8], list: [Row; 520], count: usize) -> RowChecking
 }
 
 // CHECK ROWS: the number of given records (2 bytes, at most 520), the records (32 bytes each), then the bundle.
-pub fn check(body: &[u8]) -> bool {
+pub fn check<P: Print>(to: &P, body: &[u8]) -> bool {
     if body.len() < 2 {
         return false;
     }
@@ -145,6 +145,9 @@ pub fn check(body: &[u8]) -> bool {
     if body.len() < start {
         return false;
     }
-    put_row_checking(check_front(&body[start..], given_list(body, count), count));
+    put_row_checking(
+        to,
+        check_front(&body[start..], given_list(body, count), count),
+    );
     true
 }

@@ -6,59 +6,59 @@ use crate::text;
 use verdict::race::{Judgement, Judging, Name, Next, Race, Verdict};
 
 // "T.M.N"
-fn put_name(name: Name) {
-    text::put_field(name.team as u64);
-    text::put_dotted(name.member as u64);
-    text::put_dotted(name.number as u64);
+fn put_name<P: Print>(to: &P, name: Name) {
+    text::put_field(to, name.team as u64);
+    text::put_dotted(to, name.member as u64);
+    text::put_dotted(to, name.number as u64);
 }
 
 // "race W T.M.N SITE T.M.N SITE elements I J"
-fn put_race(race: Race) {
+fn put_race<P: Print>(to: &P, race: Race) {
     let first = race.first;
     let second = race.second;
-    text::put_text(b"race");
-    text::put_field(race.witness as u64);
-    put_name(first);
-    text::put_field(race.first_site as u64);
-    put_name(second);
-    text::put_field(race.second_site as u64);
-    text::put_elements(race.first_element, race.second_element);
+    text::put_text(to, b"race");
+    text::put_field(to, race.witness as u64);
+    put_name(to, first);
+    text::put_field(to, race.first_site as u64);
+    put_name(to, second);
+    text::put_field(to, race.second_site as u64);
+    text::put_elements(to, race.first_element, race.second_element);
 }
 
-fn put_verdict(verdict: Verdict) {
+fn put_verdict<P: Print>(to: &P, verdict: Verdict) {
     match verdict {
-        Verdict::RaceFree => text::put_text(b"race-free"),
-        Verdict::Least(race) => put_race(race),
+        Verdict::RaceFree => text::put_text(to, b"race-free"),
+        Verdict::Least(race) => put_race(to, race),
     }
 }
 
-fn put_count(name: &[u8], count: u32) {
-    text::put_text(name);
-    text::put_field(count as u64);
+fn put_count<P: Print>(to: &P, name: &[u8], count: u32) {
+    text::put_text(to, name);
+    text::put_field(to, count as u64);
 }
 
-fn put_judgement(judgement: Judgement) {
+fn put_judgement<P: Print>(to: &P, judgement: Judgement) {
     let verdict = judgement.verdict;
-    put_count(b"chunks", judgement.chunks);
-    put_count(b" segments", judgement.segments);
-    put_count(b" accesses", judgement.accesses);
-    put_count(b" races", judgement.races);
-    text::put_text(b" ");
-    put_verdict(verdict);
+    put_count(to, b"chunks", judgement.chunks);
+    put_count(to, b" segments", judgement.segments);
+    put_count(to, b" accesses", judgement.accesses);
+    put_count(to, b" races", judgement.races);
+    text::put_text(to, b" ");
+    put_verdict(to, verdict);
 }
 
-fn put_judging(judging: Judging) {
+fn put_judging<P: Print>(to: &P, judging: Judging) {
     match judging {
-        Judging::Judged(judgement) => put_judgement(judgement),
-        Judging::Refused { place, cause } => text::put_refusal(cause, place),
+        Judging::Judged(judgement) => put_judgement(to, judgement),
+        Judging::Refused { place, cause } => text::put_refusal(to, cause, place),
     }
 }
 
-fn put_next(next: Next) {
+fn put_next<P: Print>(to: &P, next: Next) {
     match next {
-        Next::Found(race) => put_race(race),
-        Next::Nothing => text::put_text(b"none"),
-        Next::Refused { place, cause } => text::put_refusal(cause, place),
+        Next::Found(race) => put_race(to, race),
+        Next::Nothing => text::put_text(to, b"none"),
+        Next::Refused { place, cause } => text::put_refusal(to, cause, place),
     }
 }
 
@@ -82,23 +82,23 @@ fn holds_only(area: &[u32], word: u32) -> bool {
 }
 
 // Whether the area is now all 0, or else as it was filled, or neither.
-fn put_area(area: &[u32], filler: u32) {
+fn put_area<P: Print>(to: &P, area: &[u32], filler: u32) {
     if holds_only(area, 0) {
-        text::put_text(b" area zero");
+        text::put_text(to, b" area zero");
     } else if holds_only(area, filler) {
-        text::put_text(b" area kept");
+        text::put_text(to, b" area kept");
     } else {
-        text::put_text(b" area changed");
+        text::put_text(to, b" area changed");
     }
 }
 
-fn judge_over(bundle: &[u8], area: &mut [u32], filler: u32) {
+fn judge_over<P: Print>(to: &P, bundle: &[u8], area: &mut [u32], filler: u32) {
     fill(area, filler);
-    put_judging(verdict::judge::judge(bundle, area));
-    put_area(area, filler);
+    put_judging(to, verdict::judge::judge(bundle, area));
+    put_area(to, area, filler);
 }
 
-fn judge_in(body: &[u8], work: &mut [u32]) -> bool {
+fn judge_in<P: Print>(to: &P, body: &[u8], work: &mut [u32]) -> bool {
     let words = four_bytes(body, 0) as usize;
     if body.len() < 8 {
         return false;
@@ -106,14 +106,14 @@ fn judge_in(body: &[u8], work: &mut [u32]) -> bool {
     if work.len() < words {
         return false;
     }
-    judge_over(&body[8..], &mut work[..words], four_bytes(body, 4));
+    judge_over(to, &body[8..], &mut work[..words], four_bytes(body, 4));
     true
 }
 
 // JUDGE: words of the work area (4 bytes), the word that fills it (4), then the bundle.
-pub fn judge(body: &[u8]) -> bool {
+pub fn judge<P: Print>(to: &P, body: &[u8]) -> bool {
     let mut work = [0u32; 20000];
-    judge_in(body, &mut work)
+    judge_in(to, body, &mut work)
 }
 
 #[derive(Clone, Copy)]
@@ -142,15 +142,18 @@ fn key_at(body: &[u8]) -> Key {
     }
 }
 
-fn next_over(bundle: &[u8], key: Key, area: &mut [u32], filler: u32) {
+fn next_over<P: Print>(to: &P, bundle: &[u8], key: Key, area: &mut [u32], filler: u32) {
     let first = key.first;
     let second = key.second;
     fill(area, filler);
-    put_next(verdict::judge::next_race(bundle, key.witness, first, second, area));
-    put_area(area, filler);
+    put_next(
+        to,
+        verdict::judge::next_race(bundle, key.witness, first, second, area),
+    );
+    put_area(to, area, filler);
 }
 
-fn next_in(body: &[u8], work: &mut [u32]) -> bool {
+fn next_in<P: Print>(to: &P, body: &[u8], work: &mut [u32]) -> bool {
     let words = four_bytes(body, 0) as usize;
     if body.len() < 22 {
         return false;
@@ -159,6 +162,7 @@ fn next_in(body: &[u8], work: &mut [u32]) -> bool {
         return false;
     }
     next_over(
+        to,
         &body[22..],
         key_at(body),
         &mut work[..words],
@@ -168,7 +172,7 @@ fn next_in(body: &[u8], work: &mut [u32]) -> bool {
 }
 
 // NEXT: words of the work area (4 bytes), the word that fills it (4), the witness (4), two names (5 each), then the bundle.
-pub fn next(body: &[u8]) -> bool {
+pub fn next<P: Print>(to: &P, body: &[u8]) -> bool {
     let mut work = [0u32; 20000];
-    next_in(body, &mut work)
+    next_in(to, body, &mut work)
 }

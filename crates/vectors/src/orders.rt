@@ -34,30 +34,30 @@ fn label_at(body: &[u8], at: usize) -> Label
     }
 }
 
-fn put_order(order: Order) {
+fn put_order<P: Print>(to: &P, order: Order) {
     match order {
-        Order::Same => text::put_text(b"same"),
-        Order::Before => text::put_text(b"before"),
-        Order::After => text::put_text(b"after"),
-        Order::Concurrent => text::put_text(b"concurrent"),
+        Order::Same => text::put_text(to, b"same"),
+        Order::Before => text::put_text(to, b"before"),
+        Order::After => text::put_text(to, b"after"),
+        Order::Concurrent => text::put_text(to, b"concurrent"),
     }
 }
 
-fn put_comparison(comparison: Comparison) {
+fn put_comparison<P: Print>(to: &P, comparison: Comparison) {
     match comparison {
-        Comparison::Compared(order) => put_order(order),
-        Comparison::Refused { place, cause } => text::put_refusal(cause, place),
+        Comparison::Compared(order) => put_order(to, order),
+        Comparison::Refused { place, cause } => text::put_refusal(to, cause, place),
     }
 }
 
 // COMPARE: two labels of 64 bytes.
-pub fn compare(body: &[u8]) -> bool {
+pub fn compare<P: Print>(to: &P, body: &[u8]) -> bool {
     if body.len() != 128 {
         return false;
     }
     let first = label_at(body, 0);
     let second = label_at(body, 64);
-    put_comparison(order::label::compare(first, second));
+    put_comparison(to, order::label::compare(first, second));
     true
 }
 
@@ -73,25 +73,25 @@ fn range_at(body: &[u8], at: usize) -> Range
     }
 }
 
-fn put_shared(shared: Shared) {
+fn put_shared<P: Print>(to: &P, shared: Shared) {
     match shared {
         Shared::Byte(overlap) => {
-            text::put_text(b"byte");
-            text::put_field(overlap.byte as u64);
-            text::put_elements(overlap.first_element, overlap.second_element);
+            text::put_text(to, b"byte");
+            text::put_field(to, overlap.byte as u64);
+            text::put_elements(to, overlap.first_element, overlap.second_element);
         }
-        Shared::Nothing => text::put_text(b"none"),
-        Shared::Refused { place, cause } => text::put_refusal(cause, place),
+        Shared::Nothing => text::put_text(to, b"none"),
+        Shared::Refused { place, cause } => text::put_refusal(to, cause, place),
     }
 }
 
 // SHARED: two ranges of 9 bytes.
-pub fn share(body: &[u8]) -> bool {
+pub fn share<P: Print>(to: &P, body: &[u8]) -> bool {
     if body.len() != 18 {
         return false;
     }
     let first = range_at(body, 0);
     let second = range_at(body, 9);
-    put_shared(order::range::lowest_shared_byte(first, second));
+    put_shared(to, order::range::lowest_shared_byte(first, second));
     true
 }

@@ -4,13 +4,13 @@ use crate::text;
 use rewrite::rewrite::Rewriting;
 
 // "rewritten N", or the refusal.
-fn put_rewriting(rewriting: Rewriting) {
+fn put_rewriting<P: Print>(to: &P, rewriting: Rewriting) {
     match rewriting {
         Rewriting::Written { size } => {
-            text::put_text(b"rewritten");
-            text::put_field(size as u64);
+            text::put_text(to, b"rewritten");
+            text::put_field(to, size as u64);
         }
-        Rewriting::Refused { place, cause } => text::put_refusal(cause, place),
+        Rewriting::Refused { place, cause } => text::put_refusal(to, cause, place),
     }
 }
 
@@ -23,15 +23,15 @@ fn rewritten_by(operation: u8, bytes: &[u8], buffer: &mut [u8]) -> Rewriting {
 }
 
 // Rewrites the bundle into the buffer, and tells the answer and the whole buffer.
-fn rewrite_into(operation: u8, bytes: &[u8], buffer: &mut [u8]) {
-    put_rewriting(rewritten_by(operation, bytes, buffer));
-    text::put_text(b" ");
-    text::put_hex(buffer);
+fn rewrite_into<P: Print>(to: &P, operation: u8, bytes: &[u8], buffer: &mut [u8]) {
+    put_rewriting(to, rewritten_by(operation, bytes, buffer));
+    text::put_text(to, b" ");
+    text::put_hex(to, buffer);
 }
 
 // REWRITE, TO_WIDE and TO_NARROW: the length of the buffer (4 bytes, at most 66,000) and what each of its bytes is (1), then the
 // bundle.
-pub fn fill(operation: u8, body: &[u8]) -> bool {
+pub fn fill<P: Print>(to: &P, operation: u8, body: &[u8]) -> bool {
     if body.len() < 5 {
         return false;
     }
@@ -41,6 +41,6 @@ pub fn fill(operation: u8, body: &[u8]) -> bool {
     }
     let filler = byte_at(body, 4);
     let mut buffer = [filler; 66000];
-    rewrite_into(operation, &body[5..], &mut buffer[..length]);
+    rewrite_into(to, operation, &body[5..], &mut buffer[..length]);
     true
 }

@@ -1,57 +1,59 @@
-// Text on standard output, each piece written at once: a buffer handed through all functions would double their proofs.
+// Text on standard output, each piece written at once: a buffer handed through all functions would double their proofs. A write that fails
+// changes nothing else.
 use bundle::refusal::Cause;
-use libc::STDOUT_FILENO;
 
-pub fn put_text(text: &[u8]) {
-    io::write_all(STDOUT_FILENO, text);
+pub fn put_text<P: Print>(to: &P, text: &[u8]) {
+    let _ = to.write_all(text);
+}
+
+fn put_number<P: Print>(to: &P, number: u64) {
+    let _ = to.print(number);
 }
 
 // A space, and the number.
-pub fn put_field(number: u64) {
-    put_text(b" ");
-    io::print_decimal(STDOUT_FILENO, number);
+pub fn put_field<P: Print>(to: &P, number: u64) {
+    put_text(to, b" ");
+    put_number(to, number);
 }
 
 // " elements I J"
-pub fn put_elements(first: u32, second: u32) {
-    put_text(b" elements");
-    put_field(first as u64);
-    put_field(second as u64);
+pub fn put_elements<P: Print>(to: &P, first: u32, second: u32) {
+    put_text(to, b" elements");
+    put_field(to, first as u64);
+    put_field(to, second as u64);
 }
 
 // A dot, and the number.
-pub fn put_dotted(number: u64) {
-    put_text(b".");
-    io::print_decimal(STDOUT_FILENO, number);
+pub fn put_dotted<P: Print>(to: &P, number: u64) {
+    put_text(to, b".");
+    put_number(to, number);
 }
 
 // A comma, and the number.
-pub fn put_after_comma(number: u64) {
-    put_text(b",");
-    io::print_decimal(STDOUT_FILENO, number);
+pub fn put_after_comma<P: Print>(to: &P, number: u64) {
+    put_text(to, b",");
+    put_number(to, number);
 }
 
-fn put_hex_byte(byte: u8) {
-    io::print_hex(STDOUT_FILENO, byte as u64, 2);
+fn put_hex_byte<P: Print>(to: &P, byte: u8) {
+    let _ = print!(to; "{byte:02x}");
 }
 
 // Two digits for each byte.
-pub fn put_hex(bytes: &[u8]) {
-    let mut i = 0;
-    while i < bytes.len() {
-        put_hex_byte(bytes[i]);
-        i += 1;
+pub fn put_hex<P: Print>(to: &P, bytes: &[u8]) {
+    for byte in bytes {
+        put_hex_byte(to, *byte);
     }
 }
 
 // "refused N at P"
-pub fn put_refused(number: u8, place: usize) {
-    put_text(b"refused");
-    put_field(number as u64);
-    put_text(b" at");
-    put_field(place as u64);
+pub fn put_refused<P: Print>(to: &P, number: u8, place: usize) {
+    put_text(to, b"refused");
+    put_field(to, number as u64);
+    put_text(to, b" at");
+    put_field(to, place as u64);
 }
 
-pub fn put_refusal(cause: Cause, place: usize) {
-    put_refused(bundle::refusal::number(cause), place);
+pub fn put_refusal<P: Print>(to: &P, cause: Cause, place: usize) {
+    put_refused(to, bundle::refusal::number(cause), place);
 }

@@ -1,0 +1,40 @@
+// The lowest byte that two ranges share, and the elements that cover it.
+ghost use Rattle.std.specs.Prelude.{◌≡◌};
+ghost use Rattle.order.specs.Ranges.{shared_of};
+ghost use Rattle.exports.specs.Told.{range_of, shared_told};
+
+// Whether two ranges share a byte, the lowest one, and the lowest element of each that covers it.
+#[unsafe(no_mangle)]
+pub extern "C" fn dezhakom_lowest_shared_byte(
+    base: u32,
+    stride: u16,
+    count: u16,
+    size: u8,
+    other_base: u32,
+    other_stride: u16,
+    other_count: u16,
+    other_size: u8,
+    found: &mut u32,
+    byte: &mut u32,
+    element: &mut u32,
+    other_element: &mut u32,
+    place: &mut usize,
+) -> u32
+    ensures { shared_told (shared_of (range_of base stride count size) (range_of other_base other_stride other_count other_size)) ≡ record { number = result; place = place.new; answer = record { found = found.exit.now; value = record { byte = byte.exit.now; first_element = element.new; second_element = other_element.new } } } }
+{
+    exports::ranges::dezhakom_lowest_shared_byte(
+        base,
+        stride,
+        count,
+        size,
+        other_base,
+        other_stride,
+        other_count,
+        other_size,
+        found,
+        byte,
+        element,
+        other_element,
+        place,
+    )
+}
