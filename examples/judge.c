@@ -10,6 +10,6 @@ int main(void) {
     if (refusal)
         printf("refused %u at %zu\n", refusal, place);
     else
-        printf("races: %u, accesses: %u\n", (unsigned)judged.races, (unsigned)judged.accesses);
+        printf("%u races in %u accesses\n", (unsigned)judged.races, (unsigned)judged.accesses);
     return refusal || judged.found;
 }

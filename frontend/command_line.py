@@ -31,20 +31,27 @@ exit status:
 TRAY = """\
 Judges every build of a tray and writes one word beside each.
 
-TRAY holds a folder for each build, and each folder one file for each bundle. Every entry of a build's folder is a bundle, but a
-file MANIFEST: a folder, a pipe, a device, a name that begins with a dot (an unfinished transfer looks so) or a link that leads out of
-the tray is a bundle that cannot be read (refused), since a log that was not judged must not pass. Folders inside a build's folder are
-not searched. An entry of the tray that is not a folder is reported and not judged.
+TRAY holds a folder for each build, and each folder one file for each bundle. Names that begin with a dot are left out. Every
+other entry of a build's folder is a bundle, but a file MANIFEST: a folder, a pipe or a device there is a bundle that cannot be read
+(refused), since a log that was not judged must not pass. Folders inside a build's folder are not searched. An entry of the tray that
+is not a folder is reported and not judged.
 
 The words:
   race-free  there is at least one bundle, and every one was judged and has no race
   race       some bundle has a race
-  refused    none has, but some bundle is truncated, damaged, not as announced or could not be read; or the build kept changing
+  refused    none has, but some bundle is torn, damaged, not as announced or could not be read
   missing    there is no bundle: no folder of this name, or an empty one
 
-A word covers what was in the tray when it was last listed, just before the files are written: a build that changed by then is judged
-again, and refused if it goes on changing. How many bundles a build should have is read from the sheet's column 'bundles', and from
-the file MANIFEST in its folder, as 'sha256sum *.bundle' prints it; a note says of which builds it was not announced.
+The word of a build with cut chunks, logs of runs that were stopped, is on what was logged. A note tells which bundles have them.
+How many bundles a build should have is read from the sheet's column 'bundles', and from the file MANIFEST in its folder, as
+'sha256sum *.bundle' prints it.
+
+With --strict more is refused and noted:
+  - names that begin with a dot (an unfinished transfer looks so) and links that lead out of the tray are bundles that cannot be read;
+  - the tray and the sheet are listed again just before the files are written: a build that changed by then is judged again, and
+    refused if it goes on changing;
+  - a tray in which no build of the sheet has a folder is not judged, and nothing is written;
+  - notes say of which builds the number of bundles was not announced, and which bundles have no accesses.
 
 A folder without a row is judged and reported, and counts for the exit status. A bundle whose worker dies, is killed, hangs
 or prints nonsense is refused, with the reason; the other bundles are judged all the same."""
@@ -167,11 +174,12 @@ def parser():
     tray.add_argument(
         "--count-column", metavar="NAME", help="the column that says how many bundles a build has (bundles, if there is one)"
     )
+    tray.add_argument("--strict", action="store_true", help="refuse and note more, as said above")
     tray.add_argument(
         "--ignore", type=hidden_name, action="append", default=[], metavar=".NAME",
-        help="leave entries of this name, as .DS_Store, out of the builds; may be given more than once",
+        help="with --strict: leave entries of this name, as .DS_Store, out of the builds; may be given more than once",
     )
-    tray.add_argument("--follow-links", action="store_true", help="take links that lead out of the tray")
+    tray.add_argument("--follow-links", action="store_true", help="with --strict: take links that lead out of the tray")
     tray.add_argument("--part", type=part_of, metavar="K/N", help="judge one of N parts of the tray, and write it to --out")
     join = add("join", "join the parts of a tray that several machines judged", JOIN)
     join.add_argument("parts", nargs="+", metavar="PART", help="the files that 'tray --part K/N --out PART' wrote")
@@ -181,8 +189,8 @@ def parser():
         made.add_argument("--out", metavar="CSV", help="the sheet with the words; it may be the file of --sheet, or - for standard output")
         made.add_argument("--page", metavar="HTML", help="a page with the words, the refusals and the races")
         made.add_argument("--verdict-column", default="verdict", metavar="NAME", help="the column of words (verdict)")
-        made.add_argument("--remark-column", metavar="NAME", help="a column for one line on each build, as '1 of 13 bundles cut'")
-        made.add_argument("--allow-empty", action="store_true", help="write 'missing' even if no build of the sheet has a folder")
+        made.add_argument("--remark-column", metavar="NAME", help="a column for one line on each build, as '13 bundles, 1 with cut chunks'")
+        made.add_argument("--allow-empty", action="store_true", help="with --strict: write 'missing' even if no build of the sheet has a folder")
         made.add_argument("--jobs", type=jobs_of, default=cores(), metavar="N", help="programs at a time (as many as cores)")
         made.add_argument("--quiet", action="store_true", help="no progress and no lines for builds that are race-free")
 

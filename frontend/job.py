@@ -1,7 +1,7 @@
 """The whole job: read the sheet and the tray, judge, write the sheet and the page, say what was found.
 
-A word covers everything that was there when the tray was last listed. So the tray and the sheet are listed again after the judging,
-and after the page is made: a build that changed is judged again, and one that goes on changing is refused.
+A word covers everything that was there when the tray was last listed. With --strict the tray and the sheet are listed again after the
+judging, and after the page is made: a build that changed is judged again, and one that goes on changing is refused.
 """
 
 import os
@@ -32,8 +32,12 @@ def judge_tray(options) -> int:
 
         return judge_part(options)
     programs = programs_of(options)
-    job = Job(options, programs, options.tray, Rules(frozenset(options.ignore), options.follow_links))
+    job = Job(options, programs, options.tray, rules_of(options))
     return finish(job, options)
+
+
+def rules_of(options) -> Rules:
+    return Rules(frozenset(options.ignore), options.follow_links, options.strict)
 
 
 def programs_of(options) -> Programs:
@@ -77,9 +81,13 @@ class Job:
     # -------------------------------------------------------------- the course
 
     def settle(self) -> None:
-        """Judges until nothing has changed, and writes the files."""
+        """Judges until nothing has changed, and writes the files. If it is not to be strict, it judges once."""
         self.look()
         outputs.demand_outside(files_in(self.options), self.tray)
+        if not self.rules.strict:
+            self.judge()
+            self.write(True)
+            return
         turn = 0
         while True:
             last, start = turn == MOST_TURNS, time.monotonic()
@@ -102,7 +110,7 @@ class Job:
             return
         if self.options.page:
             import frontend.page  # noqa: F401  (loaded while the quiet time passes)
-        wait = quiet_seconds(self.listed) - (time.monotonic() - self.listed.ended)
+        wait = quiet_seconds(self.listed) - (time.monotonic() - self.listed.ended) if self.rules.strict else 0
         if 0 < wait and self.options.stop.wait(min(wait, 3)):
             return
         progress = Progress(pending, not self.options.quiet)
@@ -189,7 +197,7 @@ class Job:
         """A tray without a build is most likely another folder, or a share that is not mounted (any more)."""
         if self.is_nothing:
             raise CannotDo(f"there is nothing to judge: no row with a build, and no folder in the tray{self.tray_hint()}")
-        if self.is_empty and not self.options.allow_empty:
+        if self.is_empty and self.rules.strict and not self.options.allow_empty:
             raise CannotDo(
                 f"no build of the sheet has a folder in the tray {readable(self.tray)}{self.tray_hint()}; nothing was written;"
                 " --allow-empty writes 'missing' beside all of them"
@@ -211,7 +219,8 @@ class Job:
         stale = [b.name for b in self.builds if b.name in self.stale and b.name not in self.again]
         notes = again_notes(again, CHANGED, "changed while they were judged")
         notes += again_notes(stale, "is not as its part saw it", "are not as their parts saw them")
-        return self.row_notes + notes_of(self.builds, self.listed) + notes + (self.sheet.notes() if self.sheet else [])
+        notes = notes_of(self.builds, self.listed, self.rules.strict) + notes
+        return self.row_notes + notes + (self.sheet.notes() if self.sheet else [])
 
     def make_page(self) -> None:
         """The parts of the page that take time. They are made again if something has changed since."""
@@ -223,7 +232,7 @@ class Job:
             progress = Progress(self.builds, not self.options.quiet)
             progress.doing("making the page")
             try:
-                self.page = Page(tray, self.builds, sheet)
+                self.page = Page(tray, self.builds, (), sheet, self.rules.strict)
                 self.page.draw(self.programs, self.options.jobs)
             finally:
                 progress.clear()
@@ -236,7 +245,7 @@ class Job:
             files.append((self.options.page, self.page.html(self.notes(), self.listed.time)))
         if self.options.out:
             files.append((self.options.out, self.out_data()))
-        if outputs.write_all(files, self.sheet_is_the_same):
+        if outputs.write_all(files, self.sheet_is_the_same if self.rules.strict else lambda: True):
             return True
         if last:
             raise CannotDo("the sheet changes while the tray is judged; nothing was written")
@@ -257,7 +266,7 @@ class Job:
             return by_line[row.line].word if row.line in by_line else ""
 
         def remark_of(row) -> str:
-            return remark(by_line[row.line], listed.time) if row.line in by_line else ""
+            return remark(by_line[row.line], listed.time, self.rules.strict) if row.line in by_line else ""
 
         columns = [Column(words, place_of(self.sheet, words, "verdicts"), word_of)]
         if remarks:
@@ -280,7 +289,8 @@ class Job:
     def new_sheet(self) -> bytes:
         """A sheet of the folders, if none was given."""
         names = [self.options.column, self.options.verdict_column, *filter(None, [self.options.remark_column])]
-        rows = [[b.name, b.word, *([remark(b, self.listed.time)] if self.options.remark_column else [])] for b in self.builds]
+        remarks = [[remark(b, self.listed.time, self.rules.strict)] if self.options.remark_column else [] for b in self.builds]
+        rows = [[b.name, b.word, *more] for b, more in zip(self.builds, remarks)]
         lines = [",".join(raw_cell(text, ",;\t ") for text in cells) for cells in [names, *rows]]
         return "".join(f"{line}\n" for line in lines).encode("utf-8", "surrogateescape")
 

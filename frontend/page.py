@@ -11,7 +11,7 @@ from frontend.judging import list_races
 from frontend.names import counted, readable, shell_name, to_text
 from frontend.pictures import NARROW, WIDE, Graph, bytes_picture, cell_grid, cut_within
 from frontend.refusals import in_words
-from frontend.remarks import clock, short_parts, time_text
+from frontend.remarks import clock, in_short, more_parts, time_text
 from frontend.tray import open_file
 
 STYLE = os.path.join(os.path.dirname(os.path.abspath(__file__)), "style.css")
@@ -39,15 +39,15 @@ def races_each(racy):
 
 
 class Page:
-    def __init__(self, tray, builds, sheet=None):
-        self.tray, self.builds, self.sheet = tray, builds, sheet
+    def __init__(self, tray, builds, notes=(), sheet=None, strict=False):
+        self.tray, self.builds, self.notes, self.sheet, self.strict = tray, builds, notes, sheet, strict
         self.size = 0
         self.short = 0  # bundles with one line only
         self.drawn = 0
         racy = [b for build in builds for b in in_order(build) if b.is_racy()]
         self.most = races_each(len(racy))
         self.unlisted = [b for b in racy if b.line.pairs > 1 and self.most > 1]  # in the order of the page
-        self.sections = []
+        self.sections = None  # until they are drawn
 
     def draw(self, programs, jobs):
         """Makes the parts on single builds. The races of a bundle are listed when its turn comes, with some of those after it, and not
@@ -59,9 +59,12 @@ class Page:
         taken, self.unlisted = self.unlisted[:count], self.unlisted[count:]
         return [b for b in taken if len(b.races) < min(self.most, b.line.pairs) and not b.races_failure]
 
-    def html(self, notes, listed):
-        """The page; listed is the time of the last listing of the tray."""
-        parts = [self.head(listed), self.table(), self.noted(notes), *self.sections, self.foot()]
+    def html(self, notes=None, listed=None):
+        """The page; listed is the time of the last listing of the tray. If nothing was drawn yet, no more races are listed."""
+        if self.sections is None:
+            self.unlisted = []
+            self.draw(None, 1)
+        parts = [self.head(listed), self.table(), self.noted(self.notes if notes is None else notes), *self.sections, self.foot()]
         return "".join(parts).encode("utf-8", "backslashreplace")
 
     # ------------------------------------------------------------------- frame
@@ -75,6 +78,7 @@ class Page:
         )
         sheet = f", sheet <span class=\"name\">{text(self.sheet)}</span>" if self.sheet else ""
         bundles_there = sum(len(b.there()) for b in self.builds)
+        when = "" if listed is None else f"The words cover what was in the tray when it was last listed, {time_text(listed)}. "
         many = ' class="many"' if sum(len(b.not_free()) for b in self.builds) > MANY_BUNDLES else ""
         return f"""<!DOCTYPE html>
 <html lang="en">
@@ -89,7 +93,7 @@ class Page:
 <body{many}>
 <h1>Verdicts</h1>
 <p class="soft">Tray <span class="name">{text(self.tray)}</span>{sheet}: {counted(len(self.builds), "build")},
-{counted(bundles_there, "bundle")}. The words cover what was in the tray when it was last listed, {time_text(listed)}. {made_at()}</p>
+{counted(bundles_there, "bundle")}. {when}{made_at()}</p>
 <ul class="counts">{counts}</ul>
 """
 
@@ -99,9 +103,12 @@ class Page:
             name = f'<span class="name">{text(build.name)}</span>'
             if has_section(build):
                 name = f'<a href="#build{number}">{name}</a>'
-            rows.append(f"<tr><td>{name}</td><td>{word_html(build.word)}</td><td>{text('; '.join(short_parts(build)))}</td></tr>")
+            rows.append(f"<tr><td>{name}</td><td>{word_html(build.word)}</td><td>{text(self.in_short(build))}</td></tr>")
         head = "<tr><th>Build</th><th>Word</th><th>Bundles</th></tr>"
         return f"<table class=\"builds\"><thead>{head}</thead><tbody>\n" + "\n".join(rows) + "\n</tbody></table>\n"
+
+    def in_short(self, build):
+        return "; ".join([in_short(build), *more_parts(build, self.strict)])
 
     def noted(self, notes):
         if not notes:
@@ -121,7 +128,7 @@ class Page:
         return f"""{short}<h2>How to read this</h2>
 <p class="soft">The words come from the proved program judge_build, the races from the proved program racelist; this page shows them.
 {word_html("race")}: two accesses of a log touch a byte, one writes, not both are atomic, they hold no lock in common, and nothing orders
-them. {word_html("refused")}: a log is truncated, damaged, not as announced or could not be read, so there is no verdict. {word_html("missing")}: the sheet has
+them. {word_html("refused")}: a log is torn, damaged, not as announced or could not be read, so there is no verdict. {word_html("missing")}: the sheet has
 the build, the tray has no log of it. {word_html("race-free")}: every log of the build was judged, and none has a race.</p>
 <p class="soft">A segment is what a member of a team does between two forks or barriers. In the pictures each row is a member, named by
 its team and its number; time runs to the right; boxes are segments, filled if they have accesses; a team is below the segment

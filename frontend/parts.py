@@ -11,7 +11,7 @@ import os
 
 from frontend import VERSION, outputs
 from frontend.failures import CannotDo, reason_of
-from frontend.job import CHANGED, Job, files_in, finish, programs_of, sheet_bytes
+from frontend.job import CHANGED, Job, files_in, finish, programs_of, rules_of, sheet_bytes
 from frontend.names import counted, named, readable, to_bytes
 from frontend.programs import Programs, bundle_line, word_agrees
 from frontend.remarks import remark, time_text
@@ -19,13 +19,15 @@ from frontend.tray import Build, Bundle, Rules, Seen, open_file
 
 FORM = b"dezhakom part 1"
 MOST_PART = 1 << 30  # bytes
-SAME = ("tray", "sheet", "parts", "version", "judge_build", "column", "count_column", "ignore", "follow_links")  # in all parts of one tray
+SAME = (  # in all parts of one tray
+    "tray", "sheet", "parts", "version", "judge_build", "column", "count_column", "strict", "ignore", "follow_links",
+)  # fmt: skip
 
 
 MAYBE_TEXT, MAYBE_NUMBER, MAYBE_LIST = (str, type(None)), (int, type(None)), (list, type(None))
 PART_KINDS = {
     "tray": str, "sheet": MAYBE_TEXT, "part": int, "parts": int, "listed": str, "version": str, "judge_build": str, "column": str,
-    "count_column": MAYBE_TEXT, "ignore": list, "follow_links": bool, "builds": list,
+    "count_column": MAYBE_TEXT, "strict": bool, "ignore": list, "follow_links": bool, "builds": list,
 }
 BUILD_KINDS = {
     "name": str, "word": str, "remark": str, "reason": MAYBE_TEXT, "seen": MAYBE_TEXT, "cells": list, "announced": MAYBE_NUMBER,
@@ -48,8 +50,7 @@ def judge_part(options) -> int:
     part, parts = options.part
     demand_part_or_nothing(options.out)
     programs = programs_of(options)
-    rules = Rules(frozenset(options.ignore), options.follow_links)
-    job = PartJob(options, programs, options.tray, rules, lambda names, with_row: share(names, with_row, part, parts))
+    job = PartJob(options, programs, options.tray, rules_of(options), lambda names, with_row: share(names, with_row, part, parts))
     job.judged_by = program_digest(programs)
     finish(job, options)
     return 0
@@ -91,19 +92,20 @@ class PartJob(Job):
             "judge_build": self.judged_by,
             "column": options.column,
             "count_column": options.count_column,
+            "strict": options.strict,
             "ignore": sorted(os.fsdecode(name) for name in options.ignore),
             "follow_links": options.follow_links,
-            "builds": [recorded(build, self.listed.time) for build in self.builds],
+            "builds": [recorded(build, self.listed.time, options.strict) for build in self.builds],
         }
         text = json.dumps(content).encode()
         return b"\n".join((FORM, text, digest(text).encode(), b""))
 
 
-def recorded(build: Build, listed: float) -> dict:
+def recorded(build: Build, listed: float, strict: bool) -> dict:
     return {
         "name": build.name,
         "word": build.word,
-        "remark": remark(build, listed),
+        "remark": remark(build, listed, strict),
         "reason": build.reason,
         "seen": seen_digest(build.seen),
         "cells": build.cells,
@@ -145,7 +147,7 @@ def join_parts(options) -> int:
     demand_sheet(options, first)
     if first["judge_build"] != program_digest(programs):
         raise CannotDo("the parts were judged by another build of the program judge_build: judge them again")
-    rules = Rules(frozenset(map(os.fsencode, first["ignore"])), first["follow_links"])
+    rules = Rules(frozenset(map(os.fsencode, first["ignore"])), first["follow_links"], first["strict"])
     records = {build["name"]: Record(build) for content in contents for build in content["builds"]}
     return finish(Job(options, programs, options.tray or first["tray"], rules, recorded=records), options)
 

@@ -58,7 +58,7 @@ class Sizes:
         self.measure(0)
         width, height, _ = self.sizes[0]
         self.width = self.left + width + MARGIN + 8
-        self.height = height + MARGIN + 4
+        self.height = height + MARGIN + 8
         self.left_out = len(log.members) - len(labels)
 
     def window(self, m, cut):
@@ -323,7 +323,7 @@ def bytes_picture(title, first, second, witness):
 
 def cell_grid():
     """All cells, under the name by which the pictures of a page use them."""
-    return f'<g id="{GRID}">{grid_path(CELLS)}</g>'
+    return f'<g id="{GRID}" class="bytes">{grid_path(CELLS)}</g>'
 
 
 def grid_path(cells):

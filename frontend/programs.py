@@ -26,7 +26,6 @@ BUNDLE_RACE = re.compile(rb"race " + COUNTS + rb" " + RACE + rb" pairs " + NUMBE
 BUNDLE_FREE = re.compile(rb"race-free " + COUNTS)
 BUILD_LINE = re.compile(rb"build (race|refused|missing|race-free)")
 
-BUILT = ("judge_build", "racelist", "canon", "convert", "interval_rows")  # all programs of the front end
 MOST_LINE = 400  # bytes; the longest line of a whole output is shorter
 FOR_NOW = (errno.EAGAIN, errno.ENOMEM, errno.ETXTBSY)  # why a program may not start now, and start a moment later
 MOST_TRIES = 10
@@ -90,9 +89,7 @@ class Programs:
         """All of these programs are there."""
         lacking = [n for n in names if not (os.path.isfile(self.path(n)) and os.access(self.path(n), os.X_OK))]
         if lacking:
-            raise CannotDo(
-                f"no program {' and no '.join(self.path(n) for n in lacking)}; build with: rt check {' '.join(BUILT)}"
-            )
+            raise CannotDo(f"no program {' and no '.join(self.path(n) for n in lacking)}; build with: tools/build_programs")
 
     def start(self, name, given, *arguments, folder=None, errors=subprocess.DEVNULL):
         """Starts a program; given is what it reads: bytes, or an open file."""
@@ -174,7 +171,7 @@ class Programs:
                 elif word is None and (found := BUILD_LINE.fullmatch(text)):
                     word = found[1].decode()
                 else:
-                    raise Failed("the program printed a line that has no form of ours after the last bundle")
+                    raise Failed("the program printed a line that has no form of ours behind the last bundle")
             if word is None:
                 raise Failed("the program ended before it had judged the build")
             if not word_agrees(word, lines):

@@ -1,4 +1,4 @@
-"""The refusals in plain words: the tables of docs/FORMAT.md."""
+"""The refusals in plain words: the tables of README.md."""
 
 from collections import namedtuple
 
@@ -11,12 +11,12 @@ REFUSALS = {
     2: Refusal("A byte is no command.", "that byte", "The log is damaged, or a newer logger wrote it: ask for it again."),
     3: Refusal("It ends inside a command.", "that command", "Ask for it again."),
     4: Refusal(
-        "It ends inside a member's log; or a command is between two members' logs, or a MEMBER inside one.",
+        "It ends inside a member's log; or a command stands between two members' logs, or a MEMBER inside one.",
         "the log's length; or that command",
-        "If P is the length, it was truncated: ask for it again. Otherwise parts were mixed up.",
+        "If P is the length, it was torn: ask for it again. Else parts were mixed up.",
     ),
     5: Refusal(
-        "A number is out of its range, or a REGION's team is not greater than the team of its own chunk.",
+        "A number is out of its range, or a REGION's team is not greater than the team that it stands in.",
         "that command",
         "The log is damaged, or the logger at fault.",
     ),
@@ -39,7 +39,7 @@ REFUSALS = {
         "its team's REGION; 0 if the log is empty",
         "Part of the log is still to come: wait for it, or ask for it.",
     ),
-    11: Refusal("A team is nested more than 4 deep.", "its REGION", "Deeper nesting is not supported."),
+    11: Refusal("A team is nested more than 4 deep.", "its REGION", "This reader does not take such a case."),
     12: Refusal(
         "A complete member, its log closed by END, met more or fewer barriers than the lowest-numbered complete one of its team.",
         "its MEMBER",
@@ -51,7 +51,7 @@ REFUSALS = {
         "Part of a complete member's log is missing, or a log that was broken off was closed by END: look at the logger.",
     ),
     20: Refusal(
-        "An access has a wide site, of 4 bytes, and the log's first access has a narrow one, of 2; or the other way round.",
+        "An access has a wide site, of 4 bytes, where the log's first access has a narrow one, of 2; or the other way round.",
         "that access",
         "The log is damaged, or its members were logged with sites of different widths: look at the logger.",
     ),
@@ -63,22 +63,22 @@ CONVERTING = {
     21: Refusal("An access has a site over 65,535, which needs 4 bytes.", "that access", "Keep it with wide sites."),
 }
 
-# What interval rows are refused for: those of an accepted bundle that do not fit into the lent list, and given ones.
+# What interval rows are turned away for: those of an accepted bundle that do not fit into the lent list, and given ones.
 ROWS = {
     22: Refusal("Too few records are lent.", "0", "Lend one for each barrier interval: 512 are always enough."),
     23: Refusal("A given record is missing, extra or differs.", "the lowest such index, from 0", "Write the rows of the bundle again."),
 }
 
-TORN = "It ends inside a member's log: it was truncated."
-MIXED = "A command is between two members' logs, or a MEMBER inside one."
+TORN = "It ends inside a member's log: it was torn."
+MIXED = "A command stands between two members' logs, or a MEMBER inside one."
 NONE_THERE = "The log is empty."
 
 
 def in_words(number, place, length):
-    """(what is wrong, what to do) of a refused bundle. The length decides between two meanings of one number; None if not known."""
+    """(what is wrong, what to do) of a refused bundle. The length tells two meanings of one number apart; None if not known."""
     known = REFUSALS.get(number)
     if known is None:
-        return "It is refused for a reason that this front end does not know.", "Look into docs/FORMAT.md."
+        return "It is refused for a reason that this front end does not know.", "Look into README.md."
     if number == 4 and length is not None:
         return (TORN, "Ask for it again.") if place == length else (MIXED, "Parts of the log were mixed up.")
     if number == 10 and length == 0:
@@ -87,14 +87,14 @@ def in_words(number, place, length):
 
 
 def converting_in_words(number, place, length):
-    """The same if a bundle was to be converted: one that is accepted, or one that is refused by check."""
+    """The same where a bundle was to be converted: one that is accepted, or one that is refused by check."""
     if number in CONVERTING and length <= MOST_BYTES:
         return CONVERTING[number].wrong, CONVERTING[number].advice
     return in_words(number, place, length)
 
 
 def rows_in_words(number, place, length):
-    """The same if rows were wanted or given."""
+    """The same where rows were wanted or given."""
     if number in ROWS:
         return ROWS[number].wrong, ROWS[number].advice
     return in_words(number, place, length)

@@ -26,41 +26,37 @@ def time_text(seconds: float) -> str:
 # -------------------------------------------------------------------- remarks
 
 
-def short_parts(build: Build) -> list[str]:
-    """What a reader of the word has to know, each in few words."""
-    there = build.there()
-    words = [b.line.word for b in there if b.line]
-    parts = []
+def in_short(build: Build) -> str:
+    """The bundles of a build in few words."""
     if build.reason:
-        parts.append(build.reason)
-    elif build.path is None:
-        parts.append("no folder")
-    elif not build.bundles:
-        parts.append("empty folder")
-    elif not there:
-        parts.append("no bundle read")
-    else:
-        parts += [found_text(words, word, there) for word in ("race", "refused") if word in words]
-        parts = parts or [counted(len(there), "bundle")]
-    if build.wrong_number:
-        parts.append(build.wrong_number)
-    if stopped := sum(b.cut is not None for b in there):
-        parts.append(f"{stopped:,} of {counted(len(there), 'bundle')} cut")
-    if idle := len(without_accesses(build)):
+        return "not judged"
+    if not build.bundles:
+        return "empty folder" if build.path else "no folder"
+    there = build.there()
+    if not there:
+        return "no bundle read"
+    cut = sum(b.cut is not None for b in there)
+    stopped = f", {cut:,} with cut chunks" if cut else ""
+    words = [b.line.word for b in there if b.line and not b.is_free()]
+    if not words:
+        return counted(len(there), "bundle") + stopped
+    parts = [f"{words.count(w):,} {w}" for w in ("race", "refused") if w in words]
+    return f"{', '.join(parts)} of {len(there):,}{stopped}"
+
+
+def more_parts(build: Build, strict: bool) -> list[str]:
+    """What a reader of the word has to know beside that, each in few words."""
+    parts = [build.wrong_number] if build.wrong_number else []
+    if strict and (idle := len(without_accesses(build))):
         parts.append(f"{counted(idle, 'bundle')} without accesses")
-    if is_unannounced(build):
+    if strict and is_unannounced(build):
         parts.append("number of bundles not announced")
     return parts
 
 
-def found_text(words: list[str], word: str, there: list) -> str:
-    share = f"{words.count(word):,} of {counted(len(there), 'bundle')}"
-    return f"races in {share}" if word == "race" else f"{share} refused"
-
-
-def remark(build: Build, listed: float) -> str:
+def remark(build: Build, listed: float, strict: bool) -> str:
     """The line for the sheet. It says when the tray was last listed: the word covers what was there then."""
-    return "; ".join([*short_parts(build), f"listed {time_text(listed)}"])
+    return "; ".join([build.reason or in_short(build), *more_parts(build, strict), f"listed {time_text(listed)}"])
 
 
 def is_remark(text: str) -> bool:
@@ -80,20 +76,20 @@ def is_unannounced(build: Build) -> bool:
 # ---------------------------------------------------------------------- notes
 
 
-def notes_of(builds: list[Build], listed: Listed) -> list[str]:
+def notes_of(builds: list[Build], listed: Listed, strict: bool) -> list[str]:
     """What is to be known beside the words; of many builds alike it is one note."""
     notes = [note for build in builds for note in missing_notes(build, listed)]
     for build in builds:
-        notes += stopped_notes(build)
-        notes += idle_notes(build)
-    unannounced = [b.name for b in builds if is_unannounced(b)]
+        notes += cut_notes(build)
+        notes += idle_notes(build) if strict else ()
+    unannounced = [b.name for b in builds if strict and is_unannounced(b)]
     if unannounced:
         which = f"{counted(len(unannounced), 'build')}: {named(unannounced)}"
         notes.append(f"the number of bundles was not announced for {which}")
     for name in sorted({name for build in builds for name in build.left_out}):
         where = sum(name in build.left_out for build in builds)
         notes.append(f"left out, as --ignore asks: {readable(name)} in {counted(where, 'build')}")
-    return tray_notes(listed) + notes
+    return tray_notes(listed, strict) + notes
 
 
 def missing_notes(build: Build, listed: Listed):
@@ -113,14 +109,13 @@ def key_of(name: str) -> str:
     return "".join(unicodedata.normalize("NFKC", name).casefold().split())
 
 
-def stopped_notes(build: Build):
+def cut_notes(build: Build):
     """The word of a build whose runs were stopped is on what was logged."""
-    stopped = [b for b in build.there() if b.cut]
-    if stopped:
-        share = f"{len(stopped):,} of {counted(len(build.there()), 'bundle')}"
-        which = named([f"{b.name} ({b.cut[0]:,} of {counted(b.cut[1], 'chunk')} cut)" for b in stopped])
-        run = "is from a stopped run" if len(stopped) == 1 else "are from stopped runs"
-        yield f"build {readable(build.name)}: {share} {run}, and the word is on what was logged: {which}"
+    cut = [b for b in build.there() if b.cut]
+    if cut:
+        share = f"{len(cut):,} of {counted(len(build.there()), 'bundle')} {'has' if len(cut) == 1 else 'have'}"
+        which = named([f"{b.name} ({b.cut[0]} of {b.cut[1]})" for b in cut])
+        yield f"build {readable(build.name)}: {share} cut chunks, and the word is on what was logged: {which}"
 
 
 def idle_notes(build: Build):

@@ -136,7 +136,7 @@ def difference(index, given, last_line, wanted, name):
     """Record index as missing, extra or differing."""
     if index == len(given) < len(wanted):
         lengths = f"there are {counted(len(given), 'record')}, and the bundle has {len(wanted)}"
-        return f"Record {index} is missing after line {last_line} of {name}: {record_text(wanted[index])}; {lengths}."
+        return f"Record {index} is missing behind line {last_line} of {name}: {record_text(wanted[index])}; {lengths}."
     if index == len(wanted) < len(given):
         return f"Record {index}, in line {given[index].line} of {name}, is extra: the bundle has {counted(len(wanted), 'record')}."
     if index < min(len(given), len(wanted)) and given[index].record != wanted[index]:

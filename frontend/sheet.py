@@ -217,6 +217,6 @@ def read_cell(text, at, plain, line):
         raise CannotDo(f"the sheet cannot be read: in the row of line {line} a quote is opened and never closed")
     behind = plain.match(text, found.end())
     if behind[0].strip(" "):
-        raise CannotDo(f"the sheet cannot be read: in the row of line {line} there is text after a closing quote")
+        raise CannotDo(f"the sheet cannot be read: in the row of line {line} text stands behind a closing quote")
     raw = found[0] + behind[0]
     return Cell(raw, found[1].replace('""', '"')), behind.end(), len(re.findall(r"\r\n|\r|\n", found[0]))

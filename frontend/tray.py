@@ -30,7 +30,8 @@ COARSE_GRAIN = 2.1  # the same if a file system keeps whole seconds
 NEAR = {"ext2", "ext3", "ext4", "xfs", "btrfs", "f2fs", "zfs", "tmpfs", "overlay", "ramfs"}  # file systems of one machine
 LONG_AGO = 3600  # seconds after which such a file is taken for finished
 
-Rules = namedtuple("Rules", "ignore follow")  # names (bytes) that are left out; whether links may lead out of the tray
+# Names (bytes) that are left out; whether links may lead out of the tray; whether all other names that begin with a dot are bundles.
+Rules = namedtuple("Rules", "ignore follow strict")
 Entry = namedtuple("Entry", "name link file")  # link: what it is itself; file: what it leads to, or why that is not known
 Seen = namedtuple("Seen", "folder entries problem")  # of a build's folder; problem: why it cannot be listed, or None
 # Of a tray: when its listing began (time) and ended (by the monotonic clock); {name: Seen}; entries that are no folders; dot names.
@@ -192,7 +193,7 @@ def build_of(name: str, tray: str, seen: Seen | None, rules: Rules) -> Build:
     build = Build(name, path, seen)
     if seen.problem:
         build.bundles = [Bundle("", path, f"the folder cannot be read: {seen.problem}", False)]
-    elif not rules.follow and leads_out(path, root):
+    elif rules.strict and not rules.follow and leads_out(path, root):
         build.bundles = [Bundle("", path, LEADS_OUT, False)]
     else:
         for entry in seen.entries:
@@ -205,10 +206,12 @@ def take_entry(build: Build, entry: Entry, root: bytes, rules: Rules) -> None:
     if entry.name in rules.ignore:
         build.left_out.append(name)
         return
+    if entry.name.startswith(b".") and not rules.strict:
+        return
     reason = why_unreadable(entry)
     if entry.name.startswith(b"."):
         reason = HIDDEN
-    elif entry.file is not None and not rules.follow and leads_out(path, root):
+    elif entry.file is not None and rules.strict and not rules.follow and leads_out(path, root):
         reason = LEADS_OUT
     if entry.name != MANIFEST:
         build.bundles.append(Bundle(name, path, reason))
@@ -233,10 +236,10 @@ def leads_out(path: bytes, root: bytes) -> bool:
     return real != inside and not real.startswith(inside.rstrip(b"/") + b"/")
 
 
-def tray_notes(listed: Listed) -> list[str]:
+def tray_notes(listed: Listed, strict: bool) -> list[str]:
     """What of the tray itself was not judged."""
     notes = [f"{readable(name)} in the tray is not a folder and was not judged" for name in listed.others]
-    if listed.hidden:
+    if strict and listed.hidden:
         notes.append(f"not judged, since its name begins with a dot: {named(listed.hidden)} in the tray")
     return notes
 

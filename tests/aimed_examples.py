@@ -10,33 +10,33 @@ HEAD = """\
 -- Examples aimed at single points of docs/FORMAT.md, with the second reader's answers. tests/write_examples writes this file.
 use Prim.Native.Nat.{ℕ}
 use mathlib.Core.Bool.{true, false}
-use mathlib.Core.Path.{_≡_, refl}
-use mathlib.Core.List.{List, [], _∷_, map}
+use mathlib.Core.Path.{◌≡◌, refl}
+use mathlib.Core.List.{List, [], ◌∷◌, map}
 use mathlib.Core.Option.{Option, none, some}
 use lib.ListN.{replicate}
-use Rattle·bundle.specs.Answer.{Answer, gives, refuses, whenGiven}
-use Rattle·bundle.specs.Commands.{Lent, Taken, readAt}
-use Rattle·bundle.specs.Check.{checkOf}
-use Rattle·bundle.specs.declared.command.AccessKind.the-variants as Kind
-use Rattle·bundle.specs.declared.command.Command.the-variants as Com
-use Rattle·order.specs.Labels.{labelOf, compareOf}
-use Rattle·order.specs.Ranges.{sharedOf}
-use Rattle·order.specs.declared.label.Triple.{Triple}
-use Rattle·order.specs.declared.label.Label.{Label}
-use Rattle·order.specs.declared.label.Order.{Order}
-use Rattle·order.specs.declared.label.Order.the-variants as Ord
-use Rattle·order.specs.declared.range.Overlap.{Overlap}
-use Rattle·verdict.specs.Accesses.{keyOf}
-use Rattle·verdict.specs.Graph.{Node}
-use Rattle·verdict.specs.SegmentOrder.{orderIn}
-use Rattle·verdict.specs.Judge.{judgeOf, raceAbove, nextOf}
-use Rattle·verdict.specs.Table.{triple, range}
-use Rattle·verdict.specs.declared.race.Name.{Name}
-use Rattle·verdict.specs.declared.race.Race.{Race}
-use Rattle·verdict.specs.declared.race.Verdict.the-variants as Ver
-use Rattle·verdict.specs.declared.race.Judgement.{Judgement}
-use Rattle·verdict.proofs.Computing.{verdict-computes}
-use Rattle·verdict.proofs.SmallBundles.{bytes, race}
+use Rattle.bundle.specs.Answer.{Answer, gives, refuses, when_given}
+use Rattle.bundle.specs.Commands.{Lent, Taken, read_at}
+use Rattle.bundle.specs.Check.{check_of}
+use Rattle.bundle.specs.declared.command.AccessKind.TheVariants as Kind
+use Rattle.bundle.specs.declared.command.Command.TheVariants as Com
+use Rattle.order.specs.Labels.{label_of, compare_of}
+use Rattle.order.specs.Ranges.{shared_of}
+use Rattle.order.specs.declared.label.Triple.{Triple}
+use Rattle.order.specs.declared.label.Label.{Label}
+use Rattle.order.specs.declared.label.Order.{Order}
+use Rattle.order.specs.declared.label.Order.TheVariants as Ord
+use Rattle.order.specs.declared.range.Overlap.{Overlap}
+use Rattle.verdict.specs.Accesses.{key_of}
+use Rattle.verdict.specs.Graph.{Node}
+use Rattle.verdict.specs.SegmentOrder.{order_in}
+use Rattle.verdict.specs.Judge.{judge_of, race_above, next_of}
+use Rattle.verdict.specs.Table.{triple, range}
+use Rattle.verdict.specs.declared.race.Name.{Name}
+use Rattle.verdict.specs.declared.race.Race.{Race}
+use Rattle.verdict.specs.declared.race.Verdict.TheVariants as Ver
+use Rattle.verdict.specs.declared.race.Judgement.{Judgement}
+use Rattle.verdict.proofs.Computing.{verdict-computes}
+use Rattle.verdict.proofs.SmallBundles.{bytes, race}
 
 -- what the definitions give, and what is wanted
 pub record AimedExample (A : Type 0) : Type 0 where
@@ -56,7 +56,7 @@ unfoldable pub label : ℕ → List Triple → Label
 label count triples = record { count = count; triples = triples }
 
 unfoldable pub overlap : ℕ → ℕ → ℕ → Overlap
-overlap b e e′ = record { byte = b; «first_element» = e; «second_element» = e′ }
+overlap b e e' = record { byte = b; first_element = e; second_element = e' }
 
 """
 
@@ -66,7 +66,7 @@ unfoldable pub {name} : List (AimedExample ({type}))
 {name} =
 {rows}    []
 
-pub {name}-agree : map (λ (r : AimedExample ({type})). r .given) {name} ≡ map (λ (r : AimedExample ({type})). r .wanted) {name}
+pub {name}-agree : map (λ (r : AimedExample ({type})). r.given) {name} ≡ map (λ (r : AimedExample ({type})). r.wanted) {name}
 unfolding verdict-computes bytes race row name label {uses}{name}
 {name}-agree = refl
 """
@@ -74,12 +74,12 @@ unfolding verdict-computes bytes race row name label {uses}{name}
 def read_rows():
     for data, position in example_cases.READ:
         wanted = answer_term(lambda read: read[1], sr.read_command, data, position)
-        yield f"(whenGiven (readAt {bytes_term(data)} {position}) (λ (t : Taken). gives (t .next)))", wanted
+        yield f"(when_given (read_at {bytes_term(data)} {position}) (λ (t : Taken). gives t.next))", wanted
 
 
 def wide_read_rows():
     for data, position in example_cases.WIDE_READ:
-        yield f"(readAt {bytes_term(data)} {position})", answer_term(taken_term, sr.read_command, data, position)
+        yield f"(read_at {bytes_term(data)} {position})", answer_term(taken_term, sr.read_command, data, position)
 
 
 def has_cut(data):
@@ -99,17 +99,17 @@ def check_rows(cut):
     """Bundles with cut chunks, and those without, are tables of their own: one would compute too long."""
     for data in example_cases.checked_bundles():
         if has_cut(data) == cut:
-            yield f"(checkOf {bytes_term(data)})", answer_term(lambda _: "tt", sr.check, data)
+            yield f"(check_of {bytes_term(data)})", answer_term(lambda _: "tt", sr.check, data)
 
 
 def wide_check_rows():
     for data in example_cases.WIDE_CHECKED:
-        yield f"(checkOf {bytes_term(data)})", answer_term(lambda _: "tt", sr.check, data)
+        yield f"(check_of {bytes_term(data)})", answer_term(lambda _: "tt", sr.check, data)
 
 
 def label_rows():
     for data, *place in example_cases.LABELLED:
-        given = f"(labelOf {bytes_term(data)} " + " ".join(str(n) for n in place) + ")"
+        given = f"(label_of {bytes_term(data)} " + " ".join(str(n) for n in place) + ")"
         yield given, answer_term(triples_term, sr.label_of, data, *place)
 
 
@@ -120,7 +120,7 @@ def label_term(label):
 def comparison_rows():
     for first, second in example_cases.COMPARED:
         wanted = answer_term(lambda order: f"Ord.{order.capitalize()}", sr.compare_labels, first, second)
-        yield f"(compareOf {label_term(first)} {label_term(second)})", wanted
+        yield f"(compare_of {label_term(first)} {label_term(second)})", wanted
 
 
 def order(data, first, second):
@@ -132,13 +132,13 @@ def order_rows():
     for data, *segments in example_cases.ORDERED:
         wanted = answer_term(lambda order: f"Ord.{order.capitalize()}", order, data, *segments)
         nodes = " ".join(f"(node {' '.join(map(str, segment))})" for segment in segments)
-        yield f"(orderIn {bytes_term(data)} {nodes})", wanted
+        yield f"(order_in {bytes_term(data)} {nodes})", wanted
 
 
 def share_rows():
     for first, second in example_cases.SHARED:
         wanted = answer_term(overlap_term, sr.lowest_shared_byte, sr.Range(*first), sr.Range(*second))
-        yield f"(sharedOf {range_term(first)} {range_term(second)})", wanted
+        yield f"(shared_of {range_term(first)} {range_term(second)})", wanted
 
 
 def race_lists():
@@ -150,7 +150,7 @@ def race_lists():
 def above_rows():
     for bundle, witness, first, second in example_cases.ABOVE:
         race = sr.next_race(sr.LEAST_WORDS, example_cases.RACED[bundle], witness, first, second)
-        yield f"(raceAbove (keyOf {witness} {name_term(first)} {name_term(second)}) {bundle})", found_term(race)
+        yield f"(race_above (key_of {witness} {name_term(first)} {name_term(second)}) {bundle})", found_term(race)
 
 
 def left_term(words, filler):
@@ -163,14 +163,14 @@ def next_rows():
     for data, words, filler, witness, first, second in example_cases.NEXT:
         key = f"{witness} {name_term(first)} {name_term(second)}"
         wanted = answer_term(found_term, sr.next_race, words, data, witness, first, second)
-        given = f"(nextOf {bytes_term(data)} {key} (replicate {words} {filler}))"
+        given = f"(next_of {bytes_term(data)} {key} (replicate {words} {filler}))"
         yield given, f"(record {{ answer = {wanted}; buffer = {left_term(words, filler)} }})"
 
 
 def judge_rows(areas):
     for data, words, filler in areas:
         wanted = answer_term(judgement_term, sr.judge, words, data)
-        given = f"(judgeOf {bytes_term(data)} (replicate {words} {filler}))"
+        given = f"(judge_of {bytes_term(data)} (replicate {words} {filler}))"
         yield given, f"(record {{ answer = {wanted}; buffer = {left_term(words, filler)} }})"
 
 

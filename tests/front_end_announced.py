@@ -16,7 +16,7 @@ class Sheet(Case):
             self.put(build, a=LATE, b=LATE)
         self.put("racy", c=EXAMPLE)
         sheet = "build,bundles\nright,2\nfewer,3\nmore, 1 \nsilent,\nracy,1\nnone,4\n"
-        ended = self.judge("--remark-column", "remark", sheet=sheet, status=1)
+        ended = self.judge("--strict", "--remark-column", "remark", sheet=sheet, status=1)
         wanted = {"right": "race-free", "fewer": "refused", "more": "refused", "silent": "race-free", "racy": "race", "none": "missing"}
         self.assertEqual(self.words(), wanted)
         remarks = self.words("remark")
@@ -58,8 +58,9 @@ class Sheet(Case):
     def test_dot_entries_and_folders_do_not_count_as_announced(self):
         folder = self.put("b", a=LATE)
         (folder / ".b").write_bytes(LATE)
-        self.judge(sheet="build,bundles\nb,2\n", status=1)
-        self.assertEqual(self.words(), {"b": "refused"})
+        for more in ((), ("--strict",)):
+            self.judge(*more, sheet="build,bundles\nb,2\n", status=1)
+            self.assertEqual(self.words(), {"b": "refused"})
 
 
 class Manifest(Case):
@@ -68,7 +69,7 @@ class Manifest(Case):
         subprocess.run(["sh", "-c", f"sha256sum {names} > MANIFEST"], cwd=self.tray / build, check=True)
 
     def judged(self, status, sheet="build\nb\n", *more):
-        ended = self.judge("--remark-column", "remark", *more, sheet=sheet, status=status)
+        ended = self.judge("--strict", "--remark-column", "remark", *more, sheet=sheet, status=status)
         return self.words()["b"], ended
 
     def test_as_announced(self):
@@ -158,12 +159,12 @@ class Manifest(Case):
 class OverNothing(Case):
     def test_bundles_without_accesses(self):
         self.put("b", idle=IDLE, cut=NOTHING, full=LATE)
-        ended = self.judge("--remark-column", "remark", sheet="build,bundles\nb,3\n", status=0)
+        ended = self.judge("--strict", "--remark-column", "remark", sheet="build,bundles\nb,3\n", status=0)
         self.assertEqual(self.words(), {"b": "race-free"})
         note = "build b: 2 of 3 bundles have no accesses, so that there was nothing to compare: cut, idle"
         self.assertIn(f"note: {note}\n", ended.out)
         self.assertIn(note, self.page_text())
-        self.assertTrue(self.words("remark")["b"].startswith("3 bundles; 1 of 3 bundles cut; 2 bundles without accesses; listed "))
+        self.assertTrue(self.words("remark")["b"].startswith("3 bundles, 1 with cut chunks; 2 bundles without accesses; listed "))
 
 
 class Remarks(Case):
@@ -176,8 +177,8 @@ class Remarks(Case):
         self.judge("--remark-column", "remark", sheet=sheet, status=1, env={"SOURCE_DATE_EPOCH": "0"})
         listed = "listed 1970-01-01 00:00:00 UTC"
         self.assertEqual(self.words("remark"), {
-            "free": f"1 bundle; {listed}", "racy": f"races in 1 of 3 bundles; 1 of 3 bundles refused; {listed}",
-            "torn": f"1 of 1 bundle refused; {listed}", "empty": f"empty folder; {listed}", "none": f"no folder; {listed}",
+            "free": f"1 bundle; {listed}", "racy": f"1 race, 1 refused of 3; {listed}",
+            "torn": f"1 refused of 1; {listed}", "empty": f"empty folder; {listed}", "none": f"no folder; {listed}",
         })
         self.assertTrue(self.out.read_text().endswith("\n,\n"))
 
@@ -197,7 +198,9 @@ class Remarks(Case):
 
     def test_without_a_sheet(self):
         self.put("b", a=LATE)
-        ended = self.run_command("tray", self.tray, "--out", self.out, "--remark-column", "remark", env={"SOURCE_DATE_EPOCH": "0"})
-        self.assertEqual(ended.status, 0)
-        wanted = 'build,verdict,remark\nb,race-free,"1 bundle; number of bundles not announced; listed 1970-01-01 00:00:00 UTC"\n'
-        self.assertEqual(self.out.read_text(), wanted)
+        for more, said in ((), ""), (("--strict",), "number of bundles not announced; "):
+            arguments = ["tray", self.tray, "--out", self.out, "--remark-column", "remark", *more]
+            ended = self.run_command(*arguments, env={"SOURCE_DATE_EPOCH": "0"})
+            self.assertEqual(ended.status, 0)
+            wanted = f'build,verdict,remark\nb,race-free,"1 bundle; {said}listed 1970-01-01 00:00:00 UTC"\n'
+            self.assertEqual(self.out.read_text(), wanted)

@@ -1,4 +1,4 @@
-"""A tray that changes while it is judged: a word covers what was there when the tray was last listed.
+"""A tray that changes while it is judged: with --strict a word covers what was there when the tray was last listed.
 
 The changes are made by a second process, while a slow judge_build or racelist keeps the job busy.
 """
@@ -37,7 +37,7 @@ class ArrivalCase(Case):
         other = subprocess.Popen([sys.executable, "-c", wait + change], cwd=self.tray)
         self.addCleanup(other.wait)
         self.addCleanup(other.kill)
-        ended = self.judge(*more, sheet=sheet, programs_at=slow)
+        ended = self.judge("--strict", *more, sheet=sheet, programs_at=slow)
         if status is not None:
             self.assertEqual(ended.status, status, ended)
         return ended
@@ -198,7 +198,7 @@ class SheetChanges(ArrivalCase):
             "command_line.run(sys.argv[2:])\n"
         )
         environment = {**os.environ, "DEZHAKOM_PROGRAMS": str(setting.programs)}
-        arguments = ["tray", self.tray, "--sheet", self.sheet, "--out", self.sheet]
+        arguments = ["tray", self.tray, "--strict", "--sheet", self.sheet, "--out", self.sheet]
         ended = subprocess.run([sys.executable, "-c", text, ROOT, *arguments], capture_output=True, env=environment)
         self.assertEqual(ended.returncode, 1, ended)
         self.assertEqual(self.sheet.read_text(), "build,verdict\nb,race-free\nc,missing\n")
@@ -242,6 +242,6 @@ class Quiet(unittest.TestCase):
         )
         environment = {**os.environ, "DEZHAKOM_PROGRAMS": str(setting.programs)}
         ended = subprocess.run(
-            [sys.executable, "-c", text, ROOT, "tray", ROOT / "examples" / "tray", "--quiet"], capture_output=True, env=environment
+            [sys.executable, "-c", text, ROOT, "tray", ROOT / "examples" / "tray", "--strict", "--quiet"], capture_output=True, env=environment
         )
         self.assertGreaterEqual(float(ended.stdout.split()[-1]), 0.49)

@@ -186,7 +186,7 @@ def start_of(path):
 
 class Pages(PageCase):
     def note(self, build, there, named):
-        return f"build {build}: {there}, and the word is on what was logged: {named}"
+        return f"build {build}: {there} cut chunks, and the word is on what was logged: {named}"
 
     def test_races(self):
         stopped, whole = self.articles([STOPPED, EXAMPLE])
@@ -195,30 +195,29 @@ class Pages(PageCase):
         self.assertIn(">1.0 cut</text>", stopped)
         for mark in ("chunks are cut", 'class="z"', " cut</text>"):
             self.assertNotIn(mark, whole)
-        self.assertIn("<td>races in 2 of 2 bundles; 1 of 2 bundles cut; number of bundles not announced</td>", self.page_text())
-        self.assertIn(self.note("b", "1 of 2 bundles is from a stopped run", "000 (4 of 6 chunks cut)"), self.page_text())
+        self.assertIn("<td>2 race of 2, 1 with cut chunks</td>", self.page_text())
+        self.assertIn(self.note("b", "1 of 2 bundles has", "000 (4 of 6)"), self.page_text())
 
     def test_race_free(self):
         self.put("b", one=NOTHING, other=LATE)
-        ended = self.judge("--quiet", sheet="build,bundles\nb,2\n", status=0)
+        ended = self.judge("--quiet", sheet="build\nb\n", status=0)
         self.assertEqual(self.words(), {"b": "race-free"})
-        note = self.note("b", "1 of 2 bundles is from a stopped run", "one (3 of 3 chunks cut)")
-        idle = "build b: 1 of 2 bundles has no accesses, so that there was nothing to compare: one"
-        self.assertEqual(ended.out, f"note: {note}\nnote: {idle}\n")
+        note = self.note("b", "1 of 2 bundles has", "one (3 of 3)")
+        self.assertEqual(ended.out, f"note: {note}\n")
         self.assertIn(f"<li>{note}</li>", self.page_text())
-        self.assertIn("<td>2 bundles; 1 of 2 bundles cut; 1 bundle without accesses</td>", self.page_text())
+        self.assertIn("<td>2 bundles, 1 with cut chunks</td>", self.page_text())
 
     def test_without_cut_chunks(self):
         self.put("b", one=LATE)
-        ended = self.judge("--quiet", sheet="build,bundles\nb,1\n", status=0)
+        ended = self.judge("--quiet", sheet="build\nb\n", status=0)
         self.assertEqual(ended.out, "")
-        self.assertIn("<td>1 bundle</td>", self.page_text())
+        self.assertNotIn("with cut chunks", self.page_text())
         self.assertIn("A cut one was closed where the run was stopped", self.page_text())
 
     def test_many(self):
         self.put("b", **{f"x{k}": NOTHING for k in range(7)}, torn=NOTHING[:-1])
         ended = self.judge(sheet="build\nb\n", status=1)
-        self.assertIn(self.note("b", "7 of 8 bundles are from stopped runs", ", ".join(f"x{k} (3 of 3 chunks cut)" for k in range(5)) + " and 2 more"), ended.out)
+        self.assertIn(self.note("b", "7 of 8 bundles have", ", ".join(f"x{k} (3 of 3)" for k in range(5)) + " and 2 more"), ended.out)
 
     def test_a_file_changed_after_judging(self):
         path = self.folder / "x"

@@ -88,21 +88,6 @@ def many_races(rng, members=24):
     return generators.bundle_bytes(chunks)
 
 
-def page_of_changed(folder, data):
-    """The page of a build with the race of the example, if its file has these bytes when the page is made."""
-    from frontend import page
-    from frontend.programs import bundle_line
-
-    (folder / "a").write_bytes(data)
-    build = Build("b", os.fsencode(folder))
-    build.bundles = [Bundle("a", os.fsencode(folder / "a"), None)]
-    build.bundles[0].line = bundle_line(b"race chunks 3 segments 6 accesses 2 race 0000100a 1.0.0 10 1.1.0 20 pairs 1")
-    build.word = "race"
-    made = page.Page("tray", [build])
-    made.draw(None, 1)
-    return made.html([], 0).decode()
-
-
 class Pages(Case):
     def test_nothing_is_taken_for_markup(self):
         name = "<script>alert('1')<.script><img src=x onerror=alert(1)>\"&lt;"
@@ -151,7 +136,7 @@ class Pages(Case):
         self.assertIn("<mark>30</mark>", page)  # byte 31 of the torn example
         self.assertIn("<mark>ee</mark>", page)
         self.assertIn("end</mark>", page)
-        self.assertIn("it was truncated", page)
+        self.assertIn("it was torn", page)
 
     def test_many_races(self):
         self.put("b", a=many_races(random.Random(1)))
@@ -203,18 +188,22 @@ class Pages(Case):
             build.bundles.append(Bundle(name, str(folder / name), None))
             build.bundles[-1].line = bundle_line(line)
         build.word = "race"
-        made = page.Page("tray", [build])
-        made.draw(None, 1)
-        text = made.html([], 0).decode()
+        text = page.Page("tray", [build], []).html().decode()
         Markup(self, text)
         self.assertIn("2 bundles more", text)
         self.assertIn("2 bundles got one line each", text)
 
     def test_a_file_changed_after_judging(self):
-        self.assertIn("no longer the one that was judged", page_of_changed(self.put("b"), b"\x01\x02"))
+        programs = self.faulty_programs(
+            f"lines = real(names)\nopen({str(self.tray / 'b' / 'a')!r}, 'wb').write(b'\\x01\\x02')\n[say(x) for x in lines]\n"
+        )
+        self.put("b", a=EXAMPLE)
+        self.judge(sheet="build\nb\n", status=1, programs_at=programs)
+        self.assertEqual(self.words(), {"b": "race"})
+        self.assertIn("no longer the one that was judged", self.page_text())
 
-    def test_refusals_are_those_of_the_format(self):
-        rows = readme_lines.table(readme_lines.document("docs/FORMAT.md"), "| N | What")
+    def test_refusals_are_those_of_the_readme(self):
+        rows = readme_lines.table(readme_lines.readme(), "| N | What")
         for number, wrong, place, advice in rows:
             mine = refusals.REFUSALS[int(number)]
             self.assertEqual((mine.place, mine.advice), (place, advice))
@@ -319,7 +308,7 @@ class Single(Case):
             (EXAMPLE, 0, "accepted chunks 3 segments 6 accesses 2\n"),
             (TORN, 1, "refused 3 at 31: It ends inside a command. Ask for it again.\n"),
             (b"", 1, "refused 10 at 0: The log is empty. Part of the log is still to come: wait for it, or ask for it.\n"),
-            (EXAMPLE[:44], 1, "refused 4 at 44: It ends inside a member's log: it was truncated. Ask for it again.\n"),
+            (EXAMPLE[:44], 1, "refused 4 at 44: It ends inside a member's log: it was torn. Ask for it again.\n"),
         ):
             path.write_bytes(data)
             self.assertEqual(self.run_command("check", path), (status, said, ""))
@@ -408,3 +397,36 @@ class Single(Case):
             environment = {**os.environ, "DEZHAKOM_PROGRAMS": str(setting.programs)}
             ended = subprocess.run(["sh", "-c", line], capture_output=True, cwd=self.folder, env=environment)
             self.assertEqual((ended.stdout.count(b"\n"), ended.stderr), (1, b""))
+
+
+class Splitting(Case):
+    """The lines of docs/TRAY.md for more than one machine, as they stand there, give the words of the whole tray."""
+
+    def setUp(self):
+        super().setUp()
+        self.tray = self.tray.rename(self.folder / "TRAY")
+        self.wanted = {"build 0": "race", "build 1": "race-free", "build 2": "refused", "build 3": "missing", "build 4": "refused"}
+        for k, data in enumerate((EXAMPLE, LATE, TORN)):
+            self.put(f"build {k}", a=data, b=LATE)
+        self.put("build 3")
+        (self.put("build 4", a=LATE) / "inner").mkdir()
+        (self.folder / "target").mkdir()
+        (self.folder / "target" / "bin").symlink_to(setting.programs)
+        (self.folder / "dezhakom").symlink_to(SCRIPT)
+        text = (ROOT / "docs" / "TRAY.md").read_text(encoding="utf-8")
+        blocks = re.findall(r"(?:^    .*\n)+", text[text.index("## More than one machine") :], re.MULTILINE)
+        self.xargs, self.slurm = ("".join(line[4:] for line in block.splitlines(True)) for block in blocks)
+
+    def run_lines(self, lines, **environment):
+        environment = {**os.environ, "DEZHAKOM_PROGRAMS": str(setting.programs), **environment}
+        return subprocess.run(["sh", "-c", lines], cwd=self.folder, capture_output=True, text=True, env=environment).stdout
+
+    def test_xargs(self):
+        words = dict(line.rsplit(",", 1) for line in self.run_lines(self.xargs).splitlines())
+        self.assertEqual(words, self.wanted)
+
+    def test_slurm(self):
+        for part in range(10):
+            self.run_lines(self.slurm, SLURM_ARRAY_TASK_ID=str(part))
+        lines = [line for out in (self.folder / "parts").glob("*.csv") for line in out.read_text().splitlines()[1:]]
+        self.assertEqual({name.strip('"'): word for name, word in (line.split(",") for line in lines)}, self.wanted)

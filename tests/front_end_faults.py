@@ -93,8 +93,8 @@ class Faults(Case):
         )
         self.put("b", a=LATE, b=LATE)
         ended = self.judge("--jobs", "1", sheet="build\nb\nz gone\n", status=1, programs_at=programs)
-        self.assertEqual(self.words(), {"b": "race-free", "z gone": "missing"})
-        self.assertIn("build z gone changed while it was judged, and was judged again", ended.out)
+        self.assertEqual(self.words(), {"b": "race-free", "z gone": "refused"})
+        self.assertIn("the folder cannot be entered", ended.out)
 
     def test_a_program_that_cannot_start(self):
         programs = self.faulty_programs("")

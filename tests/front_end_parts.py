@@ -60,7 +60,7 @@ class Joining(PartCase):
         content = self.content(self.parts / "1")
         self.assertEqual((content["tray"], content["part"], content["parts"]), (str(self.tray), 1, 1))
         words = {build["name"]: (build["word"], build["remark"]) for build in content["builds"]}
-        self.assertEqual(words["racy"], ("race", "races in 1 of 2 bundles; listed 1970-01-01 00:00:00 UTC"))
+        self.assertEqual(words["racy"], ("race", "1 race of 2; listed 1970-01-01 00:00:00 UTC"))
 
 
 class Refused(PartCase):
@@ -125,6 +125,8 @@ class Refused(PartCase):
         self.assertEqual(ended.status, 1)
 
     def test_an_empty_tray(self):
+        for part in (1, 2, 3):
+            self.judge_part(part, 3, more=["--strict"])
         shutil.rmtree(self.tray)
         self.tray.mkdir()
         self.assert_refused("no build of the sheet has a folder")
@@ -163,7 +165,7 @@ class Stale(PartCase):
     def test_a_tray_that_changes_while_a_part_is_judged(self):
         programs = self.faulty_programs("time.sleep(0.7)\n[say(x) for x in real(names)]\n")
         self.parts.mkdir(exist_ok=True)
-        command = [sys.executable, SCRIPT, "tray", self.tray, "--sheet", self.sheet, "--part", "1/1", "--out", self.parts / "1"]
+        command = [sys.executable, SCRIPT, "tray", self.tray, "--strict", "--sheet", self.sheet, "--part", "1/1", "--out", self.parts / "1"]
         process = subprocess.Popen(command, env={**os.environ, "DEZHAKOM_PROGRAMS": str(programs)}, stdout=subprocess.PIPE)
         time.sleep(0.5)
         (self.tray / "free" / "late").write_bytes(EXAMPLE)
@@ -256,7 +258,7 @@ class Files(PartCase):
         outside.mkdir()
         (self.tray / "linked").symlink_to(outside)
         for part in (1, 2):
-            ended = self.judge_part(part, 2, outside / "p", more=["--follow-links"])
+            ended = self.judge_part(part, 2, outside / "p", more=["--strict", "--follow-links"])
             self.assertEqual((ended.status, (outside / "p").exists()), (2, False))
 
 
@@ -273,7 +275,7 @@ class Options(PartCase):
     def test_what_the_parts_were_judged_with(self):
         """Names left out and links followed are those of the parts, in joining too; parts that differ in them are not joined."""
         (self.tray / "free" / ".DS_Store").write_bytes(b"")
-        more = ("--ignore", ".DS_Store")
+        more = ("--strict", "--ignore", ".DS_Store")
         wanted = self.one_run(*more)
         for part in (1, 2):
             self.judge_part(part, 2, more=more)

@@ -111,7 +111,7 @@ class Checking(RowsCase):
         self.assertEqual((ended.status, ended.err, ended.out.count("\n")), (1, "", 1), ended)
         line, text = index + 2, lambda record: ",".join(map(str, record))
         if index == len(given):
-            self.assertIn(f"Record {index} is missing after line {line - 1} of {self.csv}: {text(right[index])}; ", ended.out)
+            self.assertIn(f"Record {index} is missing behind line {line - 1} of {self.csv}: {text(right[index])}; ", ended.out)
         elif index == len(right):
             self.assertIn(f"Record {index}, in line {line} of {self.csv}, is extra: the bundle has {len(right)} record", ended.out)
         else:
@@ -141,7 +141,7 @@ class Checking(RowsCase):
         ended = self.check(EXAMPLE, "sep=,\n" + E_TEXT.replace("1,1,2,1,44", "1,1,2,1,43"))
         self.assertIn("Record 4, in line 7 of ", ended.out)
         ended = self.check(EXAMPLE, "\n".join(E_TEXT.splitlines()[:3]) + "\n\n\n")
-        self.assertIn("Record 2 is missing after line 3 of ", ended.out)
+        self.assertIn("Record 2 is missing behind line 3 of ", ended.out)
 
     def test_refused_bundles(self):
         for data, number, place in ((TORN, 3, 31), (b"", 10, 0), (bytes(70000), 1, 0)):
@@ -247,7 +247,7 @@ class Files(RowsCase):
             (HEADING + "0,0,0,0,1,0,4,5\n\n1,0,0,0,2,1,13,13\n", "line 3 has 1 cell, not 8"),
             (HEADING + "0,0,0,0,1,0,4,5\n,,,,,,,\n1,0,0,0,2,1,13,13\n", "line 3, column 1 (pid)"),
             (HEADING + '0,0,0,0,1,0,4,"5\n', "line 2", "never closed"),
-            (HEADING + '0,0,0,0,1,0,4,"5"5\n', "line 2", "after a closing quote"),
+            (HEADING + '0,0,0,0,1,0,4,"5"5\n', "line 2", "behind a closing quote"),
             (HEADING + "0;0;0;0;1;0;4;5\n", "line 2 has 1 cell, not 8"),
         ):
             self.assert_not_read(text, *pieces)

@@ -44,7 +44,7 @@ for line in real(names):
 def recipes():
     """The indented blocks of the section: Slurm's, then GNU parallel's, each as its commands."""
     text = (ROOT / "docs" / "TRAY.md").read_text(encoding="utf-8")
-    section = text.split("\n## More than one machine\n")[1].split("\n## ")[0]
+    section = text.split("\n## A tray in parts\n")[1].split("\n## ")[0]
     blocks = re.findall(r"(?:^    .*\n)+", section, re.MULTILINE)
     return [textwrap.dedent(block).replace("\\\n", "").splitlines() for block in blocks[:2]]
 

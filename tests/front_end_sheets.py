@@ -106,15 +106,8 @@ class Sheets(Case):
             ("name,x\nfree,1\n", "no column 'build'"),
             ("build,Build,BUILD\n".replace("build,", "BUild,"), "two columns"),
             ("build,verdict,Verdict,verdict\nfree,,,\n", "two columns"),
-            ("build,Verdict,verdict\nfree,race,\n", "two columns 'verdict': 'Verdict' and 'verdict'"),
-            ("build,x,Build \nfree,,racy\n", "two columns 'build': 'build' and 'Build '"),
-            ("build,bundles,BUNDLES\nfree,1,2\n", "two columns 'bundles'"),
-            (workbook("[Content_Types].xml", "xl/workbook.xml"), "an Excel workbook (.xlsx), not CSV: save it as CSV"),
-            (workbook("mimetype", "content.xml"), "an OpenDocument spreadsheet (.ods), not CSV"),
-            (workbook("readme.txt"), "a ZIP archive, not CSV"),
-            (bytes.fromhex("d0cf11e0a1b11ae1") + bytes(600), "an Excel workbook (.xls), not CSV"),
             ('build,x\nfree,"1\nracy,2\n', "never closed"),
-            ('build,x\nfree,"1\nracy,"2"\n', "after a closing quote"),
+            ('build,x\nfree,"1\nracy,"2"\n', "behind a closing quote"),
             ("build\nfree\n".encode("utf-16"), "UTF-16"),
             (b"build" + bytes(20), "no text"),
         ):
@@ -124,6 +117,20 @@ class Sheets(Case):
                 self.assertFalse(self.out.exists())
         ended = self.judge("--verdict-column", "build", sheet="build\nfree\n", status=2)
         self.assertIn("are the same", ended.err)
+
+    def test_doubled_columns_and_workbooks(self):
+        for sheet, message in (
+            ("build,Verdict,verdict\nfree,race,\n", "two columns 'verdict': 'Verdict' and 'verdict'"),
+            ("build,x,Build \nfree,,racy\n", "two columns 'build': 'build' and 'Build '"),
+            ("build,bundles,BUNDLES\nfree,1,2\n", "two columns 'bundles'"),
+            (workbook("[Content_Types].xml", "xl/workbook.xml"), "an Excel workbook (.xlsx), not CSV: save it as CSV"),
+            (workbook("mimetype", "content.xml"), "an OpenDocument spreadsheet (.ods), not CSV"),
+            (workbook("readme.txt"), "a ZIP archive, not CSV"),
+            (bytes.fromhex("d0cf11e0a1b11ae1") + bytes(600), "an Excel workbook (.xls), not CSV"),
+        ):
+            with self.subTest(sheet=sheet):
+                self.assertIn(message, self.judge(sheet=sheet, status=2).err)
+                self.assertFalse(self.out.exists())
 
     def test_new_cells_are_no_formulas(self):
         """A spreadsheet program would compute a cell that begins so."""
@@ -187,7 +194,7 @@ class EmptyTrays(Case):
         self.out.write_text("old")
 
     def assert_nothing(self, message, *more, **others):
-        ended = self.judge(*more, status=2, **others)
+        ended = self.judge("--strict", *more, status=2, **others)
         self.assertIn(message, ended.err)
         self.assertEqual((self.out.read_text(), self.page.exists()), ("old", False))
 
@@ -195,12 +202,13 @@ class EmptyTrays(Case):
         self.assert_nothing("no build of the sheet has a folder", sheet="build\na\nb\n")
         self.put("other", a=LATE)
         self.assert_nothing("no build of the sheet has a folder", sheet="build\na\nb\n")
-        self.judge("--allow-empty", sheet="build\na\nb\n", status=1)
-        self.assertEqual(self.words(), {"a": "missing", "b": "missing"})
+        for more in (("--strict", "--allow-empty"), ()):
+            self.judge(*more, sheet="build\na\nb\n", status=1)
+            self.assertEqual(self.words(), {"a": "missing", "b": "missing"})
 
     def test_one_build_has_a_folder(self):
         self.put("a")
-        self.judge(sheet="build\na\nb\n", status=1)
+        self.judge("--strict", sheet="build\na\nb\n", status=1)
         self.assertEqual(self.words(), {"a": "missing", "b": "missing"})
 
     def test_the_folder_of_a_build_given_as_the_tray(self):

@@ -7,7 +7,7 @@ import unittest
 
 import generators
 import second_reader as sr
-from front_end_details import PageCase, many_races, page_of_changed
+from front_end_details import PageCase, many_races
 from front_end_setting import EXAMPLE, ROOT, Case
 from frontend import bundles
 from frontend.page import races_each
@@ -205,9 +205,13 @@ class Pages(PageCase):
         }
         for what, data in other.items():
             with self.subTest(what=what):
-                page = page_of_changed(self.put("b"), data)
-                self.assertIn("no longer the one that was judged", page)
-                self.assertEqual(told_on_page(page), [])
+                self.put("b", a=EXAMPLE)
+                path = str(self.tray / "b" / "a")
+                programs = self.faulty_programs(f"lines = real(names)\nopen({path!r}, 'wb').write({data!r})\n[say(x) for x in lines]\n")
+                self.judge(sheet="build\nb\n", status=1, programs_at=programs)
+                self.assertEqual(self.words(), {"b": "race"})
+                self.assertIn("no longer the one that was judged", self.page_text())
+                self.assertEqual(told_on_page(self.page_text()), [])
 
 
 # ----------------------------------------------------------------------- show

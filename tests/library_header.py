@@ -52,10 +52,10 @@ def header_functions():
 
 
 def source_functions():
-    """The same of crates/exports/src, with the types of the source."""
+    """The same of crates/exports/src and crates/exports_c/src, with the types of the source."""
     found = {}
-    form = re.compile(r"#\[no_mangle\]\s*pub extern \"C\" fn (\w+)\((.*?)\)(?:\s*->\s*(\w+))?\s*(?:ensures|\{)", re.DOTALL)
-    for path in sorted((ROOT / "crates" / "exports" / "src").glob("*.rt")):
+    form = re.compile(r"#\[unsafe\(no_mangle\)\]\s*pub extern \"C\" fn (\w+)\((.*?)\)(?:\s*->\s*(\w+))?\s*(?:ensures|\{)", re.DOTALL)
+    for path in sorted((ROOT / "crates").glob("exports*/src/*.rt")):
         for name, words, result in form.findall(path.read_text()):
             parameters = [word.split(":", 1) for word in words.split(",") if word.strip()]
             found[name] = result, [(kind.strip(), parameter.strip()) for parameter, kind in parameters]

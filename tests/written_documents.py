@@ -1,4 +1,4 @@
-"""What documents have from the sources: docs/LAWS.md as a whole, and parts of docs/INTERNALS.md and docs/FORMAT.md.
+"""What documents have from the sources: docs/LAWS.md as a whole, and a part of docs/ARCHITECTURE.md.
 
 A part begins at a line "<!-- NAME: written by tests/write_documents -->" and ends at "<!-- end of NAME -->".
 """
@@ -10,13 +10,8 @@ from pathlib import Path
 sys.dont_write_bytecode = True
 ROOT = Path(__file__).resolve().parent.parent
 CRATES = ROOT / "crates"
-sys.path.insert(0, str(ROOT))
-
-from frontend import refusals
-
 LAWS = "docs/LAWS.md"
-INTERNALS = "docs/INTERNALS.md"
-FORMAT = "docs/FORMAT.md"
+ARCHITECTURE = "docs/ARCHITECTURE.md"
 
 
 def text_of(path):
@@ -25,7 +20,7 @@ def text_of(path):
 
 def crates():
     """All crates, each after those that it uses."""
-    return re.findall(r"^(\w+):", text_of(ROOT / "crates.txt"), re.MULTILINE)
+    return re.findall(r"^(\w+)(?: staticlib)?:", text_of(ROOT / "crates.txt"), re.MULTILINE)
 
 
 def first_comment(path):
@@ -40,14 +35,17 @@ def first_comment(path):
 
 # --------------------------------------------------------------------- laws
 
+# Files of a function's proof, in proofs/MODULE/FUNCTION: its answers and invariants, and Proof in the older Rattle.
+OF_FUNCTIONS = ("Answers", "Invariants", "Proof")
+
 LAWS_BEGIN = """# Laws by file
 
 Every file of laws in `crates/*/proofs/`, with its first comment. `tests/write_documents` writes this page; `tests/check_documents`
 checks that it is up to date.
 
 Each crate has two lists. *Laws and results* build on the definitions and on each other; no proof of a function cites them directly. Laws
-that are *cited by proofs of functions* say, case by case, why the code meets its contract. The proof of a function `f` of module `m` is
-`proofs/m/f/Proof.antt`. [PROVED.md](PROVED.md) has the statements that a user relies on, and [INTERNALS.md](INTERNALS.md), "Laws", the
+that are *cited by proofs of functions* say, case by case, why the code meets its contract. The proof of a function `f` of module `m` is in
+the folder `proofs/m/f`. [PROVED.md](PROVED.md) has the statements that a user relies on, and [INTERNALS.md](INTERNALS.md), "Laws", the
 order in which they build on each other.
 """
 
@@ -57,7 +55,7 @@ def law_files():
     found = {}
     for path in CRATES.glob("*/proofs/**/*.antt"):
         inner = path.relative_to(CRATES / path.relative_to(CRATES).parts[0] / "proofs")
-        if path.stem not in ("Lib", "Proof"):
+        if path.stem != "Lib" and not (path.stem in OF_FUNCTIONS and len(inner.parts) > 2):
             found[path.relative_to(CRATES).parts[0], str(inner.with_suffix(""))] = path
     return found
 
@@ -65,9 +63,10 @@ def law_files():
 def cited_by_functions(crate):
     """The names of the laws of a crate that some function's proof cites, of this crate or of another."""
     cited = set()
-    for path in CRATES.glob("*/proofs/*/*/Proof.antt"):
-        for words in re.findall(rf"Rattle·{crate}(?:·proofs)?\.proofs\.([\w.]+?)(?:\.\{{| |$)", text_of(path), re.MULTILINE):
-            cited.add(words.replace(".", "/"))
+    for path in CRATES.glob("*/proofs/*/*/**/*.antt"):
+        if path.stem in OF_FUNCTIONS:
+            for words in re.findall(rf"Rattle[·.]{crate}(?:·proofs)?\.proofs\.([\w.]+?)(?:\.\{{| |$)", text_of(path), re.MULTILINE):
+                cited.add(words.replace(".", "/"))
     return cited
 
 
@@ -145,7 +144,7 @@ def lines_believed():
     files = definition_files()
     counted = {key: lines_of(path) for key, path in files.items()}
     kinds = {key: kind_of(key, path) for key, path in files.items()}
-    rows = ["| Crate | Trusted base | Not trusted |", "|---|---|---|"]
+    rows = ["| Crate | To be believed | Apart |", "|---|---|---|"]
     for crate in crates():
         def cell(kind):
             return ", ".join(f"{key[1]} {counted[key]}" for key in sorted(files) if key[0] == crate and kinds[key] == kind)
@@ -159,27 +158,15 @@ def lines_believed():
         raise SystemExit(f"written_documents: demand 3 does not rest on {gone}, which are not there")
     whole, demand = (sum(counted[key] for key in chosen) for chosen in (layers, layers - NOT_FOR_DEMAND_3))
     without = ", ".join(f"`{crate}/specs/{name}`" for crate, name in sorted(NOT_FOR_DEMAND_3))
-    rows += ["", f"The three layers `bundle`, `order` and `verdict` have {whole} lines in the trusted base."]
+    rows += ["", f"The three layers `bundle`, `order` and `verdict` have {whole} lines to be believed."]
     rows.append(f"Demand 3 rests on {demand} of them, those without {without}.")
-    return "\n".join(rows) + "\n"
-
-
-# ------------------------------------------------------------------ refusals
-
-
-def refused_logs():
-    """What the front end says of each number that a log can be refused with."""
-    rows = ["| N | What is wrong with the log | P | What to do |", "|---|---|---|---|"]
-    for number, words in refusals.REFUSALS.items():
-        rows.append(f"| {number} | {words.wrong} | {words.place} | {words.advice} |")
     return "\n".join(rows) + "\n"
 
 
 # ------------------------------------------------------------------ documents
 
 PARTS = {
-    (INTERNALS, "lines to be believed"): lines_believed,
-    (FORMAT, "refused logs"): refused_logs,
+    (ARCHITECTURE, "lines to be believed"): lines_believed,
 }
 
 

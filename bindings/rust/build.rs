@@ -24,7 +24,7 @@ fn by_pkg_config() -> Option<PathBuf> {
     (output.status.success() && !folder.trim().is_empty()).then(|| PathBuf::from(folder.trim()))
 }
 
-/// What `rt staticlib exports` has built, under the library's name.
+/// What `tools/build_programs` has built, under the library's name.
 fn by_repository() -> Option<PathBuf> {
     let built = Path::new(&env::var_os("CARGO_MANIFEST_DIR")?).join("../../target/staticlib/libexports.a");
     println!("cargo:rerun-if-changed={}", built.display());

@@ -7,6 +7,6 @@ fn main() -> Result<(), Box<dyn std::error::Error>> {
     for race in &listing {
         println!("{race}");
     }
-    println!("races: {}, accesses: {}", listing.len(), listing.counts().accesses);
+    println!("{} races in {} accesses", listing.len(), listing.counts().accesses);
     Ok(())
 }

@@ -9,8 +9,7 @@ use bundle::check::{Found, check, find_ends};
 use bundle::refusal::number;
 
 // Whether the bytes are a bundle.
-#[unsafe(no_mangle)]
-pub extern "C" fn dezhakom_check(bytes: &[u8], place: &mut usize) -> u32
+pub fn dezhakom_check(bytes: &[u8], place: &mut usize) -> u32
     ensures { check_told (check_of bytes.now) ≡ record { number = result; place = place.new; answer = tt } }
 {
     match check(bytes) {
@@ -26,8 +25,7 @@ pub extern "C" fn dezhakom_check(bytes: &[u8], place: &mut usize) -> u32
 }
 
 // Where a member's chunk begins, and where it ends: the offset of its MEMBER, and the offset after its END or CUT.
-#[unsafe(no_mangle)]
-pub extern "C" fn dezhakom_find_chunk(
+pub fn dezhakom_find_chunk(
     bytes: &[u8],
     team: u16,
     member: u8,

@@ -57,8 +57,7 @@ fn command_words(command: Command) -> [u32; 9]
 }
 
 // The command at a position, its operands in range, and the position after it.
-#[unsafe(no_mangle)]
-pub extern "C" fn dezhakom_read_command(
+pub fn dezhakom_read_command(
     bytes: &[u8],
     position: usize,
     command: &mut [u32; 9],
@@ -201,8 +200,7 @@ fn put_words(words: &[u32; 9], buffer: &mut [u8], position: usize) -> Putting
 }
 
 // Puts a command's bytes into the buffer at a position; the position after it.
-#[unsafe(no_mangle)]
-pub extern "C" fn dezhakom_put_command(
+pub fn dezhakom_put_command(
     command: &[u32; 9],
     buffer: &mut [u8],
     position: usize,

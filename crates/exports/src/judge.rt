@@ -51,8 +51,7 @@ fn judgement_words(judgement: Judgement) -> [u32; 16]
 }
 
 // Judges a bundle.
-#[unsafe(no_mangle)]
-pub extern "C" fn dezhakom_judge(
+pub fn dezhakom_judge(
     bytes: &[u8],
     work: &mut [u32],
     judgement: &mut [u32; 16],
@@ -75,8 +74,7 @@ pub extern "C" fn dezhakom_judge(
 }
 
 // Whether there is a race above a witness and two names, and the least one.
-#[unsafe(no_mangle)]
-pub extern "C" fn dezhakom_next_race(
+pub fn dezhakom_next_race(
     bytes: &[u8],
     witness: u32,
     first_team: u16,

@@ -37,8 +37,7 @@ fn label_words(label: Label) -> [u32; 16]
 }
 
 // The label of a member's segment; its triples past the count are 0.
-#[unsafe(no_mangle)]
-pub extern "C" fn dezhakom_label_of_segment(
+pub fn dezhakom_label_of_segment(
     bytes: &[u8],
     team: u16,
     member: u8,
@@ -109,8 +108,7 @@ fn order_number(order: Order) -> u32
 }
 
 // How the first label stands to the second.
-#[unsafe(no_mangle)]
-pub extern "C" fn dezhakom_compare_labels(
+pub fn dezhakom_compare_labels(
     first: &[u32; 16],
     second: &[u32; 16],
     order: &mut u32,

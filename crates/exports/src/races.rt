@@ -22,8 +22,7 @@ fn totals_words(totals: Totals, whole: u32) -> [u32; 5]
 }
 
 // Lists all races of a bundle: `numbers` has a number for each, in their order, and `names` two words for each access, by which they are read.
-#[unsafe(no_mangle)]
-pub extern "C" fn dezhakom_list_races(
+pub fn dezhakom_list_races(
     bytes: &[u8],
     work: &mut [u32],
     names: &mut [u64],
@@ -55,8 +54,7 @@ pub extern "C" fn dezhakom_list_races(
 }
 
 // The race that a number stands for.
-#[unsafe(no_mangle)]
-pub extern "C" fn dezhakom_race_in(names: &[u64], number: u64, race: &mut [u32; 11])
+pub fn dezhakom_race_in(names: &[u64], number: u64, race: &mut [u32; 11])
     ensures { race.new ≡ race_words (race_in names.now number) }
 {
     *race = race_words(race_in(names, number));

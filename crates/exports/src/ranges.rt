@@ -8,8 +8,7 @@ use bundle::refusal::number;
 use order::range::{Shared, lowest_shared_byte};
 
 // Whether two ranges share a byte, the lowest one, and the lowest element of each that covers it.
-#[unsafe(no_mangle)]
-pub extern "C" fn dezhakom_lowest_shared_byte(
+pub fn dezhakom_lowest_shared_byte(
     base: u32,
     stride: u16,
     count: u16,

@@ -8,7 +8,7 @@ use native.Mathlib.Decide.{dec_lt}
 use native.Mathlib.Omega.{arith}
 use borrow.Author.Tests.{ltb-true}
 use lib.Dec.{ltb}
-use lib.ListN.{length, get_or}
+use lib.ListN.{length}
 use Rattle.bundle.proofs.Tests.{and_left, and_right}
 use Rattle.verdict.specs.declared.race.Race.{Race}
 use Rattle.text.specs.Digits.{ascii, hexadecimal}

@@ -1,5 +1,5 @@
 -- What the export and the checker answer, by the records that are laid out in words.
-use Prim.Native.Nat.{ℕ, zero, suc, ◌+◌, ◌≤◌, ◌<◌}
+use Prim.Native.Nat.{ℕ, zero, suc, ◌≤◌, ◌<◌}
 use mathlib.Core.Path.{◌≡◌, refl, sym, ◌∙◌, ap}
 use mathlib.Core.Bool.{Bool, true, false, cond, ◌&&◌}
 use mathlib.Core.List.{List, [], ◌∷◌, ◌++◌}
@@ -21,9 +21,6 @@ use Rattle.rows.specs.Slots.{row_in}
 use Rattle.rows.specs.Planning.{LaidOut, put_over, written_of, exported_of, comparable, told_of}
 use Rattle.rows.specs.declared.row.Row.{Row}
 use Rattle.rows.specs.declared.plan.Layout.{Layout}
-use Rattle.rows.specs.declared.export.Exporting.{Exporting}
-use Rattle.rows.specs.declared.export.Exporting.TheVariants as Exportings
-use Rattle.rows.specs.declared.checker.RowChecking.{RowChecking}
 use Rattle.rows.specs.declared.checker.RowChecking.TheVariants as Checkings
 
 -- the export

@@ -19,7 +19,7 @@ use Rattle.bundle.specs.Index.{table_from, table}
 use Rattle.bundle.specs.declared.index.Fork.{Fork}
 use Rattle.bundle.proofs.Tests.{false-is-true, is_false}
 use Rattle.bundle.proofs.ListLaws.{Distinct, distinct_head, distinct_tail, concat_map-elim}
-use Rattle.bundle.proofs.Tables.{table_more, table_same, table_none, table-length, table-in}
+use Rattle.bundle.proofs.Tables.{table_more, table_same, table_none, table-in}
 use Rattle.bundle.proofs.SegmentRuns.{member-range}
 use Rattle.bundle.proofs.Onward.{legible}
 use Rattle.verdict.specs.Accesses.{lex_less}
@@ -31,7 +31,6 @@ use Rattle.rewrite.proofs.WordOrder.{from-elim, from-intro}
 use Rattle.rows.specs.Rows.{Interval, interval_name, intervals_in, intervals_of, row_of, rows_of}
 use Rattle.rows.specs.Slots.{Slot, name_word, held_in, row_made, slot_at, row_in}
 use Rattle.rows.specs.Passing.{slot_of_interval, slots_from, listed, Listed, Sorted}
-use Rattle.rows.specs.declared.row.Row.{Row}
 use Rattle.rows.proofs.IntervalNames.{chunk-runs, run-names, names-distinct}
 
 -- team, member and interval as one number

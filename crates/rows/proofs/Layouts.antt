@@ -1,5 +1,5 @@
 -- The records of a bundle laid out: what the functions of the plan need of each other.
-use Prim.Native.Nat.{ℕ, ◌/◌, ◌≤◌}
+use Prim.Native.Nat.{ℕ, ◌≤◌}
 use mathlib.Core.Path.{◌≡◌, sym, ◌∙◌, ap, subst}
 use mathlib.Core.Bool.{Bool}
 use mathlib.Core.List.{List, ◌++◌}
@@ -9,18 +9,14 @@ use lib.Seq.{length-take-le, length_front}
 use Rattle.sorting.specs.Order.{sorted, sorting}
 use Rattle.sorting.proofs.Insertion.{sorted-length}
 use Rattle.bundle.specs.Answer.{gives, refuses, number_of}
-use Rattle.bundle.specs.Chunks.{chunks_of}
-use Rattle.bundle.specs.Walk.{forks_of}
 use Rattle.bundle.specs.Check.{check_of, Accepted}
 use Rattle.bundle.specs.Index.{fork_row_at, table, Indexed}
 use Rattle.bundle.specs.Shape.{ByTeam}
-use Rattle.bundle.specs.declared.answer.Checking.{Checking}
 use Rattle.bundle.specs.declared.answer.Checking.TheVariants as Checks
 use Rattle.bundle.specs.declared.refusal.Cause.{Cause}
 use Rattle.bundle.proofs.TeamOrder.{sorting-sorts}
 use Rattle.rows.specs.Passing.{Listable, Listed, Sorted}
 use Rattle.rows.specs.Planning.{RowsHeld, LaidOut}
-use Rattle.rows.specs.declared.plan.Layout.{Layout}
 use Rattle.rows.proofs.IntervalOrder.{rows-laid}
 
 pub front-sorted :

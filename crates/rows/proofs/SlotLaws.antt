@@ -1,13 +1,12 @@
 -- The words of records: a record written behind the others.
-use Prim.Native.Nat.{ℕ, ◌+◌, ◌*◌, ◌/◌, ◌%◌, ◌≤◌, ◌<◌}
+use Prim.Native.Nat.{ℕ, ◌+◌, ◌*◌, ◌/◌, ◌%◌, ◌<◌}
 use mathlib.Core.Path.{◌≡◌, refl, sym, ◌∙◌, ap}
-use mathlib.Core.List.{List, [], ◌∷◌, ◌++◌, append-nil}
+use mathlib.Core.List.{List, [], ◌∷◌, append-nil}
 use native.Mathlib.Omega.{arith}
 use native.Mathlib.Nat.{add-zero}
 use lib.ListN.{length, get_or, set, length-set}
 use lib.Seq.{lt-length-set, get_or-set_same, get_or-set_other}
 use Rattle.bundle.specs.Index.{parts_of, table, Added}
-use Rattle.bundle.specs.declared.index.Parts.{Parts}
 use Rattle.bundle.proofs.Tables.{table-added}
 use Rattle.rows.specs.Slots.{Slot, row_made, name_word, slot_made, first_parts, second_parts, held_in, slot_at, Grown}
 use Rattle.rows.specs.declared.row.Row.{Row}

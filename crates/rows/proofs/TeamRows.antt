@@ -5,16 +5,13 @@ use mathlib.Core.List.{List}
 use mathlib.Core.Option.{none, some}
 use native.Mathlib.Omega.{arith}
 use native.Mathlib.Numerals.{add-one}
-use lib.ListN.{length}
 use Rattle.sorting.specs.Searching.{first_with_key}
-use Rattle.bundle.specs.Lists.{from_option}
 use Rattle.bundle.specs.Check.{fork_of, size_of, depth_from}
 use Rattle.bundle.specs.Index.{fork_row_at, table}
 use Rattle.bundle.specs.Shape.{slot_of, ByTeam}
 use Rattle.bundle.specs.declared.index.Fork.{Fork}
 use Rattle.order.proofs.Climbs.{fork-none, fork-some}
 use Rattle.rows.specs.Passing.{parent_of, team_row_of}
-use Rattle.rows.specs.declared.row.TeamRow.{TeamRow}
 
 module _ (forks : List ℕ) (n t slot : ℕ) (e : slot ≡ slot_of (table (fork_row_at forks) n) t) where
   pub parent-none : n ≤ slot → 0 ≡ parent_of (table (fork_row_at forks) n) t

@@ -1,5 +1,5 @@
 -- Inner: what the functions of the export and of the checker promise each other.
-use Rattle.std.specs.Prelude.{ℕ, ◌+◌, ◌≤◌, ◌≡◌, Bool, cond, ◌&&◌, List, ◌++◌, length, drop, eqb, ltb}
+use Rattle.std.specs.Prelude.{ℕ, ◌+◌, ◌≤◌, ◌≡◌, cond, ◌&&◌, List, ◌++◌, length, drop, eqb, ltb}
 use Rattle.bundle.specs.Check.{check_of, checking_of, Accepted}
 use Rattle.bundle.specs.Index.{table}
 use Rattle.bundle.specs.declared.answer.Checking.{Checking}

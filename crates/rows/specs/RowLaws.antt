@@ -1,5 +1,5 @@
 -- What the rows of an accepted bundle are, as one statement.
-use Rattle.std.specs.Prelude.{ℕ, ◌+◌, ◌*◌, ◌≤◌, ◌<◌, ◌≡◌, ◌↔◌, true, false, length, take, drop, get_or}
+use Rattle.std.specs.Prelude.{ℕ, ◌+◌, ◌*◌, ◌≤◌, ◌<◌, ◌≡◌, ◌↔◌, length, take, drop, get_or}
 use mathlib.Core.List.{List, [], ◌∷◌, ◌++◌, map, Memᴰ}
 use Rattle.bundle.specs.Answer.{gives, refuses}
 use Rattle.bundle.specs.Commands.{Bytes}
@@ -8,7 +8,7 @@ use Rattle.bundle.specs.Walk.{Segment, segments_in, of_chunk, of_barrier, barrie
 use Rattle.bundle.specs.Index.{total}
 use Rattle.bundle.specs.Check.{Accepted}
 use Rattle.rewrite.specs.FixedOrder.{Ascending}
-use Rattle.rows.specs.Rows.{Interval, intervals_in, interval_name, intervals_of, rows_of, export_of, check_rows_of, same_row, agreeing}
+use Rattle.rows.specs.Rows.{Interval, intervals_in, interval_name, intervals_of, rows_of, export_of, check_rows_of, agreeing}
 use Rattle.rows.specs.declared.row.Row.{Row}
 
 -- intervals whose data follow each other without a gap, from an offset to another, none of them empty

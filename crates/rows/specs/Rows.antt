@@ -1,5 +1,5 @@
 -- SWORD's interval rows (A.7): one record for each barrier interval, put into a lent list; and given records checked.
-use Rattle.std.specs.Prelude.{ℕ, zero, suc, ◌+◌, ◌-◌, Bool, false, true, cond, ◌&&◌, ◌||◌, List, [], ◌∷◌, ◌++◌, map, length, drop, eqb, ltb}
+use Rattle.std.specs.Prelude.{ℕ, suc, ◌+◌, ◌-◌, Bool, false, true, cond, ◌&&◌, ◌||◌, List, [], ◌∷◌, ◌++◌, map, length, drop, eqb, ltb}
 use Rattle.bundle.specs.Answer.{Answer, gives, refuses, when_given, number_of}
 use Rattle.bundle.specs.Lists.{concat_map, from_option}
 use Rattle.bundle.specs.Commands.{bytes_of}

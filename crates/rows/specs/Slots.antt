@@ -1,5 +1,5 @@
 -- Inner: the words that hold records, each with the number by which records are ordered.
-use Rattle.std.specs.Prelude.{ℕ, ◌+◌, ◌*◌, ◌/◌, ◌%◌, ◌≡◌, List, [], ◌∷◌, ◌++◌, length, get_or}
+use Rattle.std.specs.Prelude.{ℕ, ◌+◌, ◌*◌, ◌/◌, ◌%◌, ◌≡◌, List, ◌++◌, length, get_or}
 use Rattle.bundle.specs.Index.{parts_of, table}
 use Rattle.bundle.specs.declared.index.Parts.{Parts}
 use Rattle.rows.specs.declared.row.Row.{Row}

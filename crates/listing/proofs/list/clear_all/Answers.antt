@@ -1,5 +1,4 @@
 -- `listing::list::clear_all` meets its contract. Assumes nothing.
-use borrow.Author.Rules.{rules}
 use Rattle.listing.proofs.list.clear_all.Goals as goal
 
 pub returns : goal.returns

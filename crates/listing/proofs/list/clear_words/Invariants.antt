@@ -1,11 +1,8 @@
 -- `listing::list::clear_words` meets its contract. The invariant: the words passed are 0, the others as they were. The measure: those left. Assumes nothing.
-use mathlib.Core.Path.{◌≡◌, refl, ap, ◌∙◌}
-use Prim.Native.Nat.{ℕ, ◌≤◌, ◌-◌}
-use mathlib.Core.List.{List, ◌++◌}
-use lib.ListN.{length, set, drop, replicate, length-set}
-use borrow.Author.Fill.{fill_more}
-use Rattle.verdict.proofs.JudgeCases.{cleared}
-use borrow.Author.Rules.{rules}
+use mathlib.Core.Path.{◌≡◌}
+use Prim.Native.Nat.{◌≤◌, ◌-◌}
+use mathlib.Core.List.{◌++◌}
+use lib.ListN.{length, drop, replicate}
 use Rattle.listing.proofs.list.clear_words.Given as goal
 
 abbrev pub invariant-loop-i : goal.invariant-loop-i

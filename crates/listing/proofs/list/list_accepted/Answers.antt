@@ -1,7 +1,6 @@
 -- `listing::list::list_accepted` meets its contract. Assumes nothing.
 use mathlib.Core.Path.{refl, sym}
 use native.Mathlib.Omega.{arith}
-use borrow.Author.Rules.{rules}
 use Rattle.listing.proofs.ListCases.{ordered-in, ordered-fits, races-few, kept}
 use Rattle.listing.proofs.list.list_accepted.Goals as goal
 

@@ -3,7 +3,6 @@ use mathlib.Core.Path.{refl, sym}
 use Rattle.bundle.proofs.CheckCases.{indexed-accepted, indexed-refused}
 use Rattle.verdict.proofs.JudgeCases.{regions-of}
 use Rattle.listing.proofs.ListCases.{listed-as, listed-readable, listing-refused}
-use borrow.Author.Rules.{rules}
 use Rattle.listing.proofs.list.list_in.Goals as goal
 
 pub slice_bounds-list_accepted-end : goal.slice_bounds-list_accepted-end

@@ -1,6 +1,5 @@
 -- `listing::list::list_races` meets its contract. Assumes nothing.
 use Rattle.listing.proofs.ListCases.{listing-small, listing-large}
-use borrow.Author.Rules.{rules}
 use Rattle.listing.proofs.list.list_races.Goals as goal
 
 pub returns-then-work-lt-WORK_WORDS : goal.returns-then-work-lt-WORK_WORDS

@@ -1,6 +1,5 @@
 -- `listing::list::order_area` meets its contract. Assumes nothing.
 use native.Mathlib.Omega.{arith}
-use borrow.Author.Rules.{rules}
 use Rattle.verdict.proofs.JudgeCases.{rows-room}
 use Rattle.listing.proofs.list.order_area.Goals as goal
 

@@ -1,5 +1,4 @@
 -- `listing::list::push_area` meets its contract. Assumes nothing.
-use borrow.Author.Rules.{rules}
 use Rattle.listing.proofs.list.push_area.Goals as goal
 
 pub push_all-requires : goal.push_all-requires

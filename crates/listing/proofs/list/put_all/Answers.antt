@@ -1,7 +1,6 @@
 -- `listing::list::put_all` meets its contract. Assumes nothing.
 use mathlib.Core.Path.{sym}
 use lib.Seq.{length-take-le}
-use borrow.Author.Rules.{rules}
 use Rattle.listing.proofs.SettleLaws.{all-put}
 use Rattle.listing.proofs.list.put_all.Goals as goal
 

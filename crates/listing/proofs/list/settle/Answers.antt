@@ -1,6 +1,4 @@
 -- `listing::list::settle` meets its contract. Assumes nothing.
-use borrow.Author.Rules.{rules}
-use borrow.Author.Tests.{not-true, not-false}
 use Rattle.listing.proofs.SettleLaws.{settled-none, settled-all, fitting-parts}
 use Rattle.listing.proofs.list.settle.Goals as goal
 

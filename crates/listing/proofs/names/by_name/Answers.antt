@@ -1,7 +1,6 @@
 -- `listing::names::by_name` meets its contract. Assumes nothing.
 use mathlib.Core.Path.{sym}
 use native.Mathlib.Omega.{arith}
-use borrow.Author.Rules.{rules}
 use Rattle.listing.proofs.RankLaws.{words_long, copied-front}
 use Rattle.listing.proofs.names.by_name.Goals as goal
 

@@ -1,7 +1,5 @@
 -- `listing::names::copy_rows` meets its contract. The invariant: the rows passed are copied. The measure: those left. Assumes nothing.
-use Prim.Native.Nat.{◌≤◌, ◌-◌}
 use native.Mathlib.Omega.{arith}
-use Rattle.listing.specs.Ranking.{Copied}
 use Rattle.verdict.proofs.AccessRows.{row-slim}
 use Rattle.listing.proofs.RankLaws.{copied_none, copied_more, copied_all}
 use borrow.Author.Rules.{rules}

@@ -1,10 +1,8 @@
 -- `listing::names::fill_words` meets its contract. The invariant: the words of the accesses passed stand in front, the others are as they were. The measure: those left. Assumes nothing.
-use mathlib.Core.Path.{◌≡◌, ◌∙◌, ap}
-use Prim.Native.Nat.{◌≤◌, ◌-◌, ◌+◌, ◌*◌}
-use mathlib.Core.List.{◌++◌}
+use mathlib.Core.Path.{◌∙◌, ap}
+use Prim.Native.Nat.{◌+◌, ◌*◌}
 use native.Mathlib.Omega.{arith}
-use lib.ListN.{length, drop, length-set}
-use Rattle.bundle.specs.Index.{table}
+use lib.ListN.{length-set}
 use Rattle.verdict.specs.Tallying.{packed, row_name}
 use Rattle.verdict.specs.declared.rows.AccessRow.{AccessRow}
 use Rattle.listing.specs.Ranking.{name_word}
@@ -28,13 +26,12 @@ bounds-words-i c =
     omega (arith, c.loop-i.invariant.1, c.loop-i-test.true, c.requires.1)
 
 pub loop-i-preserved : goal.loop-i-preserved
-loop-i-preserved c =
-    (
-      search rules,
-      length-set c.loop-i.words c.loop-i.i _ ∙ c.loop-i.invariant.1,
-      table-more-yet (name_word _) _ c.loop-i.words c.loop-i.i _ (omega (arith, c.loop-i-test.true, c.requires.1)) c.loop-i.invariant.2
-          (c.name_word.ensures ∙ ap (λ (r : AccessRow). packed (row_name r) * 1024 + c.loop-i.i) c.access_at.ensures),
-    )
+loop-i-preserved c = (
+  search rules,
+  length-set c.loop-i.words c.loop-i.i _ ∙ c.loop-i.invariant.1,
+  table-more-yet (name_word _) _ c.loop-i.words c.loop-i.i _ (omega (arith, c.loop-i-test.true, c.requires.1)) c.loop-i.invariant.2
+      (c.name_word.ensures ∙ ap (λ (r : AccessRow). packed (row_name r) * 1024 + c.loop-i.i) c.access_at.ensures),
+)
 
 pub returns : goal.returns
 returns c = table-all (name_word _) _ c.loop-i.i _ c.loop-i.invariant.0 c.loop-i-test.false c.loop-i.invariant.2

@@ -1,15 +1,10 @@
 -- `listing::names::fill_words` meets its contract. The invariant: the words of the accesses passed stand in front, the others are as they were. The measure: those left. Assumes nothing.
-use mathlib.Core.Path.{◌≡◌, ◌∙◌, ap}
-use Prim.Native.Nat.{◌≤◌, ◌-◌, ◌+◌, ◌*◌}
+use mathlib.Core.Path.{◌≡◌}
+use Prim.Native.Nat.{◌≤◌, ◌-◌}
 use mathlib.Core.List.{◌++◌}
-use native.Mathlib.Omega.{arith}
-use lib.ListN.{length, drop, length-set}
+use lib.ListN.{length, drop}
 use Rattle.bundle.specs.Index.{table}
-use Rattle.verdict.specs.Tallying.{packed, row_name}
-use Rattle.verdict.specs.declared.rows.AccessRow.{AccessRow}
 use Rattle.listing.specs.Ranking.{name_word}
-use Rattle.listing.proofs.Fronts.{table-none-yet, table-more-yet, table-all}
-use borrow.Author.Rules.{rules}
 use Rattle.listing.proofs.names.fill_words.Given as goal
 
 abbrev pub invariant-loop-i : goal.invariant-loop-i

@@ -1,5 +1,4 @@
 -- `listing::names::order_words` meets its contract. Assumes nothing.
-use borrow.Author.Rules.{rules}
 use Rattle.listing.proofs.RankLaws.{words-in, words-part, words-ordered}
 use Rattle.listing.proofs.names.order_words.Goals as goal
 

@@ -1,5 +1,4 @@
 -- `listing::names::put_access` meets its contract. Assumes nothing.
-use borrow.Author.Rules.{rules}
 use Rattle.listing.proofs.names.put_access.Goals as goal
 
 pub returns : goal.returns

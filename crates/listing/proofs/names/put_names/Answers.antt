@@ -1,10 +1,8 @@
 -- `listing::names::put_names` meets its contract. The invariant: the words of the accesses passed stand in front, the others are as they were. The measure: those left. Assumes nothing.
-use mathlib.Core.Path.{◌≡◌, sym, ◌∙◌, ap}
-use Prim.Native.Nat.{◌≤◌, ◌+◌, ◌-◌, ◌*◌}
-use mathlib.Core.List.{◌++◌}
+use mathlib.Core.Path.{sym, ◌∙◌, ap}
+use Prim.Native.Nat.{◌+◌, ◌*◌}
 use native.Mathlib.Omega.{arith}
-use lib.ListN.{length, set, drop, length-set}
-use Rattle.bundle.specs.Index.{table}
+use lib.ListN.{length, set, length-set}
 use Rattle.verdict.specs.declared.rows.AccessRow.{AccessRow}
 use Rattle.listing.specs.Ranking.{side_of_row, spot_of_row, word_of}
 use Rattle.listing.proofs.Fronts.{table-none-yet, table-two-more, table-all}

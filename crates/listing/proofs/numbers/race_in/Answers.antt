@@ -1,5 +1,4 @@
 -- `listing::numbers::race_in` meets its contract. Assumes nothing.
-use borrow.Author.Rules.{rules}
 use Rattle.listing.specs.Listing.{race_in}
 use Rattle.listing.proofs.numbers.race_in.Goals as goal
 

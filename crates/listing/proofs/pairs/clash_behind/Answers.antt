@@ -1,5 +1,4 @@
 -- `listing::pairs::clash_behind` meets its contract. Assumes nothing.
-use borrow.Author.Rules.{rules}
 use borrow.Author.Tests.{lt-ltb, le-ltb}
 use native.Mathlib.Omega.{arith}
 use Rattle.listing.proofs.pairs.clash_behind.Goals as goal

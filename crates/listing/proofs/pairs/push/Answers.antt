@@ -1,5 +1,4 @@
 -- `listing::pairs::push` meets its contract. Assumes nothing.
-use borrow.Author.Rules.{rules}
 use Rattle.listing.proofs.PushLaws.{push-out, push-in}
 use Rattle.listing.proofs.pairs.push.Goals as goal
 

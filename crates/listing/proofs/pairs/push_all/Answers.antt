@@ -1,7 +1,6 @@
 -- `listing::pairs::push_all` meets its contract. Assumes nothing.
 use Prim.Native.Nat.{ℕ}
 use lib.ListN.{length-replicate}
-use borrow.Author.Rules.{rules}
 use Rattle.verdict.proofs.LinkLaws.{all-around}
 use Rattle.listing.proofs.pairs.push_all.Goals as goal
 

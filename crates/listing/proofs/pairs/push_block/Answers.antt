@@ -1,6 +1,4 @@
 -- `listing::pairs::push_block` meets its contract. Assumes nothing.
-use borrow.Author.Rules.{rules}
-use borrow.Author.Tests.{not-true}
 use Rattle.listing.proofs.BlockLaws.{none-met}
 use Rattle.listing.proofs.pairs.push_block.Goals as goal
 

@@ -1,5 +1,4 @@
 -- `listing::pairs::push_clash` meets its contract. Assumes nothing.
-use borrow.Author.Rules.{rules}
 use Rattle.verdict.proofs.PairCases.{byte_fits}
 use Rattle.listing.proofs.PushLaws.{byte-pushed, byte-none}
 use Rattle.listing.proofs.pairs.push_clash.Goals as goal

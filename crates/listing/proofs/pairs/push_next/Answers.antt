@@ -1,6 +1,4 @@
 -- `listing::pairs::push_next` meets its contract. Assumes nothing.
-use borrow.Author.Rules.{rules}
-use borrow.Author.Tests.{not-true, not-false}
 use Rattle.verdict.specs.Working.{access_row_at}
 use Rattle.listing.proofs.PushLaws.{next-none, next-pushed}
 use Rattle.listing.proofs.pairs.push_next.Goals as goal

@@ -1,8 +1,6 @@
 -- `listing::pairs::push_passing` meets its contract. The invariant: the accesses passed are compared, and the bits of the others are left. The measure: those left. Assumes nothing.
-use Prim.Native.Nat.{◌≤◌, ◌-◌}
 use borrow.Author.Rules.{rules}
-use Rattle.verdict.specs.Linking.{forks_in}
-use Rattle.listing.proofs.BlockLaws.{PassTo, pass-none, pass_fits, pass-more, pass-stops, pass-ends}
+use Rattle.listing.proofs.BlockLaws.{pass-none, pass_fits, pass-more, pass-stops, pass-ends}
 use Rattle.listing.proofs.pairs.push_passing.Goals as goal
 
 pub loop-j-init : goal.loop-j-init

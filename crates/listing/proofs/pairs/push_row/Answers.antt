@@ -1,10 +1,6 @@
 -- `listing::pairs::push_row` meets its contract. The invariant: the accesses of the blocks passed are compared. The measure: the blocks left. Assumes nothing.
 use native.Mathlib.Omega.{arith}
-use Prim.Native.Nat.{◌*◌, ◌≤◌, ◌-◌, min}
-use borrow.Author.Rules.{rules}
-use Rattle.verdict.specs.Linking.{forks_in}
 use Rattle.verdict.proofs.LinkLaws.{around-below}
-use Rattle.listing.specs.Pushing.{Pushes, row_numbers}
 use Rattle.listing.proofs.PushLaws.{pushes-length}
 use Rattle.listing.proofs.BlockLaws.{blocks-none, block-fits, block_in, blocks_more, blocks-all}
 use Rattle.listing.proofs.pairs.push_row.Goals as goal
@@ -33,11 +29,10 @@ pub loop-block-smaller : goal.loop-block-smaller
 loop-block-smaller c = omega (arith, c.requires.0.few, c.loop-block-test.true)
 
 pub loop-block-preserved : goal.loop-block-preserved
-loop-block-preserved c =
-    (
-      omega (arith, c.requires.0.few, c.loop-block-test.true),
-      blocks_more _ _ _ _ _ _ _ c.loop-block.numbers _ c.loop-block.block c.loop-block.invariant.1 c.loop-block-test.true c.block_end.ensures c.push_block-count.ensures,
-    )
+loop-block-preserved c = (
+  omega (arith, c.requires.0.few, c.loop-block-test.true),
+  blocks_more _ _ _ _ _ _ _ c.loop-block.numbers _ c.loop-block.block c.loop-block.invariant.1 c.loop-block-test.true c.block_end.ensures c.push_block-count.ensures,
+)
 
 pub shape_of-numbers : goal.shape_of-numbers
 shape_of-numbers c = pushes-length c.loop-block.invariant.1

@@ -1,10 +1,7 @@
 -- `listing::pairs::push_rows` meets its contract. The invariant: the accesses passed are compared with those behind them. The measure: those left. Assumes nothing.
 use Prim.Native.Nat.{◌≤◌, ◌-◌}
-use borrow.Author.Rules.{rules}
 use Rattle.verdict.specs.Linking.{forks_in}
 use Rattle.listing.specs.Pushing.{Pushes, all_numbers}
-use Rattle.listing.proofs.PushLaws.{pushes-length}
-use Rattle.listing.proofs.BlockLaws.{all_none, all-count, all_more, all-all}
 use Rattle.listing.proofs.pairs.push_rows.Given as goal
 
 abbrev pub invariant-loop-i : goal.invariant-loop-i

@@ -1,10 +1,9 @@
 -- `pages::fill::fill_with` meets its contract. The invariant: the page so far. The measure: the lines left. Assumes nothing.
-use borrow.Author.Rules.{rules}
 use mathlib.Core.Path.{◌≡◌}
 use Prim.Native.Nat.{◌-◌}
 use lib.ListN.{length}
 use Rattle.pages.specs.Listings.{lines_in}
-use Rattle.pages.proofs.Paging.{PageTo, page-begun, page-length, fill-ended, fill-gone-on, fill-full}
+use Rattle.pages.proofs.Paging.{PageTo}
 use Rattle.pages.proofs.fill.fill_with.Given as goal
 
 abbrev pub invariant-loop-next : goal.invariant-loop-next

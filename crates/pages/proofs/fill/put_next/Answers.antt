@@ -1,5 +1,4 @@
 -- `pages::fill::put_next` meets its contract. Assumes nothing.
-use borrow.Author.Rules.{rules}
 use Rattle.pages.proofs.Paging.{next-written, next-refused}
 use Rattle.pages.proofs.fill.put_next.Goals as goal
 

@@ -1,5 +1,4 @@
 -- `pages::line::put_last` meets its contract. Assumes nothing.
-use borrow.Author.Rules.{rules}
 use Rattle.pages.proofs.Indexing.{last-free, last-pairs}
 use Rattle.text.proofs.Printing.{printed-as}
 use Rattle.pages.proofs.line.put_last.Goals as goal

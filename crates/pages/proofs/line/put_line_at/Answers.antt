@@ -1,5 +1,4 @@
 -- `pages::line::put_line_at` meets its contract. Assumes nothing.
-use borrow.Author.Rules.{rules}
 use Rattle.pages.proofs.Indexing.{line_first, race-read, at-race, at_last, at_none, printed-none}
 use Rattle.text.proofs.Printing.{printed-as}
 use Rattle.pages.proofs.line.put_line_at.Goals as goal

@@ -1,6 +1,5 @@
 -- `pages::line::put_number` meets its contract. Assumes nothing.
 use mathlib.Core.Path.{sym, ap, ◌∙◌}
-use borrow.Author.Rules.{rules}
 use Rattle.text.specs.Lines.{race_line}
 use Rattle.text.proofs.Printing.{printed-as}
 use Rattle.pages.proofs.Texts.{made-line}

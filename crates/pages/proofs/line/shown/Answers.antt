@@ -1,5 +1,4 @@
 -- `pages::line::shown` meets its contract. Assumes nothing.
-use borrow.Author.Rules.{rules}
 use Rattle.pages.proofs.Indexing.{shown-few, shown-all}
 use Rattle.pages.proofs.line.shown.Goals as goal
 

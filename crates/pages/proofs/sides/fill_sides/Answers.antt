@@ -1,7 +1,5 @@
 -- `pages::sides::fill_sides` meets its contract. The invariant: the texts of the ranks passed. The measure: the ranks left. Assumes nothing.
 use borrow.Author.Rules.{rules}
-use Prim.Native.Nat.{◌≤◌, ◌-◌}
-use Rattle.pages.specs.Inner.{Sides}
 use Rattle.pages.proofs.Texts.{sides-none, sides_all}
 use Rattle.pages.proofs.sides.fill_sides.Goals as goal
 

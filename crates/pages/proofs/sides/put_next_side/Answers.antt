@@ -1,5 +1,4 @@
 -- `pages::sides::put_next_side` meets its contract. Assumes nothing.
-use borrow.Author.Rules.{rules}
 use Rattle.pages.proofs.Texts.{sides-more}
 use Rattle.pages.proofs.sides.put_next_side.Goals as goal
 

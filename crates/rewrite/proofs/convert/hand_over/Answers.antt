@@ -1,5 +1,4 @@
 -- `rewrite::convert::hand_over` meets its contract. Assumes nothing.
-use borrow.Author.Rules.{rules}
 use Rattle.rewrite.proofs.ConvertPass.{handed-short, handed-over}
 use Rattle.rewrite.proofs.convert.hand_over.Goals as goal
 

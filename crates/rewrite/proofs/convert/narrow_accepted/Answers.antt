@@ -1,7 +1,6 @@
 -- `rewrite::convert::narrow_accepted` meets its contract. Assumes nothing.
 use mathlib.Core.Path.{◌∙◌}
 use native.Mathlib.Omega.{arith}
-use borrow.Author.Rules.{rules}
 use Rattle.rewrite.proofs.ConvertPass.{measured-long, narrow-over, narrow-filled, narrow-convertible}
 use Rattle.rewrite.proofs.convert.narrow_accepted.Goals as goal
 

@@ -1,13 +1,10 @@
 -- `rewrite::convert::put_all` meets its contract. The invariant: what is written, with the rest of the commands, is the whole. The measure: the
 -- bytes left. Assumes nothing.
-use Prim.Native.Nat.{◌-◌}
 use mathlib.Core.Path.{sym, ◌∙◌, ap}
 use native.Mathlib.Omega.{arith}
-use lib.ListN.{length}
-use borrow.Author.Rules.{rules}
 use Rattle.bundle.specs.Commands.{reading_of}
 use Rattle.bundle.proofs.Passing.{fewer-left}
-use Rattle.rewrite.proofs.ConvertPass.{PutTo, put-start, puttable, put_on, put-turn, put-end, put-read}
+use Rattle.rewrite.proofs.ConvertPass.{put-start, puttable, put_on, put-turn, put-end, put-read}
 use Rattle.rewrite.proofs.convert.put_all.Goals as goal
 
 pub loop-at-init : goal.loop-at-init

@@ -1,5 +1,4 @@
 -- `rewrite::convert::put_regrouped` meets its contract. Assumes nothing.
-use borrow.Author.Rules.{rules}
 use Rattle.rewrite.proofs.ConvertPass.{put_next, put-taken}
 use Rattle.rewrite.proofs.convert.put_regrouped.Goals as goal
 

@@ -1,6 +1,5 @@
 -- `rewrite::convert::size_in` meets its contract. Assumes nothing.
 use mathlib.Core.Path.{sym, ap}
-use borrow.Author.Rules.{rules}
 use mathlib.Core.Bool.{true, false}
 use lib.ListN.{length}
 use Rattle.bundle.specs.Commands.{low_first, form_of, code_of, widths_of, operand_bytes, bytes_of}

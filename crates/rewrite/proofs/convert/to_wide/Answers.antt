@@ -2,7 +2,6 @@
 use mathlib.Core.Path.{sym, ◌∙◌, ap}
 use mathlib.Core.Bool.{true}
 use native.Mathlib.Omega.{arith}
-use borrow.Author.Rules.{rules}
 use Rattle.bundle.specs.Check.{checking_of}
 use Rattle.rewrite.proofs.Conversions.{conversion}
 use Rattle.rewrite.proofs.ConvertPass.{convert-refused}

@@ -1,7 +1,6 @@
 -- `rewrite::convert::widen_accepted` meets its contract. Assumes nothing.
 use mathlib.Core.Path.{◌∙◌}
 use native.Mathlib.Omega.{arith}
-use borrow.Author.Rules.{rules}
 use Rattle.rewrite.proofs.ConvertPass.{measured-long, wide-too-long, wide-filled, wide-convertible}
 use Rattle.rewrite.proofs.convert.widen_accepted.Goals as goal
 

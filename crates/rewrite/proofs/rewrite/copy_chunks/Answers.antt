@@ -1,7 +1,5 @@
 -- `rewrite::rewrite::copy_chunks` meets its contract. The invariant: the chunks of the words passed are copied. The measure: the words left. Assumes nothing.
-use Prim.Native.Nat.{◌-◌}
-use lib.ListN.{length}
-use Rattle.rewrite.proofs.Pieces.{CopiedTo, copied_none, row_fits, piece-fits, copied_more, copied_all}
+use Rattle.rewrite.proofs.Pieces.{copied_none, row_fits, piece-fits, copied_more, copied_all}
 use borrow.Author.Rules.{rules}
 use Rattle.rewrite.proofs.rewrite.copy_chunks.Goals as goal
 

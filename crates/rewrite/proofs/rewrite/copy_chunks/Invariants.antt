@@ -1,8 +1,7 @@
 -- `rewrite::rewrite::copy_chunks` meets its contract. The invariant: the chunks of the words passed are copied. The measure: the words left. Assumes nothing.
 use Prim.Native.Nat.{◌-◌}
 use lib.ListN.{length}
-use Rattle.rewrite.proofs.Pieces.{CopiedTo, copied_none, row_fits, piece-fits, copied_more, copied_all}
-use borrow.Author.Rules.{rules}
+use Rattle.rewrite.proofs.Pieces.{CopiedTo}
 use Rattle.rewrite.proofs.rewrite.copy_chunks.Given as goal
 
 abbrev pub invariant-loop-i : goal.invariant-loop-i

@@ -1,8 +1,5 @@
 -- `rewrite::rewrite::number_chunks` meets its contract. The invariant: the words of the chunks passed are written. The measure: those left. Assumes nothing.
-use Prim.Native.Nat.{◌≤◌, ◌-◌}
-use mathlib.Core.Path.{◌≡◌, refl, sym}
-use lib.ListN.{length, take}
-use Rattle.bundle.specs.Index.{table}
+use mathlib.Core.Path.{refl, sym}
 use Rattle.bundle.proofs.Tables.{table_none}
 use Rattle.bundle.proofs.TeamOrder.{written-more, written_all}
 use Rattle.rewrite.specs.Words.{chunk_word}

@@ -1,12 +1,9 @@
 -- `rewrite::rewrite::number_chunks` meets its contract. The invariant: the words of the chunks passed are written. The measure: those left. Assumes nothing.
 use Prim.Native.Nat.{◌≤◌, ◌-◌}
-use mathlib.Core.Path.{◌≡◌, refl, sym}
+use mathlib.Core.Path.{◌≡◌}
 use lib.ListN.{length, take}
 use Rattle.bundle.specs.Index.{table}
-use Rattle.bundle.proofs.Tables.{table_none}
-use Rattle.bundle.proofs.TeamOrder.{written-more, written_all}
 use Rattle.rewrite.specs.Words.{chunk_word}
-use borrow.Author.Rules.{rules}
 use Rattle.rewrite.proofs.rewrite.number_chunks.Given as goal
 
 abbrev pub invariant-loop-i : goal.invariant-loop-i

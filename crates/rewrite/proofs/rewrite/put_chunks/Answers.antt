@@ -1,7 +1,6 @@
 -- `rewrite::rewrite::put_chunks` meets its contract. Assumes nothing.
 use Rattle.bundle.proofs.TeamOrder.{front-is}
 use Rattle.rewrite.proofs.WordOrder.{for-length}
-use borrow.Author.Rules.{rules}
 use Rattle.rewrite.proofs.rewrite.put_chunks.Goals as goal
 
 pub slice_bounds-put_in_order-end : goal.slice_bounds-put_in_order-end

@@ -1,7 +1,6 @@
 -- `rewrite::rewrite::put_in_order` meets its contract. Assumes nothing.
 use native.Mathlib.Omega.{arith}
 use Rattle.rewrite.proofs.WordOrder.{ordered-fit, ordered-put}
-use borrow.Author.Rules.{rules}
 use Rattle.rewrite.proofs.rewrite.put_in_order.Goals as goal
 
 pub copy_chunks-requires : goal.copy_chunks-requires

@@ -4,7 +4,6 @@ use native.Mathlib.Omega.{arith}
 use Rattle.bundle.proofs.CheckCases.{indexed-accepted, indexed-refused}
 use Rattle.rewrite.proofs.FixedChunks.{fixed-order}
 use Rattle.rewrite.proofs.WordOrder.{by_index, rewrite-accepted, rewrite-refused}
-use borrow.Author.Rules.{rules}
 use Rattle.rewrite.proofs.rewrite.rewrite.Goals as goal
 
 pub slice_bounds-rewrite_accepted-end : goal.slice_bounds-rewrite_accepted-end

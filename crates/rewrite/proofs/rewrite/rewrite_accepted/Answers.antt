@@ -1,7 +1,6 @@
 -- `rewrite::rewrite::rewrite_accepted` meets its contract. Assumes nothing.
 use native.Mathlib.Omega.{arith}
 use Rattle.rewrite.proofs.WordOrder.{filling-short, filling-written}
-use borrow.Author.Rules.{rules}
 use Rattle.rewrite.proofs.rewrite.rewrite_accepted.Goals as goal
 
 pub returns-then-buffer-bytes : goal.returns-then-buffer-bytes

@@ -13,6 +13,6 @@ pub loop-i-preserved : goal.loop-i-preserved
 loop-i-preserved c = (
   omega arith,
   c.same_after-same.ensures
-  ∙ rw (c.row_at.ensures, c.loop-i.invariant.1, add-one)
-  (sym (agrees-more _ (row_in c.args.words.now) c.loop-i.i c.args.rows.now (omega (arith, c.requires, c.loop-i-test.true)))),
+      ∙ rw (c.row_at.ensures, c.loop-i.invariant.1, add-one)
+      (sym (agrees-more _ (row_in c.args.words.now) c.loop-i.i c.args.rows.now (omega (arith, c.requires, c.loop-i-test.true)))),
 )

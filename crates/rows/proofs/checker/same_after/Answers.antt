@@ -1,6 +1,5 @@
 -- `rows::checker::same_after` meets its contract. Assumes nothing.
 use Rattle.rows.specs.Planning.{same_after}
-use borrow.Author.Rules.{rules}
 use Rattle.rows.proofs.checker.same_after.Goals as goal
 
 pub returns-then-same-i : goal.returns-then-same-i

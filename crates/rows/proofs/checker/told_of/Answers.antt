@@ -1,7 +1,4 @@
 -- `rows::checker::told_of` meets its contract. Assumes nothing.
-use borrow.Author.Tests.{lt-ltb, le-ltb}
-use mathlib.Core.Path.{sym, ap}
-use borrow.Author.Rules.{rules}
 use Rattle.rows.proofs.checker.told_of.Goals as goal
 
 pub returns-then-same-count : goal.returns-then-same-count

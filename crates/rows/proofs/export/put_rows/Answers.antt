@@ -11,5 +11,5 @@ pub loop-i-preserved : goal.loop-i-preserved
 loop-i-preserved c = (
   omega arith,
   rw (c.row_at.ensures, c.loop-i.invariant.1, add-one)
-  (put-more c.args.words.now c.loop-i.i c.args.rows.now (omega (arith, c.requires, c.loop-i-test.true))),
+      (put-more c.args.words.now c.loop-i.i c.args.rows.now (omega (arith, c.requires, c.loop-i-test.true))),
 )

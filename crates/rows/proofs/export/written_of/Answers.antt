@@ -1,6 +1,5 @@
 -- `rows::export::written_of` meets its contract. Assumes nothing.
 use borrow.Author.Tests.{lt-ltb, le-ltb}
-use borrow.Author.Rules.{rules}
 use Rattle.rows.proofs.export.written_of.Goals as goal
 
 pub returns-then-room-count : goal.returns-then-room-count

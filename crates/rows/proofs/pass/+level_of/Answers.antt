@@ -1,8 +1,6 @@
 -- `rows::pass::level_of` meets its contract. The measure: the climbs that are left. Assumes nothing.
 use native.Mathlib.Omega.{arith}
-use borrow.Author.Rules.{rules}
 use Rattle.rows.proofs.TeamRows.{level-none, level-ends, level-goes}
-use Prim.Native.Nat.{ℕ, ◌<◌}
 use Rattle.rows.proofs.pass.+level_of.Goals as goal
 
 pub returns-then-most-eq0 : goal.returns-then-most-eq0

@@ -1,8 +1,4 @@
 -- `rows::pass::level_of` meets its contract. The measure: the climbs that are left. Assumes nothing.
-use native.Mathlib.Omega.{arith}
-use borrow.Author.Rules.{rules}
-use Rattle.rows.proofs.TeamRows.{level-none, level-ends, level-goes}
-use Prim.Native.Nat.{ℕ, ◌<◌}
 use Rattle.rows.proofs.pass.+level_of.Given as goal
 
 abbrev pub decreases-level_of : goal.decreases-level_of

@@ -1,9 +1,7 @@
 -- `rows::pass::close` meets its contract. Assumes nothing.
 use mathlib.Core.Path.{refl}
-use native.Mathlib.Omega.{arith}
 use Rattle.rows.specs.Passing.{span_here, closed_at}
 use Rattle.rows.proofs.SlotLaws.{grown-one}
-use borrow.Author.Rules.{rules}
 use Rattle.rows.proofs.pass.close.Goals as goal
 
 pub add_row-requires : goal.add_row-requires

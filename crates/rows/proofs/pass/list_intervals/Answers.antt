@@ -1,13 +1,9 @@
 -- `rows::pass::list_intervals` meets its contract. The invariant: what the words hold, with what the rest of the commands adds, is the whole.
 -- The measure: the bytes left. Assumes nothing.
-use Prim.Native.Nat.{◌-◌}
 use mathlib.Core.Path.{sym, ◌∙◌, ap}
 use native.Mathlib.Omega.{arith}
-use lib.ListN.{length}
-use borrow.Author.Rules.{rules}
 use Rattle.bundle.specs.Commands.{reading_of}
-use Rattle.bundle.specs.Index.{table, fork_row_at}
-use Rattle.rows.proofs.Running.{Running, running-start, running-read, running-notable, running-less, running-turn, running-end}
+use Rattle.rows.proofs.Running.{running-start, running-read, running-notable, running-less, running-turn, running-end}
 use Rattle.rows.proofs.pass.list_intervals.Goals as goal
 
 pub loop-course-init : goal.loop-course-init

@@ -1,6 +1,5 @@
 -- `rows::pass::note` meets its contract. Assumes nothing.
 use Rattle.rows.proofs.NoteCases.{end-ends, barrier-ends, cut-ends, noted-member, noted-region, noted-acquire, noted-release, noted-access, noted-end, noted-barrier, noted-cut}
-use borrow.Author.Rules.{rules}
 use Rattle.rows.proofs.pass.note.Goals as goal
 
 pub close-requires : goal.close-requires

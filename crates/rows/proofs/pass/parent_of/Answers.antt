@@ -1,6 +1,5 @@
 -- `rows::pass::parent_of` meets its contract. Assumes nothing.
 use Rattle.rows.proofs.TeamRows.{parent-none, parent-some}
-use borrow.Author.Rules.{rules}
 use Rattle.rows.proofs.pass.parent_of.Goals as goal
 
 pub returns-then-regions-slot : goal.returns-then-regions-slot

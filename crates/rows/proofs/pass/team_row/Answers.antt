@@ -1,6 +1,5 @@
 -- `rows::pass::team_row` meets its contract. Assumes nothing.
 use Rattle.rows.proofs.TeamRows.{at_slot, team-made}
-use borrow.Author.Rules.{rules}
 use Rattle.rows.proofs.pass.team_row.Goals as goal
 
 pub parent_of-requires : goal.parent_of-requires

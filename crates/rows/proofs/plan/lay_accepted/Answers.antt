@@ -1,7 +1,6 @@
 -- `rows::plan::lay_accepted` meets its contract. Assumes nothing.
 use mathlib.Core.Path.{sym}
 use Rattle.bundle.proofs.TeamOrder.{front-is}
-use borrow.Author.Rules.{rules}
 use Rattle.rows.proofs.plan.lay_accepted.Goals as goal
 
 pub slice_bounds-lay_intervals-end : goal.slice_bounds-lay_intervals-end

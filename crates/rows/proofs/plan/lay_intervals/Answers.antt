@@ -1,6 +1,5 @@
 -- `rows::plan::lay_intervals` meets its contract. Assumes nothing.
 use Rattle.rows.proofs.Layouts.{teams-for, rows-held}
-use borrow.Author.Rules.{rules}
 use Rattle.rows.proofs.plan.lay_intervals.Goals as goal
 
 pub list_intervals-count-requires : goal.list_intervals-count-requires

@@ -3,7 +3,6 @@ use mathlib.Core.Path.{refl, sym}
 use lib.Seq.{length-take-le}
 use Rattle.rows.proofs.Layouts.{front-sorted}
 use native.Mathlib.Omega.{arith}
-use borrow.Author.Rules.{rules}
 use Rattle.rows.proofs.plan.order_rows.Goals as goal
 
 pub slice_bounds-sort-end-2 : goal.slice_bounds-sort-end-2

@@ -1,6 +1,5 @@
 -- `rows::records::check_records` meets its contract. Assumes nothing.
 use mathlib.Core.Path.{sym, ◌∙◌, ap}
-use borrow.Author.Rules.{rules}
 use Rattle.rows.specs.Rows.{row_checking_of}
 use Rattle.rows.proofs.RecordLaws.{records-room, records-told, accepted-by, refused-told}
 use Rattle.rows.proofs.records.check_records.Goals as goal

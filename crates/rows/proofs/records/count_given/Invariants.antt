@@ -1,8 +1,6 @@
 -- `rows::records::count_given` meets its contract. The invariant: the records so far are compared. The measure: the records left. Assumes nothing.
 use Prim.Native.Nat.{◌-◌}
-use native.Mathlib.Omega.{arith}
-use borrow.Author.Rules.{rules}
-use Rattle.rows.proofs.RecordLaws.{ComparedTo, compared-none, compared-more, compared-all}
+use Rattle.rows.proofs.RecordLaws.{ComparedTo}
 use Rattle.rows.proofs.records.count_given.Given as goal
 
 abbrev pub invariant-loop-i : goal.invariant-loop-i

@@ -1,6 +1,5 @@
 -- `rows::records::record_at` meets its contract. Assumes nothing.
 use Rattle.rows.specs.Records.{record_at}
-use borrow.Author.Rules.{rules}
 use Rattle.rows.proofs.records.record_at.Goals as goal
 
 pub returns : goal.returns

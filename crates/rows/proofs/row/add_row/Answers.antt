@@ -2,7 +2,6 @@
 use native.Mathlib.Omega.{arith}
 use lib.ListN.{length-set}
 use Rattle.rows.proofs.SlotLaws.{row-added}
-use borrow.Author.Rules.{rules}
 use Rattle.rows.proofs.row.add_row.Goals as goal
 
 pub bounds-words-at-2 : goal.bounds-words-at-2

@@ -1,6 +1,5 @@
 -- `rows::row::held_in` meets its contract. Assumes nothing.
 use Rattle.order.proofs.Climbs.{span_fits}
-use native.Mathlib.Nat.{mul-le-mul}
 use native.Mathlib.Omega.{arith}
 use Rattle.rows.specs.Slots.{held_in, row_made}
 use borrow.Author.Rules.{rules}

@@ -1,7 +1,5 @@
 -- `rows::row::row_at` meets its contract. Assumes nothing.
-use mathlib.Core.Path.{◌∙◌, ap}
-use Rattle.rows.specs.Slots.{held_in, slot_at, row_in}
-use borrow.Author.Rules.{rules}
+use Rattle.rows.specs.Slots.{slot_at, row_in}
 use Rattle.rows.proofs.row.row_at.Goals as goal
 
 pub returns : goal.returns

@@ -1,6 +1,5 @@
 -- `tray::line::make_judged` meets its contract. Assumes nothing.
 use Rattle.tray.proofs.Adding.{judged-as}
-use borrow.Author.Rules.{rules}
 use Rattle.tray.proofs.line.make_judged.Goals as goal
 
 pub returns-in-RaceFree : goal.returns-in-RaceFree

@@ -1,6 +1,5 @@
 -- `tray::line::make_race_free` meets its contract. Assumes nothing.
 use Rattle.tray.proofs.Adding.{free-made}
-use borrow.Author.Rules.{rules}
 use Rattle.tray.proofs.line.make_race_free.Goals as goal
 
 pub returns : goal.returns

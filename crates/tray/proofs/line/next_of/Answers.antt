@@ -2,7 +2,6 @@
 use mathlib.Core.Path.{sym, ap}
 use Rattle.bundle.specs.Commands.{putting_of}
 use Rattle.tray.specs.Inner.{next_of}
-use borrow.Author.Rules.{rules}
 use Rattle.tray.proofs.line.next_of.Goals as goal
 
 pub returns-in-Refused : goal.returns-in-Refused

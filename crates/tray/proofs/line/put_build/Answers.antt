@@ -2,7 +2,6 @@
 use mathlib.Core.Path.{ap}
 use Rattle.tray.specs.Texts.{build_line}
 use Rattle.text.proofs.Printing.{printed-as}
-use borrow.Author.Rules.{rules}
 use Rattle.tray.proofs.line.put_build.Goals as goal
 
 pub returns-in-Missing : goal.returns-in-Missing

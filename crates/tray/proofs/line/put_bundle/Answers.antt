@@ -4,7 +4,6 @@ use Rattle.verdict.specs.Judge.{judging_of}
 use Rattle.text.specs.Lines.{refused_line}
 use Rattle.tray.specs.Texts.{bundle_line}
 use Rattle.text.proofs.Printing.{printed-as}
-use borrow.Author.Rules.{rules}
 use Rattle.tray.proofs.line.put_bundle.Goals as goal
 
 pub returns-in-Judged : goal.returns-in-Judged

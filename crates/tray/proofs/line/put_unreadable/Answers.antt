@@ -1,6 +1,5 @@
 -- `tray::line::put_unreadable` meets its contract. Assumes nothing.
 use Rattle.tray.specs.Texts.{unreadable_line}
-use borrow.Author.Rules.{rules}
 use Rattle.tray.proofs.line.put_unreadable.Goals as goal
 
 pub returns : goal.returns

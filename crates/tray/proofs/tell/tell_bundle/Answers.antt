@@ -1,5 +1,4 @@
 -- `tray::tell::tell_bundle` meets its contract. Assumes nothing.
-use borrow.Author.Rules.{rules}
 use Rattle.tray.proofs.TellLaws.{told}
 use Rattle.tray.proofs.tell.tell_bundle.Goals as goal
 

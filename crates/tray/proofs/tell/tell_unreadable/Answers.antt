@@ -1,5 +1,4 @@
 -- `tray::tell::tell_unreadable` meets its contract. Assumes nothing.
-use borrow.Author.Rules.{rules}
 use Rattle.tray.proofs.TellLaws.{told-unreadable}
 use Rattle.tray.proofs.tell.tell_unreadable.Goals as goal
 

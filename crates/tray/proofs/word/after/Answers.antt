@@ -1,6 +1,5 @@
 -- `tray::word::after` meets its contract. Assumes nothing.
 use mathlib.Core.Path.{refl}
-use borrow.Author.Rules.{rules}
 use Rattle.tray.proofs.WordLaws.{settled}
 use Rattle.tray.proofs.word.after.Goals as goal
 

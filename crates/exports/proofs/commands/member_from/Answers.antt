@@ -1,0 +1,11 @@
+-- `exports::commands::member_from` meets its contract: an operand over its width is out of range. Assumes nothing.
+use native.Mathlib.Omega.{arith}
+use Rattle.exports.proofs.Widths.{member-wide}
+use borrow.Author.Rules.{rules}
+use Rattle.exports.proofs.commands.member_from.Goals as goal
+
+pub returns-then-team-gt65535 : goal.returns-then-team-gt65535
+returns-then-team-gt65535 c = let h = c.if-team-gt65535.true in member-wide _ _ (λ p q. omega arith)
+
+pub returns-then-member-gt255 : goal.returns-then-member-gt255
+returns-then-member-gt255 c = let h = c.if-member-gt255.true in member-wide _ _ (λ p q. omega arith)
