@@ -8,19 +8,17 @@ use print::{print_few, print_many, print_refused};
 use telling::input::read_full;
 use verdict::judge::WORK_WORDS;
 
-// Lists with room for the races of any bundle. Where even that were too little it would call itself: the compiler keeps a function that
-// does so apart from its caller, so that a small bundle does not pay for 6 MB of stack.
-fn list_many<P: Print>(to: &P, bytes: &[u8], turns: u32) {
-    if turns < 1 {
-        return;
-    }
+// Lists with room for the races of any bundle, so that there are never too many. It stands apart from its caller, so that a small bundle
+// does not pay for 6 MB of stack.
+#[inline(never)]
+fn list_many<P: Print>(to: &P, bytes: &[u8]) {
     let mut work = [0u32; WORK_WORDS];
     let mut names = [0u64; MOST_NAME_WORDS];
     let mut numbers = [0u64; 523776];
     let mut spare = [0u64; 261888];
     match list_races(bytes, &mut work, &mut names, &mut numbers, &mut spare) {
         Listed::Whole(totals) => print_many(to, totals, &names, &numbers),
-        Listed::TooMany(_) => list_many(to, bytes, turns - 1),
+        Listed::TooMany(_) => {}
         Listed::Refused { place, cause } => print_refused(to, place, cause),
     }
 }
@@ -28,7 +26,7 @@ fn list_many<P: Print>(to: &P, bytes: &[u8], turns: u32) {
 // Lists with room for as many races as a short bundle can have: in 1,568 bytes there are at most 130 accesses, and so 8,385 pairs.
 fn list<P: Print>(to: &P, bytes: &[u8]) {
     if 1568 < bytes.len() {
-        list_many(to, bytes, 1);
+        list_many(to, bytes);
         return;
     }
     let mut work = [0u32; WORK_WORDS];
@@ -37,7 +35,7 @@ fn list<P: Print>(to: &P, bytes: &[u8]) {
     let mut spare = [0u64; 4224];
     match list_races(bytes, &mut work, &mut names, &mut numbers, &mut spare) {
         Listed::Whole(totals) => print_few(to, totals, &names, &numbers),
-        Listed::TooMany(_) => list_many(to, bytes, 1),
+        Listed::TooMany(_) => list_many(to, bytes),
         Listed::Refused { place, cause } => print_refused(to, place, cause),
     }
 }

@@ -1,0 +1,2 @@
+-- Lemmas that the program's proofs cite.
+pub mod Areas

@@ -1,0 +1,13 @@
+-- `racelist::print::print_refused` meets its contract. Assumes nothing.
+use borrow.Author.Rules.{rules}
+use mathlib.Core.Path.{sym}
+use lib.Seq.{length-take-le}
+use Rattle.pages.proofs.WholeText.{written-fits}
+use Rattle.racelist.proofs.print.print_refused.Goals as goal
+
+pub slice_bounds-line-end : goal.slice_bounds-line-end
+slice_bounds-line-end g c = written-fits _ _ _ c.put_refused.ensures c.in-Written.is
+
+pub slice_bounds-write_all-end : goal.slice_bounds-write_all-end
+slice_bounds-write_all-end g c =
+    sym (length-take-le _ _ (written-fits _ _ _ c.put_refused.ensures c.in-Written.is))
