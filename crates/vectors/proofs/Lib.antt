@@ -1,3 +1,0 @@
--- What the walks by hand share.
-pub mod Fronts
-pub mod RowLists
