@@ -12,8 +12,7 @@ use lib.Seq.{get_or-set_same}
 use Rattle.libc.specs.Io.{Ended}
 use Rattle.bundle.specs.Commands.{written}
 use Rattle.judge_build.specs.Kind.{path_of}
-use Rattle.judge_build.proofs.kind.path_of.Statement.{statement}
-use Rattle.judge_build.proofs.kind.path_of.Tie as tie
+use Rattle.judge_build.proofs.kind.path_of.Goals as goal
 
 -- which path a name has goes by its length
 chosen : (name : List ℕ) {b : Bool} → ltb (length name) 4096 ≡ b → cond b (set (written (replicate 4096 0) 0 name) 4095 0) (replicate 4096 0) ≡ path_of name
@@ -25,12 +24,8 @@ too_long name long = (chosen name (le-ltb (length name) 4096 long), get_or-repli
 in-room : (name path : List ℕ) → length name < 4096 → path ≡ written (replicate 4096 0) 0 name → length path ≡ 4096 → (set path 4095 0 ≡ path_of name) × Ended (set path 4095 0)
 in-room name path room copied long = (ap (λ (p : List ℕ). set p 4095 0) copied ∙ chosen name (lt-ltb (length name) 4096 room), get_or-set_same path 4095 0 1 (omega (arith, long)))
 
-pub path-of-spec : {M : Type 1} → statement M
-path-of-spec =
-    tie.close
-    (tie.spec
-    (λ c. search (rules, too_long))
-    (λ c. search rules)
-    (λ c κs. search rules)
-    (λ c. search rules)
-    (λ c. in-room c.before.before.before.before.before.args.name.now _ c.before.before.before.if1.false c.before.copy-in.ensures c.path2.given))
+pub returns-then-name-ge-PATH_BYTES : goal.returns-then-name-ge-PATH_BYTES
+returns-then-name-ge-PATH_BYTES c = search (rules, too_long)
+
+pub returns : goal.returns
+returns c = in-room c.args.name.now _ c.if-name-ge-PATH_BYTES.false c.copy_in.ensures c.path-2-1.given
