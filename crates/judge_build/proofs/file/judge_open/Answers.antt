@@ -6,7 +6,7 @@ use borrow.Author.Rules.{rules}
 use Rattle.judge_build.proofs.file.judge_open.Goals as goal
 
 pub slice_bounds-bytes-end : goal.slice_bounds-bytes-end
-slice_bounds-bytes-end c = read-size _ c.in-Read.is c.read_file-reading.ensures
+slice_bounds-bytes-end g c = read-size _ c.in-Read.is c.read_file-reading.ensures
 
 pub slice_bounds-judge_bytes-end : goal.slice_bounds-judge_bytes-end
-slice_bounds-judge_bytes-end c = sym (length-take-le _ _ (read-size _ c.in-Read.is c.read_file-reading.ensures))
+slice_bounds-judge_bytes-end g c = sym (length-take-le _ _ (read-size _ c.in-Read.is c.read_file-reading.ensures))

@@ -6,4 +6,4 @@ use borrow.Author.Rules.{rules}
 use Rattle.judge_build.proofs.file.print_line.Goals as goal
 
 pub slice_bounds-write_all-end : goal.slice_bounds-write_all-end
-slice_bounds-write_all-end c = sym (length-take-le _ _ (put-size _ c.in-Written.is c.requires))
+slice_bounds-write_all-end g c = sym (length-take-le _ _ (put-size _ c.in-Written.is c.requires))
