@@ -3,11 +3,13 @@
 An output is taken only if it is whole and every line has one of the forms of docs/TRAY.md. All else is a worker that died.
 """
 
+import contextlib
 import errno
 import os
 import re
 import select
 import subprocess
+import tempfile
 import threading
 import time
 from collections import namedtuple
@@ -155,6 +157,10 @@ class Programs:
 
     def judge_build(self, names, folder):
         """One run over the bundles of a build. Names are bytes, read in the folder; an empty one cannot be read."""
+        with names_in_utf8(names, folder) as given:
+            return self.judge_given(given, folder)
+
+    def judge_given(self, names, folder):
         lines, word = [], None
         try:
             process = self.start("judge_build", b"".join(n + b"\0" for n in names), folder=folder)
@@ -254,6 +260,31 @@ class Programs:
         if process.returncode:
             raise Failed(f"the program ended too early, with status {process.returncode}")
         return written, said
+
+
+@contextlib.contextmanager
+def names_in_utf8(names, folder):
+    """The names as judge_build can open them: it opens a file by a name in UTF-8 alone, so one with another name gets a link."""
+    odd = {k for k, name in enumerate(names) if not is_utf8(name)}
+    if not odd:
+        yield names
+        return
+    with tempfile.TemporaryDirectory(prefix="dezhakom-") as links:
+        given = list(names)
+        for k in odd:
+            link = os.fsencode(os.path.join(links, str(k)))
+            with contextlib.suppress(OSError):  # then the name stays, and the bundle is one that could not be read
+                os.symlink(os.path.join(os.fsencode(os.path.abspath(folder)), names[k]), link)
+                given[k] = link
+        yield given
+
+
+def is_utf8(name):
+    try:
+        name.decode("utf-8")
+    except UnicodeDecodeError:
+        return False
+    return True
 
 
 class Failed(Exception):

@@ -43,8 +43,12 @@ def names_in(data):
 
 
 def read_file(name):
-    """As much of a file as tells its line, or None."""
+    """As much of a file as tells its line, or None. judge_build opens names in UTF-8 alone (docs/TRAY.md)."""
     if not 0 < len(name) <= LONGEST_NAME:
+        return None
+    try:
+        name.decode("utf-8")
+    except UnicodeDecodeError:
         return None
     try:
         if not stat.S_ISREG(os.stat(name).st_mode):

@@ -22,7 +22,7 @@ pub extern "C" fn dezhakom_find_chunk(
     end: &mut usize,
     place: &mut usize,
 ) -> u32
-    ensures { ends_told (ends_of bytes.now team member) ≡ record { number = result; place = place.new; answer = record { start = start.exit.now; end = end.new } } }
+    ensures { ends_told (ends_of bytes.now team member) ≡ record { number = result; place = place.new; answer = record { start = start.new; end = end.new } } }
 {
     exports::bundles::dezhakom_find_chunk(bytes, team, member, start, end, place)
 }

@@ -13,7 +13,7 @@ pub extern "C" fn dezhakom_read_command(
     next: &mut usize,
     place: &mut usize,
 ) -> u32
-    ensures { read_told (read_at bytes.now position) ≡ record { number = result; place = place.new; answer = record { command = command.exit.now; next = next.new } } }
+    ensures { read_told (read_at bytes.now position) ≡ record { number = result; place = place.new; answer = record { command = command.new; next = next.new } } }
 {
     exports::commands::dezhakom_read_command(bytes, position, command, next, place)
 }

@@ -32,7 +32,7 @@ pub extern "C" fn dezhakom_next_race(
     race: &mut [u32; 11],
     place: &mut usize,
 ) -> u32
-    ensures { next_told (next_of bytes.now witness (name_of first_team first_member first_number) (name_of second_team second_member second_number) work.old) ≡ record { told = record { number = result; place = place.new; answer = record { found = found.exit.now; value = race.new } }; memory = work.new } }
+    ensures { next_told (next_of bytes.now witness (name_of first_team first_member first_number) (name_of second_team second_member second_number) work.old) ≡ record { told = record { number = result; place = place.new; answer = record { found = found.new; value = race.new } }; memory = work.new } }
 {
     exports::judge::dezhakom_next_race(
         bytes,

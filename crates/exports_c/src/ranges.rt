@@ -20,7 +20,7 @@ pub extern "C" fn dezhakom_lowest_shared_byte(
     other_element: &mut u32,
     place: &mut usize,
 ) -> u32
-    ensures { shared_told (shared_of (range_of base stride count size) (range_of other_base other_stride other_count other_size)) ≡ record { number = result; place = place.new; answer = record { found = found.exit.now; value = record { byte = byte.exit.now; first_element = element.new; second_element = other_element.new } } } }
+    ensures { shared_told (shared_of (range_of base stride count size) (range_of other_base other_stride other_count other_size)) ≡ record { number = result; place = place.new; answer = record { found = found.new; value = record { byte = byte.new; first_element = element.new; second_element = other_element.new } } } }
 {
     exports::ranges::dezhakom_lowest_shared_byte(
         base,
