@@ -1,6 +1,6 @@
 // Whether a path is of a regular file, and the path of a name.
-ghost use Rattle.std.specs.Prelude.{◌≡◌};
-ghost use Rattle.judge_build.specs.Kind.{is_regular, path_of, IsEnded};
+ghost use Rattle.std.specs.Prelude.{◌≡◌, IfSome};
+ghost use Rattle.judge_build.specs.Kind.{is_regular, path_of, IsEnded, IsTextOf};
 
 use bundle::copy::copy_in;
 use std::ffi::CStr;
@@ -46,7 +46,9 @@ pub fn path_of(name: &[u8]) -> [u8; PATH_BYTES]
 }
 
 // The text of a path, up to its first 0 byte, where it is text.
-pub fn text_of(path: &[u8; PATH_BYTES]) -> Option<&str> {
+pub fn text_of(path: &[u8; PATH_BYTES]) -> Option<&str>
+    ensures { IfSome result (λ text. IsTextOf path.now text.now) }
+{
     match CStr::from_bytes_until_nul(path) {
         Ok(named) => named.to_str().ok(),
         Err(_) => None,

@@ -77,10 +77,11 @@ fn take_byte(rt: &HostRuntime, byte: u8, naming: Naming, name: &mut [u8]) -> Nam
 
 fn take_bytes(rt: &HostRuntime, bytes: &[u8], naming: Naming, name: &mut [u8]) -> Naming {
     let mut naming = naming;
-    let mut i = 0;
-    while i < bytes.len() && naming.on {
-        naming = take_byte(rt, bytes[i], naming, name);
-        i += 1;
+    for byte in bytes {
+        if !naming.on {
+            break;
+        }
+        naming = take_byte(rt, *byte, naming, name);
     }
     naming
 }
@@ -111,7 +112,7 @@ fn take_block(rt: &HostRuntime, naming: Naming, name: &mut [u8]) -> Naming {
     }
 }
 
-// Reads all names, so far as they are ended by a 0 byte. The loop counts its turns down, from a number that no run uses up.
+// Reads all names, so far as they are ended by a 0 byte. The loop counts its turns, up to a number that no run uses up.
 fn take_names(rt: &HostRuntime, name: &mut [u8]) -> Naming {
     let mut naming = Naming {
         word: Word::Missing,
@@ -119,10 +120,11 @@ fn take_names(rt: &HostRuntime, name: &mut [u8]) -> Naming {
         more: true,
         size: 0,
     };
-    let mut turns = u64::MAX;
-    while turns > 0 && naming.more {
+    for _ in 0..u64::MAX {
+        if !naming.more {
+            break;
+        }
         naming = take_block(rt, naming, name);
-        turns -= 1;
     }
     naming
 }
