@@ -1,5 +1,4 @@
 -- `canon::print_rewritten` meets its contract. Assumes nothing.
-use borrow.Author.Rules.{rules}
 use mathlib.Core.Path.{sym}
 use lib.Seq.{length-take-le}
 use Rattle.rewrite.proofs.Fitting.{rewrite-fits}

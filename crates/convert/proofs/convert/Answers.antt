@@ -1,7 +1,6 @@
 -- `convert::convert` meets its contract. Assumes nothing.
 use mathlib.Core.Path.{sym, ◌∙◌, ap}
 use mathlib.Core.Bool.{Bool}
-use borrow.Author.Rules.{rules}
 use Rattle.rewrite.specs.Converting.{convert_of}
 use Rattle.convert.proofs.convert.Goals as goal
 

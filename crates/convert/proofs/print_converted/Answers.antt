@@ -1,5 +1,4 @@
 -- `convert::print_converted` meets its contract. Assumes nothing.
-use borrow.Author.Rules.{rules}
 use mathlib.Core.Path.{sym}
 use lib.Seq.{length-take-le}
 use Rattle.rewrite.proofs.Fitting.{convert-fits}

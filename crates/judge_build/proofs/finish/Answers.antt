@@ -1,6 +1,5 @@
 -- `judge_build::finish` meets its contract. Assumes nothing.
 use Rattle.tray.proofs.Adding.{put-within}
-use borrow.Author.Rules.{rules}
 use Rattle.judge_build.proofs.finish.Goals as goal
 
 pub print_line-requires : goal.print_line-requires

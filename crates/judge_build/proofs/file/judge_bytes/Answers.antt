@@ -1,6 +1,5 @@
 -- `judge_build::file::judge_bytes` meets its contract. Assumes nothing.
 use Rattle.tray.proofs.TellLaws.{told-within}
-use borrow.Author.Rules.{rules}
 use Rattle.judge_build.proofs.file.judge_bytes.Goals as goal
 
 pub print_line-requires : goal.print_line-requires

@@ -2,7 +2,6 @@
 use mathlib.Core.Path.{sym}
 use lib.Seq.{length-take-le}
 use Rattle.judge_build.proofs.Fitting.{read-size}
-use borrow.Author.Rules.{rules}
 use Rattle.judge_build.proofs.file.judge_open.Goals as goal
 
 pub slice_bounds-bytes-end : goal.slice_bounds-bytes-end

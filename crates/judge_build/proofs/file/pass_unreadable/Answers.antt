@@ -1,6 +1,5 @@
 -- `judge_build::file::pass_unreadable` meets its contract. Assumes nothing.
 use Rattle.tray.proofs.TellLaws.{unreadable-within}
-use borrow.Author.Rules.{rules}
 use Rattle.judge_build.proofs.file.pass_unreadable.Goals as goal
 
 pub print_line-requires : goal.print_line-requires

@@ -2,7 +2,6 @@
 use mathlib.Core.Path.{sym}
 use lib.Seq.{length-take-le}
 use Rattle.judge_build.proofs.Fitting.{put-size}
-use borrow.Author.Rules.{rules}
 use Rattle.judge_build.proofs.file.print_line.Goals as goal
 
 pub slice_bounds-write_all-end : goal.slice_bounds-write_all-end

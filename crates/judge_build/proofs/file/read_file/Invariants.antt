@@ -1,5 +1,4 @@
 -- `judge_build::file::read_file` meets its contract. The measure: the bytes left. Assumes nothing.
-use borrow.Author.Rules.{rules}
 use mathlib.Core.Path.{◌≡◌}
 use Prim.Native.Nat.{◌-◌, ◌≤◌}
 use lib.ListN.{length}

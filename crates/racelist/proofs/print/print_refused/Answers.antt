@@ -1,5 +1,4 @@
 -- `racelist::print::print_refused` meets its contract. Assumes nothing.
-use borrow.Author.Rules.{rules}
 use mathlib.Core.Path.{sym}
 use lib.Seq.{length-take-le}
 use Rattle.pages.proofs.WholeText.{written-fits}

@@ -1,9 +1,6 @@
 -- `telling::arguments::same_word` meets its contract. The invariant: the bytes so far are the same. The measure: the bytes left. Assumes nothing.
-use Prim.Native.Nat.{◌-◌}
 use native.Mathlib.Omega.{arith}
-use lib.ListN.{length}
-use borrow.Author.Rules.{rules}
-use Rattle.telling.proofs.SameWords.{unlike-lengths, SameTo, same_start, second-within, same_turn, same_differs, same_end}
+use Rattle.telling.proofs.SameWords.{unlike-lengths, same_start, second-within, same_turn, same_differs, same_end}
 use Rattle.telling.proofs.arguments.same_word.Goals as goal
 
 pub returns-then-one-other : goal.returns-then-one-other

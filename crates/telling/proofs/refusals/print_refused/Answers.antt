@@ -1,5 +1,4 @@
 -- `telling::refusals::print_refused` meets its contract. Assumes nothing.
-use borrow.Author.Rules.{rules}
 use mathlib.Core.Path.{sym}
 use lib.Seq.{length-take-le}
 use Rattle.text.proofs.LineFits.{line-fits}
