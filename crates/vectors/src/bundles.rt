@@ -1,14 +1,14 @@
 // Checking a bundle, finding a chunk, and the label of a segment.
 use crate::numbers::{byte_at, four_bytes, two_bytes};
-use crate::text;
+use crate::output;
 use bundle::answer::Checking;
 use order::climb::{LabelAnswer, Labelling};
 use order::label::{Label, Triple};
 
 fn put_checking<P: Print>(to: &P, checking: Checking) {
     match checking {
-        Checking::Accepted => text::put_text(to, b"accepted"),
-        Checking::Refused { place, cause } => text::put_refusal(to, cause, place),
+        Checking::Accepted => output::put_text(to, b"accepted"),
+        Checking::Refused { place, cause } => output::put_refusal(to, cause, place),
     }
 }
 
@@ -21,10 +21,10 @@ pub fn check<P: Print>(to: &P, body: &[u8]) -> bool {
 // The chunk in hexadecimal, or the refusal where it has a number.
 fn put_part<P: Print>(to: &P, part: &[u8], number: u8, place: usize) {
     if 0 < number {
-        text::put_refused(to, number, place);
+        output::put_refused(to, number, place);
     } else {
-        text::put_text(to, b"chunk ");
-        text::put_hex(to, part);
+        output::put_text(to, b"chunk ");
+        output::put_hex(to, part);
     }
 }
 
@@ -45,16 +45,16 @@ pub fn find<P: Print>(to: &P, body: &[u8]) -> bool {
 // Its three numbers, where the triple is counted.
 fn put_triple<P: Print>(to: &P, triple: Triple, counted: bool) {
     if counted {
-        text::put_field(to, triple.offset as u64);
-        text::put_field(to, triple.span as u64);
-        text::put_field(to, triple.interval as u64);
+        output::put_field(to, triple.offset as u64);
+        output::put_field(to, triple.span as u64);
+        output::put_field(to, triple.interval as u64);
     }
 }
 
 fn put_label<P: Print>(to: &P, label: Label) {
     let count = label.count;
     let triples = label.triples;
-    text::put_text(to, b"label");
+    output::put_text(to, b"label");
     put_triple(to, triples[0], 0 < count);
     put_triple(to, triples[1], 1 < count);
     put_triple(to, triples[2], 2 < count);
@@ -67,7 +67,7 @@ fn put_labelling<P: Print>(to: &P, labelling: Labelling) {
     let label = labelling.label;
     match answer {
         LabelAnswer::Found => put_label(to, label),
-        LabelAnswer::Refused { place, cause } => text::put_refusal(to, cause, place),
+        LabelAnswer::Refused { place, cause } => output::put_refusal(to, cause, place),
     }
 }
 

@@ -1,71 +1,71 @@
 // Reading and putting a command.
 use crate::numbers::{byte_at, four_bytes, position_of, two_bytes};
-use crate::text;
+use crate::output;
 use bundle::command::{Access, AccessKind, Command, Putting, Range, Reading, kind_of};
 
 fn put_kind<P: Print>(to: &P, kind: AccessKind) {
     match kind {
-        AccessKind::Read => text::put_text(to, b"read"),
-        AccessKind::Write => text::put_text(to, b"write"),
-        AccessKind::AtomicRead => text::put_text(to, b"atomic-read"),
-        AccessKind::AtomicWrite => text::put_text(to, b"atomic-write"),
+        AccessKind::Read => output::put_text(to, b"read"),
+        AccessKind::Write => output::put_text(to, b"write"),
+        AccessKind::AtomicRead => output::put_text(to, b"atomic-read"),
+        AccessKind::AtomicWrite => output::put_text(to, b"atomic-write"),
     }
 }
 
 fn put_range<P: Print>(to: &P, range: Range) {
-    text::put_field(to, range.base as u64);
-    text::put_field(to, range.stride as u64);
-    text::put_field(to, range.count as u64);
-    text::put_field(to, range.size as u64);
+    output::put_field(to, range.base as u64);
+    output::put_field(to, range.stride as u64);
+    output::put_field(to, range.count as u64);
+    output::put_field(to, range.size as u64);
 }
 
 fn put_access<P: Print>(to: &P, access: Access) {
     let kind = access.kind;
     let range = access.range;
     if access.wide {
-        text::put_text(to, b"wide-");
+        output::put_text(to, b"wide-");
     }
     put_kind(to, kind);
-    text::put_field(to, access.site as u64);
+    output::put_field(to, access.site as u64);
     put_range(to, range);
 }
 
 // A name and two numbers.
 fn put_pair<P: Print>(to: &P, name: &[u8], team: u16, other: u8) {
-    text::put_text(to, name);
-    text::put_field(to, team as u64);
-    text::put_field(to, other as u64);
+    output::put_text(to, name);
+    output::put_field(to, team as u64);
+    output::put_field(to, other as u64);
 }
 
 // A name and a lock.
 fn put_lock<P: Print>(to: &P, name: &[u8], lock: u8) {
-    text::put_text(to, name);
-    text::put_field(to, lock as u64);
+    output::put_text(to, name);
+    output::put_field(to, lock as u64);
 }
 
 fn put_command_text<P: Print>(to: &P, command: Command) {
     match command {
         Command::Member { team, member } => put_pair(to, b"member", team, member),
-        Command::End => text::put_text(to, b"end"),
+        Command::End => output::put_text(to, b"end"),
         Command::Region { team, size } => put_pair(to, b"region", team, size),
-        Command::Barrier => text::put_text(to, b"barrier"),
+        Command::Barrier => output::put_text(to, b"barrier"),
         Command::Acquire(lock) => put_lock(to, b"acquire", lock),
         Command::Release(lock) => put_lock(to, b"release", lock),
         Command::Access(access) => put_access(to, access),
-        Command::Cut => text::put_text(to, b"cut"),
+        Command::Cut => output::put_text(to, b"cut"),
     }
 }
 
 fn put_taken<P: Print>(to: &P, command: Command, next: usize) {
     put_command_text(to, command);
-    text::put_text(to, b" next");
-    text::put_field(to, next as u64);
+    output::put_text(to, b" next");
+    output::put_field(to, next as u64);
 }
 
 fn put_reading<P: Print>(to: &P, reading: Reading) {
     match reading {
         Reading::Taken { next, command } => put_taken(to, command, next),
-        Reading::Refused { place, cause } => text::put_refusal(to, cause, place),
+        Reading::Refused { place, cause } => output::put_refusal(to, cause, place),
     }
 }
 
@@ -125,18 +125,18 @@ fn command_of(record: &[u8]) -> Command {
 fn put_putting<P: Print>(to: &P, putting: Putting) {
     match putting {
         Putting::Written(next) => {
-            text::put_text(to, b"put");
-            text::put_field(to, next as u64);
+            output::put_text(to, b"put");
+            output::put_field(to, next as u64);
         }
-        Putting::Refused { place, cause } => text::put_refusal(to, cause, place),
+        Putting::Refused { place, cause } => output::put_refusal(to, cause, place),
     }
 }
 
 // Puts the command into the buffer, and tells the answer and the whole buffer.
 fn put_into<P: Print>(to: &P, command: Command, buffer: &mut [u8], position: usize) {
     put_putting(to, bundle::command::put_command(command, buffer, position));
-    text::put_text(to, b" ");
-    text::put_hex(to, buffer);
+    output::put_text(to, b" ");
+    output::put_hex(to, buffer);
 }
 
 // PUT: position (8 bytes), a command record (14 bytes), then the buffer.

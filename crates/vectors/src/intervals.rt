@@ -2,7 +2,7 @@
 ghost use Rattle.std.specs.Prelude.{◌≤◌};
 
 use crate::numbers::{four_bytes, two_bytes};
-use crate::text;
+use crate::output;
 use rows::checker::RowChecking;
 use rows::export::Exporting;
 use rows::row::Row;
@@ -11,30 +11,30 @@ use rows::row::Row;
 fn put_exporting<P: Print>(to: &P, exporting: Exporting) {
     match exporting {
         Exporting::Written { count } => {
-            text::put_text(to, b"written");
-            text::put_field(to, count as u64);
+            output::put_text(to, b"written");
+            output::put_field(to, count as u64);
         }
-        Exporting::Refused { place, cause } => text::put_refusal(to, cause, place),
+        Exporting::Refused { place, cause } => output::put_refusal(to, cause, place),
     }
 }
 
 fn put_row_checking<P: Print>(to: &P, checking: RowChecking) {
     match checking {
-        RowChecking::TheRows => text::put_text(to, b"the rows"),
-        RowChecking::Refused { place, cause } => text::put_refusal(to, cause, place),
+        RowChecking::TheRows => output::put_text(to, b"the rows"),
+        RowChecking::Refused { place, cause } => output::put_refusal(to, cause, place),
     }
 }
 
 // A space, and the eight columns with commas between them.
 fn put_row<P: Print>(to: &P, row: Row) {
-    text::put_field(to, row.pid as u64);
-    text::put_after_comma(to, row.ppid as u64);
-    text::put_after_comma(to, row.bid as u64);
-    text::put_after_comma(to, row.offset as u64);
-    text::put_after_comma(to, row.span as u64);
-    text::put_after_comma(to, row.level as u64);
-    text::put_after_comma(to, row.begin as u64);
-    text::put_after_comma(to, row.size as u64);
+    output::put_field(to, row.pid as u64);
+    output::put_after_comma(to, row.ppid as u64);
+    output::put_after_comma(to, row.bid as u64);
+    output::put_after_comma(to, row.offset as u64);
+    output::put_after_comma(to, row.span as u64);
+    output::put_after_comma(to, row.level as u64);
+    output::put_after_comma(to, row.begin as u64);
+    output::put_after_comma(to, row.size as u64);
 }
 
 fn put_list<P: Print>(to: &P, list: [Row; 520], room: usize)

@@ -2,39 +2,39 @@
 ghost use Rattle.std.specs.Prelude.{◌≤◌};
 
 use crate::numbers::{byte_at, four_bytes, two_bytes};
-use crate::text;
+use crate::output;
 use verdict::race::{Judgement, Judging, Name, Next, Race, Verdict};
 
 // "T.M.N"
 fn put_name<P: Print>(to: &P, name: Name) {
-    text::put_field(to, name.team as u64);
-    text::put_dotted(to, name.member as u64);
-    text::put_dotted(to, name.number as u64);
+    output::put_field(to, name.team as u64);
+    output::put_dotted(to, name.member as u64);
+    output::put_dotted(to, name.number as u64);
 }
 
 // "race W T.M.N SITE T.M.N SITE elements I J"
 fn put_race<P: Print>(to: &P, race: Race) {
     let first = race.first;
     let second = race.second;
-    text::put_text(to, b"race");
-    text::put_field(to, race.witness as u64);
+    output::put_text(to, b"race");
+    output::put_field(to, race.witness as u64);
     put_name(to, first);
-    text::put_field(to, race.first_site as u64);
+    output::put_field(to, race.first_site as u64);
     put_name(to, second);
-    text::put_field(to, race.second_site as u64);
-    text::put_elements(to, race.first_element, race.second_element);
+    output::put_field(to, race.second_site as u64);
+    output::put_elements(to, race.first_element, race.second_element);
 }
 
 fn put_verdict<P: Print>(to: &P, verdict: Verdict) {
     match verdict {
-        Verdict::RaceFree => text::put_text(to, b"race-free"),
+        Verdict::RaceFree => output::put_text(to, b"race-free"),
         Verdict::Least(race) => put_race(to, race),
     }
 }
 
 fn put_count<P: Print>(to: &P, name: &[u8], count: u32) {
-    text::put_text(to, name);
-    text::put_field(to, count as u64);
+    output::put_text(to, name);
+    output::put_field(to, count as u64);
 }
 
 fn put_judgement<P: Print>(to: &P, judgement: Judgement) {
@@ -43,22 +43,22 @@ fn put_judgement<P: Print>(to: &P, judgement: Judgement) {
     put_count(to, b" segments", judgement.segments);
     put_count(to, b" accesses", judgement.accesses);
     put_count(to, b" races", judgement.races);
-    text::put_text(to, b" ");
+    output::put_text(to, b" ");
     put_verdict(to, verdict);
 }
 
 fn put_judging<P: Print>(to: &P, judging: Judging) {
     match judging {
         Judging::Judged(judgement) => put_judgement(to, judgement),
-        Judging::Refused { place, cause } => text::put_refusal(to, cause, place),
+        Judging::Refused { place, cause } => output::put_refusal(to, cause, place),
     }
 }
 
 fn put_next<P: Print>(to: &P, next: Next) {
     match next {
         Next::Found(race) => put_race(to, race),
-        Next::Nothing => text::put_text(to, b"none"),
-        Next::Refused { place, cause } => text::put_refusal(to, cause, place),
+        Next::Nothing => output::put_text(to, b"none"),
+        Next::Refused { place, cause } => output::put_refusal(to, cause, place),
     }
 }
 
@@ -84,11 +84,11 @@ fn holds_only(area: &[u32], word: u32) -> bool {
 // Whether the area is now all 0, or else as it was filled, or neither.
 fn put_area<P: Print>(to: &P, area: &[u32], filler: u32) {
     if holds_only(area, 0) {
-        text::put_text(to, b" area zero");
+        output::put_text(to, b" area zero");
     } else if holds_only(area, filler) {
-        text::put_text(to, b" area kept");
+        output::put_text(to, b" area kept");
     } else {
-        text::put_text(to, b" area changed");
+        output::put_text(to, b" area changed");
     }
 }
 

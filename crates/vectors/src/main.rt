@@ -9,8 +9,8 @@ mod intervals;
 mod judgements;
 mod numbers;
 mod orders;
+mod output;
 mod rewriting;
-mod text;
 
 use std::io::Read;
 use telling::input::read_full;
@@ -42,7 +42,7 @@ fn answer_body<R: Read, P: Print>(input: &mut R, to: &P, operation: u8, body: &m
     if !answer(to, operation, body) {
         return false;
     }
-    text::put_text(to, b"\n");
+    output::put_text(to, b"\n");
     true
 }
 

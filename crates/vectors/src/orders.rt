@@ -2,7 +2,7 @@
 ghost use Rattle.std.specs.Prelude.{◌≤◌};
 
 use crate::numbers::{byte_at, four_bytes, two_bytes};
-use crate::text;
+use crate::output;
 use bundle::command::Range;
 use order::label::{Comparison, Label, Order, Triple};
 use order::range::Shared;
@@ -36,17 +36,17 @@ fn label_at(body: &[u8], at: usize) -> Label
 
 fn put_order<P: Print>(to: &P, order: Order) {
     match order {
-        Order::Same => text::put_text(to, b"same"),
-        Order::Before => text::put_text(to, b"before"),
-        Order::After => text::put_text(to, b"after"),
-        Order::Concurrent => text::put_text(to, b"concurrent"),
+        Order::Same => output::put_text(to, b"same"),
+        Order::Before => output::put_text(to, b"before"),
+        Order::After => output::put_text(to, b"after"),
+        Order::Concurrent => output::put_text(to, b"concurrent"),
     }
 }
 
 fn put_comparison<P: Print>(to: &P, comparison: Comparison) {
     match comparison {
         Comparison::Compared(order) => put_order(to, order),
-        Comparison::Refused { place, cause } => text::put_refusal(to, cause, place),
+        Comparison::Refused { place, cause } => output::put_refusal(to, cause, place),
     }
 }
 
@@ -76,12 +76,12 @@ fn range_at(body: &[u8], at: usize) -> Range
 fn put_shared<P: Print>(to: &P, shared: Shared) {
     match shared {
         Shared::Byte(overlap) => {
-            text::put_text(to, b"byte");
-            text::put_field(to, overlap.byte as u64);
-            text::put_elements(to, overlap.first_element, overlap.second_element);
+            output::put_text(to, b"byte");
+            output::put_field(to, overlap.byte as u64);
+            output::put_elements(to, overlap.first_element, overlap.second_element);
         }
-        Shared::Nothing => text::put_text(to, b"none"),
-        Shared::Refused { place, cause } => text::put_refusal(to, cause, place),
+        Shared::Nothing => output::put_text(to, b"none"),
+        Shared::Refused { place, cause } => output::put_refusal(to, cause, place),
     }
 }
 

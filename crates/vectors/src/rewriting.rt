@@ -1,16 +1,16 @@
 // Rewriting a bundle into a buffer: with its chunks in order, or with its accesses in one group.
 use crate::numbers::{byte_at, four_bytes};
-use crate::text;
+use crate::output;
 use rewrite::rewrite::Rewriting;
 
 // "rewritten N", or the refusal.
 fn put_rewriting<P: Print>(to: &P, rewriting: Rewriting) {
     match rewriting {
         Rewriting::Written { size } => {
-            text::put_text(to, b"rewritten");
-            text::put_field(to, size as u64);
+            output::put_text(to, b"rewritten");
+            output::put_field(to, size as u64);
         }
-        Rewriting::Refused { place, cause } => text::put_refusal(to, cause, place),
+        Rewriting::Refused { place, cause } => output::put_refusal(to, cause, place),
     }
 }
 
@@ -25,8 +25,8 @@ fn rewritten_by(operation: u8, bytes: &[u8], buffer: &mut [u8]) -> Rewriting {
 // Rewrites the bundle into the buffer, and tells the answer and the whole buffer.
 fn rewrite_into<P: Print>(to: &P, operation: u8, bytes: &[u8], buffer: &mut [u8]) {
     put_rewriting(to, rewritten_by(operation, bytes, buffer));
-    text::put_text(to, b" ");
-    text::put_hex(to, buffer);
+    output::put_text(to, b" ");
+    output::put_hex(to, buffer);
 }
 
 // REWRITE, TO_WIDE and TO_NARROW: the length of the buffer (4 bytes, at most 66,000) and what each of its bytes is (1), then the
