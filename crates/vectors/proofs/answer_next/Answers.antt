@@ -1,7 +1,6 @@
 -- `vectors::answer_next` is safe. Assumes nothing.
 use mathlib.Core.Path.{sym}
 use lib.Seq.{length-take-le}
-use borrow.Author.Rules.{rules}
 use Rattle.vectors.proofs.answer_next.Goals as goal
 
 pub slice_bounds-answer_body-end-2 : goal.slice_bounds-answer_body-end-2

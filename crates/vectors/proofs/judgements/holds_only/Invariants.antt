@@ -1,7 +1,6 @@
 -- `vectors::judgements::holds_only` is safe and ends. The measure: the words left. Assumes nothing.
 use Prim.Native.Nat.{◌≤◌, ◌-◌}
 use lib.ListN.{length}
-use borrow.Author.Rules.{rules}
 use Rattle.vectors.proofs.judgements.holds_only.Given as goal
 
 abbrev pub invariant-loop-i : goal.invariant-loop-i

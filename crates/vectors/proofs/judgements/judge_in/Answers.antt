@@ -1,7 +1,6 @@
 -- `vectors::judgements::judge_in` is safe. Assumes nothing.
 use mathlib.Core.Path.{sym}
 use lib.Seq.{length-take-le}
-use borrow.Author.Rules.{rules}
 use Rattle.vectors.proofs.judgements.judge_in.Goals as goal
 
 pub slice_bounds-judge_over-end-3 : goal.slice_bounds-judge_over-end-3

@@ -1,7 +1,6 @@
 -- `vectors::judgements::next_in` is safe. Assumes nothing.
 use mathlib.Core.Path.{sym}
 use lib.Seq.{length-take-le}
-use borrow.Author.Rules.{rules}
 use Rattle.vectors.proofs.judgements.next_in.Goals as goal
 
 pub slice_bounds-next_over-end-3 : goal.slice_bounds-next_over-end-3

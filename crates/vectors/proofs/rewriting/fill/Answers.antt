@@ -3,7 +3,6 @@ use mathlib.Core.Path.{sym}
 use native.Mathlib.Omega.{arith}
 use lib.ListN.{length-replicate}
 use lib.Seq.{length-take-le}
-use borrow.Author.Rules.{rules}
 use Rattle.vectors.proofs.rewriting.fill.Goals as goal
 
 pub slice_bounds-rewrite_into-end-2 : goal.slice_bounds-rewrite_into-end-2
