@@ -84,23 +84,21 @@ fn judge_open<P: Print>(to: &P, file: File, word: Word) -> Going {
     }
 }
 
-// The file of a path. One that cannot be opened, or read to its end, is unreadable; so is what is not a regular file. That is asked before
-// the file is opened, since to open a named pipe is to wait for its writer.
-fn judge_path(rt: &HostRuntime, path: &str, word: Word) -> Going {
-    if !is_regular(rt, path) {
-        return pass_unreadable(rt, word);
-    }
-    match File::open(rt, path) {
-        Ok(file) => judge_open(rt, file, word),
-        Err(_) => pass_unreadable(rt, word),
-    }
+// Opens the file of a name. Std has paths of text alone: what is named by other bytes cannot be opened.
+fn open_read(rt: &HostRuntime, name: &[u8]) -> Option<File> {
+    let path = path_of(name);
+    let text = text_of(&path)?;
+    File::open(rt, text).ok()
 }
 
-// The file of a name. Std has paths of text alone: what is named by other bytes cannot be opened, and is unreadable.
+// The file of a name. One that cannot be opened, or read to its end, is unreadable; so is what is not a regular file. That is asked before
+// the file is opened, since to open a named pipe is to wait for its writer.
 pub fn judge_file(rt: &HostRuntime, name: &[u8], word: Word) -> Going {
-    let path = path_of(name);
-    match text_of(&path) {
-        Some(text) => judge_path(rt, text, word),
+    if !is_regular(rt, name) {
+        return pass_unreadable(rt, word);
+    }
+    match open_read(rt, name) {
+        Some(file) => judge_open(rt, file, word),
         None => pass_unreadable(rt, word),
     }
 }

@@ -1,4 +1,4 @@
-// Whether a path is of a regular file, and the path of a name.
+// Whether a name is of a regular file, and the path of a name.
 ghost use Rattle.std.specs.Prelude.{◌≡◌, IfSome};
 ghost use Rattle.judge_build.specs.Kind.{is_regular, path_of, IsEnded, IsTextOf};
 
@@ -8,10 +8,10 @@ use std::fs;
 use std::os::unix::fs::MetadataExt;
 use std::rt::Files;
 
-// The bytes of a path, with the 0 byte that ends it.
-pub const PATH_BYTES: usize = 4096;
+// The bytes of the longest path, with the 0 byte that ends it.
+pub const PATH_MAX: usize = 4096;
 
-const LAST: usize = PATH_BYTES - 1;
+const LAST: usize = PATH_MAX - 1;
 
 // Whether what was asked, where it was answered so and gave this mode, is a regular file.
 fn means_regular(status: i32, mode: u32) -> bool
@@ -23,21 +23,36 @@ fn means_regular(status: i32, mode: u32) -> bool
     mode / 4096 % 16 == 8
 }
 
-// Whether a path is of a regular file, or of a link to one.
-pub fn is_regular<R: Files>(rt: &R, path: &str) -> bool {
-    match fs::metadata(rt, path) {
+// The text of a path, up to its first 0 byte, where it is text.
+pub fn text_of(path: &[u8; PATH_MAX]) -> Option<&str>
+    ensures { IfSome result (λ text. IsTextOf path.now text.now) }
+{
+    match CStr::from_bytes_until_nul(path) {
+        Ok(named) => named.to_str().ok(),
+        Err(_) => None,
+    }
+}
+
+// Whether a path is of a regular file, or of a link to one. Std has paths of text alone: of what is named by other bytes it cannot be asked.
+fn is_regular_at<R: Files>(rt: &R, path: &[u8; PATH_MAX]) -> bool
+    requires { IsEnded path.now }
+{
+    let Some(text) = text_of(path) else {
+        return means_regular(-1, 0);
+    };
+    match fs::metadata(rt, text) {
         Ok(found) => means_regular(0, found.mode()),
         Err(_) => means_regular(-1, 0),
     }
 }
 
 // A name as a path: its bytes, and then zeros. A longer one than a path may be is taken for an empty one: neither is the name of a file.
-pub fn path_of(name: &[u8]) -> [u8; PATH_BYTES]
+pub fn path_of(name: &[u8]) -> [u8; PATH_MAX]
     ensures path { result ≡ path_of name.now }
     ensures ended { IsEnded result }
 {
-    let mut path = [0u8; PATH_BYTES];
-    if name.len() >= PATH_BYTES {
+    let mut path = [0u8; PATH_MAX];
+    if name.len() >= PATH_MAX {
         return path;
     }
     copy_in(name, &mut path, 0);
@@ -45,12 +60,8 @@ pub fn path_of(name: &[u8]) -> [u8; PATH_BYTES]
     path
 }
 
-// The text of a path, up to its first 0 byte, where it is text.
-pub fn text_of(path: &[u8; PATH_BYTES]) -> Option<&str>
-    ensures { IfSome result (λ text. IsTextOf path.now text.now) }
-{
-    match CStr::from_bytes_until_nul(path) {
-        Ok(named) => named.to_str().ok(),
-        Err(_) => None,
-    }
+// Whether a name is of a regular file, or of a link to one.
+pub fn is_regular<R: Files>(rt: &R, name: &[u8]) -> bool {
+    let path = path_of(name);
+    is_regular_at(rt, &path)
 }

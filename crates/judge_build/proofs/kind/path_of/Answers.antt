@@ -25,13 +25,13 @@ in-room name path room copied = ap (λ (p : List ℕ). set p 4095 0) copied ∙ 
 ended-set : (path : List ℕ) → length path ≡ 4096 → IsEnded (set path 4095 0)
 ended-set path long = get_or-set_same path 4095 0 1 (omega (arith, long))
 
-pub returns-then-name-ge-PATH_BYTES : goal.returns-then-name-ge-PATH_BYTES
-returns-then-name-ge-PATH_BYTES c =
-    record { path = too_long c.args.name.now c.if-name-ge-PATH_BYTES.true; ended = get_or-replicate 4096 4095 0 1 (lit< tt) }
+pub returns-then-name-ge-PATH_MAX : goal.returns-then-name-ge-PATH_MAX
+returns-then-name-ge-PATH_MAX c =
+    record { path = too_long c.args.name.now c.if-name-ge-PATH_MAX.true; ended = get_or-replicate 4096 4095 0 1 (lit< tt) }
 
 pub returns : goal.returns
 returns c =
     record {
-      path = in-room c.args.name.now _ c.if-name-ge-PATH_BYTES.false c.copy_in.ensures;
+      path = in-room c.args.name.now _ c.if-name-ge-PATH_MAX.false c.copy_in.ensures;
       ended = ended-set c.copy_in.new.buffer c.copy_in.auto.buffer;
     }
