@@ -1,4 +1,4 @@
--- What `libc::stat` is asked of a name, and what its answer says.
+-- What `stat` is asked of a name, and what its answer says.
 use Rattle.std.specs.Prelude.{◌≡◌, ℕ, ◌/◌, ◌%◌, Bool, false, cond, List, eqb, ltb, length, get_or, set, take, replicate, ℤ, pos, negsuc}
 use Rattle.bundle.specs.Commands.{written}
 
