@@ -10,13 +10,11 @@ use native.Mathlib.Omega.{arith}
 use borrow.Author.Tests.{ne_eqb, lt-leb, le-leb, lt-ltb, le-ltb}
 use lib.ListN.{length, get_or}
 use Rattle.bundle.specs.Answer.{Answer, gives, refuses, when_given}
-use Rattle.bundle.specs.Commands.{Taken, number_at, kind_of, access_widths, access_of, form_of, sum, width_of, operands_from, command_at, in_range, decode_byte, decode_at, ranged, read_at, reading_of}
+use Rattle.bundle.specs.Commands.{Taken, number_at, kind_of, access_widths, access_of, form_of, sum, width_of, operands_from, command_at, in_range, decode_byte, decode_at, ranged, read_at}
 use Rattle.bundle.specs.Inner.{StandsAt, GroupAt, AccessAt, AccessTo}
 use Rattle.bundle.specs.declared.command.AccessKind.{AccessKind}
 use Rattle.bundle.specs.declared.command.Command.{Command}
 use Rattle.bundle.specs.declared.command.Command.TheVariants as Com
-use Rattle.bundle.specs.declared.command.Reading.{Reading}
-use Rattle.bundle.specs.declared.command.Reading.TheVariants as Read
 use Rattle.bundle.proofs.Digits.{number-one}
 use Rattle.bundle.proofs.Forms.{group_byte, kind_in, form-of-access}
 use Rattle.bundle.proofs.Decoding.{width-none}
@@ -178,14 +176,14 @@ module _ (s : List ℕ) (at next : ℕ) where
       ∙ access-whole s at wide to.stands (from_end wide) (omega (arith, to.fits)) (same-access wide to)
 
 -- what the test of ranges makes of what is decoded
-module _ (at : ℕ) {r : Reading} where
-  pub accept-beyond : {next : ℕ} {c : Command} → r ≡ Read.Taken next c → in_range c ≡ false → refuses 5 at ≡ when_given (reading_of r) (ranged at)
+module _ (at : ℕ) (t : Taken) where
+  pub accept-beyond : in_range t.command ≡ false → refuses 5 at ≡ ranged at t
   unfolding ranged
-  accept-beyond e b = rw (e, b)
+  accept-beyond b = rw b
 
-  pub accept-within : {next : ℕ} {c : Command} → r ≡ Read.Taken next c → in_range c ≡ true → gives (record { command = c; next = next }) ≡ when_given (reading_of r) (ranged at)
+  pub accept-within : in_range t.command ≡ true → gives t ≡ ranged at t
   unfolding ranged
-  accept-within e b = rw (e, b)
+  accept-within b = rw b
 
 -- and what reading does
 module _ (s : List ℕ) (at : ℕ) where

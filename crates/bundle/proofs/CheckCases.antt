@@ -15,22 +15,16 @@ use Rattle.bundle.specs.Lists.{first, concat_map, from_option}
 use Rattle.bundle.specs.Commands.{Bytes, bytes_of}
 use Rattle.bundle.specs.Chunks.{Placed, Front, Chunk, front_of, gather, chunks_of, part_of, is_of, chunk_of}
 use Rattle.bundle.specs.Walk.{opens_segment, adds_access}
-use Rattle.bundle.specs.Check.{shape_of, check_of, checking_of, find_of}
+use Rattle.bundle.specs.Check.{shape_of, check_of, find_of}
 use Rattle.bundle.specs.Scan.{start, scan_of}
 use Rattle.bundle.specs.Index.{chunk_row_at, fork_row_at, table, is_row, total, log_of, chunk_row, rows_from, chunk_rows, index_of, Indexed}
 use Rattle.bundle.specs.Shape.{shape_by_rows}
 use Rattle.bundle.specs.Survey.{InTables, Surveyed}
-use Rattle.bundle.specs.Find.{Ends, ends_of, handed_back}
-use Rattle.bundle.specs.ByRows.{ends_by_rows, indexed_as, IndexedAs}
+use Rattle.bundle.specs.Find.{Ends, ends_of}
+use Rattle.bundle.specs.ByRows.{ends_by_rows}
 use Rattle.bundle.specs.declared.refusal.Cause.{Cause}
 use Rattle.bundle.specs.declared.scan.Scan.{Scan}
 use Rattle.bundle.specs.declared.index.ChunkRow.{ChunkRow}
-use Rattle.bundle.specs.declared.survey.Survey.{Survey}
-use Rattle.bundle.specs.declared.survey.Survey.TheVariants as Surveys
-use Rattle.bundle.specs.declared.answer.Checking.{Checking}
-use Rattle.bundle.specs.declared.answer.Checking.TheVariants as Checks
-use Rattle.bundle.specs.declared.check.Indexing.{Indexing}
-use Rattle.bundle.specs.declared.check.Indexing.TheVariants as Indexings
 use Rattle.bundle.proofs.ListLaws.{concat_map-append, first_some}
 use Rattle.bundle.proofs.Tables.{first-at, first_past}
 use Rattle.bundle.proofs.Gathering.{placed_of, all-in-chunks}
@@ -56,34 +50,22 @@ module _ (s : List ℕ) where
 
   -- the shape by the rows in the tables
   pub check-rows :
-      (n m : ℕ) (chunks forks : List ℕ) (r : Checking)
+      (n m : ℕ) (chunks forks : List ℕ) {a : Answer (Unit {0})}
       → length s ≤ 65536
       → InTables s n m chunks forks
-      → checking_of r ≡ shape_by_rows (table (chunk_row_at chunks) n) (table (fork_row_at forks) m)
-      → {q : Indexing}
-      → q ≡ indexed_as n m r
-      → IndexedAs s q chunks forks
-  check-rows n m chunks forks r h t e {q} w =
-      subst (λ (x : Indexing). IndexedAs s x chunks forks) (sym w)
-      (cases r (check-shape t.scan h t.passes ∙ sym (shape-rows (chunks_of s)) ∙ ap₂ shape_by_rows (sym t.chunk-rows) (sym t.fork_rows) ∙ sym e))
-    where
-      cases : (r : Checking) → check_of s ≡ checking_of r → IndexedAs s (indexed_as n m r) chunks forks
-      cases Checks.Accepted e = record { accepted = e; few = t.few; chunk_table = t.chunk_table; fork_table = t.fork_table; chunk-rows = t.chunk-rows; fork_rows = t.fork_rows }
-      cases (Checks.Refused place cause) e = e
+      → a ≡ shape_by_rows (table (chunk_row_at chunks) n) (table (fork_row_at forks) m)
+      → check_of s ≡ a
+  check-rows n m chunks forks h t e =
+      check-shape t.scan h t.passes ∙ sym (shape-rows (chunks_of s)) ∙ ap₂ shape_by_rows (sym t.chunk-rows) (sym t.fork_rows) ∙ sym e
 
-  module _ (chunks forks : List ℕ) {q : Indexing} (v : IndexedAs s q chunks forks) where
-    pub indexed-accepted : {n m : ℕ} → q ≡ Indexings.Accepted n m → Indexed s n m chunks forks
-    indexed-accepted e = subst (λ (x : Indexing). IndexedAs s x chunks forks) e v
-
-    pub indexed-refused : {cause : Cause} {place : ℕ} → q ≡ Indexings.Refused place cause → check_of s ≡ refuses (number_of cause) place
-    indexed-refused e = subst (λ (x : Indexing). IndexedAs s x chunks forks) e v
-
-  module _ (chunks forks : List ℕ) {r : Survey} (v : Surveyed s r chunks forks) where
-    pub surveyed-tables : {n m : ℕ} → r ≡ Surveys.Complete n m → InTables s n m chunks forks
-    surveyed-tables e = subst (λ (x : Survey). Surveyed s x chunks forks) e v
-
-    pub surveyed-refusal : {cause : Cause} {place : ℕ} → r ≡ Surveys.Refused place cause → scan_of s ≡ refuses (number_of cause) place
-    surveyed-refusal e = subst (λ (x : Survey). Surveyed s x chunks forks) e v
+  pub indexed :
+      (n m : ℕ) (chunks forks : List ℕ)
+      → length s ≤ 65536
+      → InTables s n m chunks forks
+      → gives tt ≡ shape_by_rows (table (chunk_row_at chunks) n) (table (fork_row_at forks) m)
+      → Indexed s n m chunks forks
+  indexed n m chunks forks h t e =
+      record { accepted = check-rows n m chunks forks h t e; few = t.few; chunk_table = t.chunk_table; fork_table = t.fork_table; chunk-rows = t.chunk-rows; fork_rows = t.fork_rows }
 
 -- the ends of a chunk by the index of its row
 module _ (f : ℕ → ChunkRow) (n t m i : ℕ) (e : i ≡ index_of (is_row t m) (table f n)) where
@@ -181,11 +163,11 @@ find-ends-part s t m = go (check_of s) (chunk_of (chunks_of s) t m)
 pub found_part :
     (s : List ℕ) (t m : ℕ) (e : Ends)
     → gives e ≡ ends_of s t m
-    → handed_back (find_of s t m) ≡ record { part = take (e.end - e.start) (drop e.start s); number = 0; place = 0 }
+    → gives (take (e.end - e.start) (drop e.start s)) ≡ find_of s t m
 found_part s t m e q = rw (find-ends-part s t m, ← q)
 
 pub refused-part :
-    (s : List ℕ) (t m n p : ℕ) → refuses n p ≡ ends_of s t m → handed_back (find_of s t m) ≡ record { part = []; number = n; place = p }
+    (s : List ℕ) (t m n p : ℕ) → refuses n p ≡ ends_of s t m → refuses n p ≡ find_of s t m
 refused-part s t m n p q = rw (find-ends-part s t m, ← q)
 
 -- the ends lie within the bundle

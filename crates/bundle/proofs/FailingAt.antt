@@ -8,11 +8,13 @@ use native.Mathlib.Nat.{add-zero, zero-add}
 use native.Mathlib.Decide.{ℕ_discrete, dec_lt}
 use lib.Dec.{ltb}
 use borrow.Author.Tests.{lt-ltb, le-ltb}
+use Rattle.std.specs.declared.option.Option.{Option}
+use Rattle.std.specs.declared.option.Option.TheVariants.{Some, None}
 use Rattle.bundle.specs.Answer.{Answer, refuses}
 use Rattle.bundle.specs.Lists.{any}
 use Rattle.bundle.specs.Check.{failing, refused_at}
 use Rattle.bundle.specs.Index.{table_from, table, index_of}
-use Rattle.bundle.specs.Shape.{passed, fails_at, FirstFailing}
+use Rattle.bundle.specs.Shape.{passed, fails_at, FoundFirst, index_or, FirstFailing}
 use Rattle.bundle.proofs.Tests.{or-one, or-other}
 use Rattle.bundle.proofs.Tables.{table_none, table_more}
 
@@ -56,6 +58,37 @@ module _ {A : Type 0} (place : A → ℕ) (fails : List A → A → Bool) (f : �
         ∙ ap (λ (m : ℕ). refuses number (place (f m))) q
 
 -- tests that agree
+pub found-first :
+    {answers : ℕ → Bool → Type 0} {t : ℕ → Bool} {n : ℕ} (found : Option ℕ)
+    → FoundFirst answers n found
+    → ((i : ℕ) (b : Bool) → answers i b → b ≡ t i)
+    → FirstFailing t n (index_or n found)
+unfolding FoundFirst
+found-first {answers} {t} {n} found w e = go found w
+  where
+    go : (o : Option ℕ) → FoundFirst answers n o → FirstFailing t n (index_or n o)
+    go None w = record { within = omega arith; before = λ i h. sym (e i false (w i h)); here = λ h. absurd (omega arith) }
+    go (Some r) w = record { within = omega (arith, w.0); before = λ i h. sym (e i false (w.2 i h)); here = λ h. sym (e r true w.1) }
+
+-- and of one that is found, or none
+pub found-at :
+    {answers : ℕ → Bool → Type 0} {t : ℕ → Bool} {n r : ℕ} {found : Option ℕ}
+    → FoundFirst answers n found
+    → found ≡ Some r
+    → ((i : ℕ) (b : Bool) → answers i b → b ≡ t i)
+    → (r < n) × FirstFailing t n r
+unfolding FoundFirst
+found-at {answers} {t} {n} {r} w q e = let x = rw q at w in (x.0, found-first (Some r) x e)
+
+pub found-none :
+    {answers : ℕ → Bool → Type 0} {t : ℕ → Bool} {n : ℕ} {found : Option ℕ}
+    → FoundFirst answers n found
+    → found ≡ None
+    → ((i : ℕ) (b : Bool) → answers i b → b ≡ t i)
+    → FirstFailing t n n
+unfolding FoundFirst
+found-none {answers} {t} {n} w q e = found-first None (rw q at w) e
+
 pub same_first : {t u : ℕ → Bool} {n r : ℕ} → ((i : ℕ) → i < n → t i ≡ u i) → FirstFailing t n r → FirstFailing u n r
 same_first same first =
     record {

@@ -25,8 +25,10 @@ use Rattle.bundle.specs.declared.command.Command.TheVariants as Com
 use Rattle.bundle.specs.declared.index.ChunkRow.{ChunkRow}
 use Rattle.bundle.specs.declared.index.Fork.{Fork}
 use Rattle.bundle.specs.declared.survey.Progress.{Progress}
-use Rattle.bundle.specs.declared.survey.Survey.{Survey}
-use Rattle.bundle.specs.declared.survey.Survey.TheVariants as Surveys
+use Rattle.bundle.specs.declared.survey.RowCounts.{RowCounts}
+use Rattle.bundle.specs.declared.refusal.Refusal.{Refusal}
+use Rattle.std.specs.declared.result.Result.{Result}
+use Rattle.std.specs.declared.result.Result.TheVariants.{Ok, Err}
 use Rattle.bundle.specs.declared.refusal.Cause.TheVariants as Causes
 use Rattle.bundle.proofs.Tests.{cond-elim, or-false, false_of_not, false-is-true}
 use Rattle.bundle.proofs.Delimiters.{plain, closes, closes-forks-none, closes-keeps, closes-width, state-counts, Delimiter, opens_chunk, closes_chunk, neither, delimits, on-plain, on-closes, Forking, forks_team, forks_none, forkings, on-other, plain-not-end, Accessing, accesses_some, accesses_none, accessings, on-no-access}
@@ -533,9 +535,9 @@ module _ {s : List ℕ} {p : Progress} {chunks forks : List ℕ} (h : length s �
   unfolding finished
   surveyed-end =
       let few = v.few in
-      cond-elim (λ (r : Survey). Surveyed s r chunks forks) p.scan.inside
-      (Surveys.Refused (length s) Causes.Misplaced)
-      (Surveys.Complete p.chunks p.forks)
+      cond-elim (λ (r : Result RowCounts Refusal). Surveyed s r chunks forks) p.scan.inside
+      (Err (record { place = length s; cause = Causes.Misplaced }))
+      (Ok (record { chunks = p.chunks; forks = p.forks }))
       (λ e. scan-end ∙ pick_true p.scan.inside (refuses 4 (length s)) (gives p.scan) e)
       (λ e.
       record {
@@ -615,9 +617,9 @@ pub fewer-left : (n a b : ℕ) → a < n → a < b → n - b < n - a
 fewer-left n a b h l = omega arith
 
 pub surveyed-finish :
-    (s : List ℕ) (p : Progress) (chunks forks : List ℕ) {r : Survey}
+    (s : List ℕ) (p : Progress) (chunks forks : List ℕ) {r : Result RowCounts Refusal}
     → length s ≤ p.at
     → Surveying s p chunks forks
     → r ≡ finished p (length s)
     → Surveyed s r chunks forks
-surveyed-finish s p chunks forks h v e = subst (λ (x : Survey). Surveyed s x chunks forks) (sym e) (surveyed-end h v)
+surveyed-finish s p chunks forks h v e = subst (λ (x : Result RowCounts Refusal). Surveyed s x chunks forks) (sym e) (surveyed-end h v)

@@ -15,10 +15,9 @@ use Rattle.bundle.specs.Answer.{Answer, gives, refuses}
 use Rattle.bundle.specs.Lists.{up_to, any}
 use Rattle.bundle.specs.Check.{size_of, depth_of, failing, forked_before, refused_at}
 use Rattle.bundle.specs.Index.{chunk_row_of, chunk_row_at, fork_row_of, fork_row_at, table, is_row}
-use Rattle.bundle.specs.Shape.{stray_row, lacks_row, complete_row, lowest_row, unlike_row, beyond_row, barriers_by_rows, settled_by_rows, shape_by_rows, passed, fails_at, FirstFailing, slot_of, ByTeam, met_at, marked_at, Known, lead_word, Lead, noted_lead, Met, Settled, lacks_by, unlike_by, beyond_by, uneven_by, fails_by}
+use Rattle.bundle.specs.Shape.{stray_row, lacks_row, complete_row, lowest_row, unlike_row, beyond_row, barriers_by_rows, settled_by_rows, shape_by_rows, passed, fails_at, FirstFailing, slot_of, ByTeam, met_at, marked_at, Known, lead_word, Lead, noted_lead, Met, Settled, lacks_by, unlike_by, beyond_by, uneven_by, forked_by, lacks_at, deep_at, unlike_at, uneven_at}
 use Rattle.bundle.specs.declared.index.ChunkRow.{ChunkRow}
 use Rattle.bundle.specs.declared.index.Fork.{Fork}
-use Rattle.bundle.specs.declared.shape.Test.TheVariants.{ForkedBefore, LacksChunk, TooDeep, UnlikeLowest, Uneven}
 use Rattle.bundle.proofs.Tests.{both, and_left, and_right, or-false, not-both, refuted, fails, decide, same_test}
 use Rattle.bundle.proofs.ListLaws.{any-elim, any-intro, all-agree, up_to-elim}
 use Rattle.bundle.proofs.Tables.{table-length, table_more, table-in, table-each}
@@ -135,8 +134,8 @@ module _ (chunks forks order masks leads : List ℕ) (count n : ℕ) (settled : 
   abbrev regions : List Fork
   regions = table (fork_row_at forks) n
 
-  lacks-is : (i : ℕ) → i < n → fails_by LacksChunk chunks forks order masks leads i ≡ lacks_row rows (fork_row_at forks i).team (fork_row_at forks i).size
-  unfolding fails_by lacks_by lacks_row
+  lacks-is : (i : ℕ) → i < n → lacks_at forks masks i ≡ lacks_row rows (fork_row_at forks i).team (fork_row_at forks i).size
+  unfolding lacks_by lacks_row
   lacks-is i h =
       ap not
       (all-agree (λ m. met_at masks i m) (λ m. any (is_row team m) rows) (up_to (fork_row_at forks i).size)
@@ -154,8 +153,7 @@ module _ (chunks forks order masks leads : List ℕ) (count n : ℕ) (settled : 
       below : (m : ℕ) → m < (fork_row_at forks i).size → m < 256
       below m l = let s = size_small forks i in omega arith
 
-  deep_is : (i : ℕ) → i < n → fails_by TooDeep chunks forks order masks leads i ≡ ltb 4 (depth_of regions (fork_row_at forks i).team)
-  unfolding fails_by
+  deep_is : (i : ℕ) → i < n → deep_at forks order i ≡ ltb 4 (depth_of regions (fork_row_at forks i).team)
   deep_is i h = deep-depth forks order n settled.by_team (fork_row_at forks i).team
 
   -- 12 and 19 of a chunk, by the lowest-numbered complete member of its team
@@ -250,8 +248,8 @@ module _ (chunks forks order masks leads : List ℕ) (count n : ℕ) (settled : 
                 let same = one_chunk q d.0 m d.1 ((row-complete q whole).0 ∙ sym (row-complete d.0 d.2).0) (omega arith) in
                 ap lead_word same ∙ d.3
 
-  unlike-is : (i : ℕ) → i < count → fails_by UnlikeLowest chunks forks order masks leads i ≡ unlike_row rows (chunk_row_at chunks i)
-  unfolding fails_by unlike_by unlike_row
+  unlike-is : (i : ℕ) → i < count → unlike_at chunks order leads i ≡ unlike_row rows (chunk_row_at chunks i)
+  unfolding unlike_by unlike_row
   unlike-is i h = same_test _ _ there back
     where
       r : ChunkRow
@@ -296,11 +294,11 @@ module _ (chunks forks order masks leads : List ℕ) (count n : ℕ) (settled : 
 
   -- past 12 the complete members of a team have the barriers of the lowest-numbered one
   beyond-is :
-      ((j : ℕ) → j < count → fails_by UnlikeLowest chunks forks order masks leads j ≡ false)
+      ((j : ℕ) → j < count → unlike_at chunks order leads j ≡ false)
       → (i : ℕ)
       → i < count
       → beyond_at i ≡ beyond_row rows (chunk_row_at chunks i)
-  unfolding fails_by unlike_by beyond_by beyond_row
+  unfolding unlike_by beyond_by beyond_row
   beyond-is alike i h = same_test _ _ there back
     where
       r : ChunkRow
@@ -360,7 +358,7 @@ module _ (chunks forks order masks leads : List ℕ) (count n : ℕ) (settled : 
   abbrev from19 : Answer (Unit {0})
   from19 = refused_at 19 (failing (λ (r : ChunkRow). r.place) (λ before r. beyond_row rows r) [] rows) (gives tt)
 
-  module _ {r12 : ℕ} (f12 : FirstFailing (fails_by UnlikeLowest chunks forks order masks leads) count r12) where
+  module _ {r12 : ℕ} (f12 : FirstFailing (unlike_at chunks order leads) count r12) where
     pub one-unlike : r12 < count → refuses 12 (chunk_row_at chunks r12).place ≡ barriers_by_rows rows
     unfolding barriers_by_rows
     one-unlike h = sym (one-fails (λ (r : ChunkRow). r.place) (λ before r. unlike_row rows r) (chunk_row_at chunks) 12 from19 (same_first unlike-is f12) h)
@@ -380,9 +378,8 @@ module _ (chunks forks order masks leads : List ℕ) (count n : ℕ) (settled : 
       none_beyond h = sym (past-12 ∙ all_pass (λ (r : ChunkRow). r.place) (λ before r. beyond_row rows r) (chunk_row_at chunks) 19 (gives tt) (same_first beyond f19) h)
 
   -- the first chunk that fails 12 or 19
-  module _ {r : ℕ} (f : FirstFailing (fails_by Uneven chunks forks order masks leads) count r) where
-    first-unlike : (r < count → (chunk_row_at chunks r).complete ≡ true) → FirstFailing (fails_by UnlikeLowest chunks forks order masks leads) count r
-    unfolding fails_by
+  module _ {r : ℕ} (f : FirstFailing (uneven_at chunks order leads) count r) where
+    first-unlike : (r < count → (chunk_row_at chunks r).complete ≡ true) → FirstFailing (unlike_at chunks order leads) count r
     first-unlike c =
         record {
           within = f.within;
@@ -391,7 +388,6 @@ module _ (chunks forks order masks leads : List ℕ) (count n : ℕ) (settled : 
         }
 
     first-beyond : (r < count → (chunk_row_at chunks r).complete ≡ false) → FirstFailing beyond_at count r
-    unfolding fails_by
     first-beyond c =
         record {
           within = f.within;
@@ -410,7 +406,7 @@ module _ (chunks forks order masks leads : List ℕ) (count n : ℕ) (settled : 
         → r < count
         → row ≡ chunk_row_at chunks r
         → row.complete ≡ false
-        → FirstFailing (fails_by UnlikeLowest chunks forks order masks leads) count r12
+        → FirstFailing (unlike_at chunks order leads) count r12
         → count ≤ r12
         → refuses 19 (chunk_row_at chunks r).place ≡ barriers_by_rows rows
     cut-uneven h e c f12 p = one-beyond f12 p (first-beyond (λ l. ap (λ (x : ChunkRow). x.complete) (sym e) ∙ c)) h
@@ -426,7 +422,7 @@ module _ (chunks forks order masks leads : List ℕ) (count n : ℕ) (settled : 
   root-missing s e h = sym (rw (root_is s e, h))
 
   module _ {b : Bool} {slot : ℕ} (s : slot ≡ first_with_key order 0) (e : b ≡ met_at masks slot 0) (there : b ≡ true)
-      {r10 : ℕ} (f10 : FirstFailing (fails_by LacksChunk chunks forks order masks leads) n r10) where
+      {r10 : ℕ} (f10 : FirstFailing (lacks_at forks masks) n r10) where
     past-root : settled_by_rows rows regions ≡ from10
     unfolding settled_by_rows refused_at
     past-root = rw (root_is s e, there)
@@ -435,7 +431,7 @@ module _ (chunks forks order masks leads : List ℕ) (count n : ℕ) (settled : 
     chunk-missing h =
         sym (past-root ∙ one-fails (λ (f : Fork). f.place) (λ before f. lacks_row rows f.team f.size) (fork_row_at forks) 10 from11 (same_first lacks-is f10) h)
 
-    module _ (p10 : n ≤ r10) {r11 : ℕ} (f11 : FirstFailing (fails_by TooDeep chunks forks order masks leads) n r11) where
+    module _ (p10 : n ≤ r10) {r11 : ℕ} (f11 : FirstFailing (deep_at forks order) n r11) where
       past-10 : settled_by_rows rows regions ≡ from11
       past-10 = past-root ∙ all_pass (λ (f : Fork). f.place) (λ before f. lacks_row rows f.team f.size) (fork_row_at forks) 10 from11 (same_first lacks-is f10) p10
 
@@ -448,10 +444,9 @@ module _ (chunks forks order masks leads : List ℕ) (count n : ℕ) (settled : 
           sym (past-10 ∙ all_pass (λ (f : Fork). f.place) (λ before f. ltb 4 (depth_of regions f.team)) (fork_row_at forks) 11 (barriers_by_rows rows) (same_first deep_is f11) h)
 
 -- 8 and 9
-module _ (chunks forks order masks₀ leads₀ : List ℕ) (count n : ℕ) (by : ByTeam order (table (fork_row_at forks) n))
-    {r8 : ℕ} (f8 : FirstFailing (fails_by ForkedBefore chunks forks order masks₀ leads₀) n r8) where
-  forked-is : (i : ℕ) → i < n → fails_by ForkedBefore chunks forks order masks₀ leads₀ i ≡ fails_at forked_before (fork_row_at forks) i
-  unfolding fails_by
+module _ (chunks forks order : List ℕ) (count n : ℕ) (by : ByTeam order (table (fork_row_at forks) n))
+    {r8 : ℕ} (f8 : FirstFailing (forked_by forks order) n r8) where
+  forked-is : (i : ℕ) → i < n → forked_by forks order i ≡ fails_at forked_before (fork_row_at forks) i
   forked-is i h = rw (by.slot (fork_row_at forks i).team) (forked-index (fork_row_at forks) n i h)
 
   first8 : FirstFailing (fails_at forked_before (fork_row_at forks)) n r8

@@ -8,19 +8,17 @@ use lib.Dec.{eqb, ltb}
 use borrow.Author.Tests.{lt-ltb, le-ltb}
 use Rattle.bundle.specs.Answer.{Answer, gives, refuses}
 use Rattle.bundle.specs.Locks.{holds}
-use Rattle.bundle.specs.Commands.{Taken, operands_ok, in_range, decode_at, reading_of}
+use Rattle.bundle.specs.Commands.{Taken, operands_ok, in_range, decode_at}
 use Rattle.bundle.specs.Chunks.{after_barrier, after_join, after_acquire, after_release, after_command}
 use Rattle.bundle.specs.Walk.{opens_segment, adds_access}
 use Rattle.bundle.specs.Scan.{misplaced, differs, of_other_group, above_own_team, misuses_lock, too_many, fault_of, scanned}
-use Rattle.bundle.specs.Survey.{Bounded, scan_with, Stepped, unmoved, decided, tested_at, step_at}
+use Rattle.bundle.specs.Survey.{Bounded, scan_with, Stepped, decided, tested_at, step_at}
 use Rattle.bundle.specs.declared.refusal.Cause.{Cause}
 use Rattle.bundle.specs.declared.chunk.ChunkState.{ChunkState}
 use Rattle.bundle.specs.declared.scan.Scan.{Scan}
 use Rattle.bundle.specs.declared.command.Access.{Access}
 use Rattle.bundle.specs.declared.command.Command.{Command}
 use Rattle.bundle.specs.declared.command.Command.TheVariants as Com
-use Rattle.bundle.specs.declared.command.Reading.{Reading}
-use Rattle.bundle.specs.declared.command.Reading.TheVariants as Read
 use Rattle.bundle.proofs.Ranges.{in-range-ok}
 
 -- the scan after a command that passes
@@ -177,15 +175,11 @@ tested k at t {k' = k'} e₄ e₂₀ e₅ e₆ e₇ after =
     go false false true true false false h = ap stepped (h refl refl)
 
 -- what was decoded, refused or taken
-module _ (s : List ℕ) (at : ℕ) (k : Scan) {r : Reading} (decodes : reading_of r ≡ decode_at s at) where
-  pub step-refused : {place : ℕ} {cause : Cause} → r ≡ Read.Refused place cause → unmoved k (reading_of r) ≡ step_at s at k
+module _ (s : List ℕ) (at : ℕ) (k : Scan) where
+  pub step-refused : {n p : ℕ} → refuses n p ≡ decode_at s at → refuses n p ≡ step_at s at k
   unfolding step_at
-  step-refused e = rw (← decodes, e)
+  step-refused e = rw (← e)
 
-  pub step-taken :
-      {next : ℕ} {c : Command} {a : Answer Stepped}
-      → r ≡ Read.Taken next c
-      → a ≡ tested_at k at (record { command = c; next = next })
-      → a ≡ step_at s at k
+  pub step-taken : {t : Taken} {a : Answer Stepped} → gives t ≡ decode_at s at → a ≡ tested_at k at t → a ≡ step_at s at k
   unfolding step_at
-  step-taken e q = rw (← decodes, e) q
+  step-taken e q = rw (← e) q

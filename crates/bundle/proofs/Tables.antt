@@ -1,4 +1,5 @@
 -- Tables of rows in words: what a word holds, how a table grows, and the first row that passes a test.
+use Rattle.std.specs.declared.option.Option.TheVariants.{Some, None}
 use Prim.Native.Nat.{ℕ, zero, suc, ◌+◌, ◌-◌, ◌*◌, ◌/◌, ◌%◌, ◌≤◌, ◌<◌}
 use mathlib.Core.Path.{◌≡◌, refl, sym, ◌∙◌, ap}
 use mathlib.Core.Logic.{⊎_elim}
@@ -10,12 +11,13 @@ use native.Mathlib.Omega.{arith}
 use native.Mathlib.Decide.{ℕ_discrete}
 use native.Mathlib.Numerals.{add-one}
 use native.Mathlib.Nat.{add-mul-mod_self_left, add-mul-div_left, mod-eq_of_lt, div-eq_of_lt, add-zero, zero-add}
-use lib.Dec.{eqb}
+use Rattle.std.proofs.lemmas.Bool.{lt-ltb, le-ltb, ltb-true, ltb-false}
+use lib.Dec.{eqb, ltb}
 use mir.Val.{bool_byte}
 use lib.ListN.{length, get_or, set, length-set}
 use lib.Seq.{lt-length-set, get_or-set_same, get_or-set_other}
 use Rattle.bundle.specs.Lists.{first}
-use Rattle.bundle.specs.Index.{parts_of, chunk_row_of, chunk_row_at, fork_row_of, fork_row_at, table_from, table, Added, index_of}
+use Rattle.bundle.specs.Index.{parts_of, chunk_row_of, chunk_row_at, fork_row_of, fork_row_at, table_from, table, Added, index_of, below}
 use Rattle.bundle.specs.declared.index.ChunkRow.{ChunkRow}
 use Rattle.bundle.specs.declared.index.Fork.{Fork}
 use Rattle.bundle.specs.declared.index.Parts.{Parts}
@@ -154,6 +156,13 @@ module _ {A : Type 0} where
     pub all-missed : (n i : ℕ) → i ≤ n → n ≤ i → ((l : ℕ) → l < i → p (f l) ≡ false) → i ≡ index_of p (table f n)
     all-missed n i a b h = let e : i ≡ n = omega arith in rw e (sym (index-past n (λ l q. h l (omega arith))).0)
 
+    -- the search that goes front to back, and stops at the first
+    pub found-below : (n i : ℕ) → ((l : ℕ) → l < i → p (f l) ≡ false) → i < n → p (f i) ≡ true → Some i ≡ below n (index_of p (table f n))
+    found-below n i h l e = sym (rw ((index-found n i h l e).0, lt-ltb i n l))
+
+    pub none-below : (n : ℕ) → ((l : ℕ) → l < n → p (f l) ≡ false) → None ≡ below n (index_of p (table f n))
+    none-below n h = sym (rw ((index-past n h).0, le-ltb n n (omega arith)))
+
     -- what an index tells of the first
     from-tells :
         (i k : ℕ)
@@ -274,3 +283,18 @@ pub stored-fork : (f : Fork) (one other : Parts) →
     fork_row_of one other f.state.locks ≡ f
 unfolding fork_row_of
 stored-fork f one other e q = rw (e, q)
+
+-- an index that is found, or none
+pub below-some : {n k i : ℕ} → Some i ≡ below n k → (i ≡ k) × (k < n)
+below-some {n} {k} {i} e = go (ltb k n) refl e
+  where
+    go : (b : Bool) → ltb k n ≡ b → Some i ≡ cond b (Some k) None → (i ≡ k) × (k < n)
+    go true q w = let x : i ≡ k = cc in (x, ltb-true k n q)
+    go false q w = let z : ◌≡◌ {A = ℕ} 0 1 = cc in absurd (omega arith)
+
+pub below-none : {n k : ℕ} → None ≡ below n k → n ≤ k
+below-none {n} {k} e = go (ltb k n) refl e
+  where
+    go : (b : Bool) → ltb k n ≡ b → None ≡ cond b (Some k) None → n ≤ k
+    go true q w = let z : ◌≡◌ {A = ℕ} 0 1 = cc in absurd (omega arith)
+    go false q w = ltb-false k n q

@@ -1,5 +1,8 @@
 -- Answers and refusals: what an operation gives, or the number and place with which it turns its input away.
 use Rattle.std.specs.Prelude.{ℕ}
+use Rattle.std.specs.declared.result.Result.{Result}
+use Rattle.std.specs.declared.result.Result.TheVariants.{Ok, Err}
+use Rattle.bundle.specs.declared.refusal.Refusal.{Refusal}
 use Rattle.bundle.specs.declared.refusal.Cause.{Cause}
 use Rattle.bundle.specs.declared.refusal.Cause.TheVariants.{
   BundleTooLong,
@@ -62,3 +65,8 @@ number_of OtherGroup = 20
 number_of SiteTooLarge = 21
 number_of TooFewRecords = 22
 number_of WrongRecord = 23
+
+-- what the answer of the code says, in the format's number and place
+abbrev pub answer_of : {A : Type 0} → Result A Refusal → Answer A
+answer_of (Ok a) = gives a
+answer_of (Err r) = refuses (number_of r.cause) r.place

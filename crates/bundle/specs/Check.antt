@@ -2,14 +2,12 @@
 use Rattle.std.specs.Prelude.{ℕ, zero, suc, ◌≡◌, Bool, cond, not, ◌&&◌, ◌||◌, length, eqb, ltb, leb}
 use mathlib.Core.List.{List, [], ◌∷◌, map, Permᴰ}
 use Rattle.std.proofs.Math.Option.{Option}
-use Rattle.bundle.specs.Answer.{Answer, gives, refuses, when_given, number_of}
+use Rattle.bundle.specs.Answer.{Answer, gives, refuses, when_given}
 use Rattle.bundle.specs.Lists.{up_to, any, all, first, back_to_back, from_option}
 use Rattle.bundle.specs.Chunks.{Chunk, chunks_of, complete, part_of, is_of, chunk_of}
 unfoldable pub use Rattle.bundle.specs.Walk.{forks_in, forks_of, barriers_of}
 pub use Rattle.bundle.specs.declared.index.Fork.{Fork}
 use Rattle.bundle.specs.Scan.{scan_of}
-use Rattle.bundle.specs.declared.answer.Checking.{Checking}
-use Rattle.bundle.specs.declared.answer.Checking.TheVariants as Checks
 
 -- the REGION that forks a team
 unfoldable pub fork_of : List Fork → ℕ → Option Fork
@@ -84,11 +82,6 @@ shape_of cs =
 -- "Check a bundle"
 unfoldable pub check_of : List ℕ → Answer (Unit {0})
 check_of s = cond (ltb 65536 (length s)) (refuses 1 0) (when_given (scan_of s) (λ k. shape_of (chunks_of s)))
-
--- what the answer of the code says
-abbrev pub checking_of : Checking → Answer (Unit {0})
-checking_of Checks.Accepted = gives tt
-checking_of (Checks.Refused place cause) = refuses (number_of cause) place
 
 -- "Find a member's chunk": as check, then 14 none such, at 0
 unfoldable pub find_of : List ℕ → ℕ → ℕ → Answer (List ℕ)

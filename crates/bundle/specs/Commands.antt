@@ -8,10 +8,7 @@ use Rattle.bundle.specs.declared.command.AccessKind.TheVariants as Kind
 use Rattle.bundle.specs.declared.command.Range.{Range}
 use Rattle.bundle.specs.declared.command.Command.{Command}
 use Rattle.bundle.specs.declared.command.Command.TheVariants as Com
-use Rattle.bundle.specs.declared.command.Reading.{Reading}
-use Rattle.bundle.specs.declared.command.Reading.TheVariants as Read
-use Rattle.bundle.specs.declared.command.Putting.{Putting}
-use Rattle.bundle.specs.declared.command.Putting.TheVariants as Put
+pub use Rattle.bundle.specs.declared.command.Taken.{Taken}
 
 -- a list of bytes
 abbrev pub Bytes : List ℕ → Type 0
@@ -162,11 +159,6 @@ fit_widths (w ∷ ws) (x ∷ xs) = ltb x (256 ^ w) && fit_widths ws xs
 unfoldable pub in_range : Command → Bool
 in_range c = fit_widths (widths_of (code_of c).byte) (code_of c).operands && operands_ok c
 
--- a command, and the position after it
-pub record Taken : Type 0 where
-  pub command : Command
-  pub next : ℕ
-
 -- the command at a position, its operands of any value: 18 position at or past the end; 2 unknown command byte; 3 operands cut off
 unfoldable pub decode_byte : List ℕ → ℕ → ℕ → Answer Taken
 decode_byte s at b =
@@ -201,12 +193,3 @@ put_at command buffer at =
     (record { answer = gives (at + length (bytes_of command)); buffer = written buffer at (bytes_of command) })
     (record { answer = refuses 17 at; buffer = buffer }))
     (record { answer = refuses 5 at; buffer = buffer })
-
--- what the answers of the code say, in the format's numbers and values
-abbrev pub reading_of : Reading → Answer Taken
-reading_of (Read.Taken next command) = gives (record { command = command; next = next })
-reading_of (Read.Refused place cause) = refuses (number_of cause) place
-
-abbrev pub putting_of : Putting → Answer ℕ
-putting_of (Put.Written next) = gives next
-putting_of (Put.Refused place cause) = refuses (number_of cause) place

@@ -1,5 +1,7 @@
 -- The index of a bundle: the rows that lent words hold, and which rows the chunks and REGIONs of a bundle have.
-use Rattle.std.specs.Prelude.{ℕ, zero, suc, ◌+◌, ◌*◌, ◌/◌, ◌%◌, ◌≤◌, ◌<◌, ◌≡◌, Bool, ◌&&◌, List, [], ◌∷◌, length, get_or, eqb}
+use Rattle.std.specs.Prelude.{ℕ, zero, suc, ◌+◌, ◌*◌, ◌/◌, ◌%◌, ◌≤◌, ◌<◌, ◌≡◌, Bool, ◌&&◌, List, [], ◌∷◌, length, get_or, eqb, ltb, cond}
+use Rattle.std.specs.declared.option.Option.{Option}
+use Rattle.std.specs.declared.option.Option.TheVariants.{Some, None}
 unfoldable pub use Rattle.sorting.specs.Searching.{index_of}
 use Rattle.bundle.specs.Answer.{gives}
 use Rattle.bundle.specs.Chunks.{Chunk, chunks_of, commands_of, complete}
@@ -10,6 +12,8 @@ use Rattle.bundle.specs.declared.command.Command.TheVariants as Com
 use Rattle.bundle.specs.declared.index.ChunkRow.{ChunkRow}
 use Rattle.bundle.specs.declared.index.Fork.{Fork}
 use Rattle.bundle.specs.declared.index.Parts.{Parts}
+use Rattle.bundle.specs.declared.index.Chunks.{Chunks}
+use Rattle.bundle.specs.declared.index.Forks.{Forks}
 
 -- the numbers that a word holds, from the low bits up
 abbrev pub parts_of : ℕ → Parts
@@ -60,6 +64,17 @@ table_from f i (suc k) = f i ∷ table_from f (suc i) k
 
 unfoldable pub table : {A : Type 0} → (ℕ → A) → ℕ → List A
 table f n = table_from f 0 n
+
+-- the rows in a view
+abbrev pub chunk_rows_in : Chunks → List ChunkRow
+chunk_rows_in c = table (chunk_row_at c.words.now) c.count
+
+abbrev pub fork_rows_in : Forks → List Fork
+fork_rows_in f = table (fork_row_at f.words.now) f.count
+
+-- an index below n, or none
+abbrev pub below : ℕ → ℕ → Option ℕ
+below n i = cond (ltb i n) (Some i) None
 
 -- the numbers of a row fit its words
 pub record ChunkFits (r : ChunkRow) : Type 0 where

@@ -1,6 +1,8 @@
 -- Plain functions on lists that the definitions use.
 use Rattle.std.specs.Prelude.{ℕ, zero, suc, Bool, true, false, cond, ◌&&◌, ◌||◌, List, [], ◌∷◌, ◌++◌, eqb}
 use Rattle.std.proofs.Math.Option.{Option, none, some}
+use Rattle.std.specs.declared.option.Option as Code
+use Rattle.std.specs.declared.option.Option.TheVariants as Variants
 
 -- 0, 1, .. below n
 abbrev pub up_to : ℕ → List ℕ
@@ -40,6 +42,11 @@ module _ {A B : Type 0} where
   abbrev pub from_option : B → (A → B) → Option A → B
   from_option b f none = b
   from_option b f (some a) = f a
+
+-- an option of the code as one of the definitions
+abbrev pub option_of : {A : Type 0} → Code.Option A → Option A
+option_of Variants.None = none
+option_of (Variants.Some a) = some a
 
 -- whether a number is in the list
 abbrev pub among : ℕ → List ℕ → Bool

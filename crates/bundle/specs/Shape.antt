@@ -2,15 +2,17 @@
 use Rattle.std.specs.Prelude.{ℕ, zero, suc, ◌+◌, ◌-◌, ◌*◌, ◌/◌, ◌%◌, ◌^◌, ◌≤◌, ◌<◌, ◌≡◌, ◌⊎◌, Bool, true, false, cond, not, ◌&&◌, ◌||◌, eqb, ltb, leb, length, get_or, set, replicate}
 use mathlib.Core.List.{List, [], ◌∷◌, Memᴰ}
 use Rattle.std.specs.Int.Bits.{bit_or}
+use Rattle.std.specs.declared.option.Option.{Option}
+use Rattle.std.specs.declared.option.Option.TheVariants.{Some, None}
 use Rattle.sorting.specs.Searching.{first_with_key}
 use Rattle.bundle.specs.Answer.{Answer, gives}
 use Rattle.bundle.specs.Lists.{up_to, any, all}
 use Rattle.bundle.specs.Check.{size_of, depth_of, failing, forked_before, refused_at}
-use Rattle.bundle.specs.Index.{chunk_row_at, fork_row_at, table, is_row, index_of}
+use Rattle.bundle.specs.Index.{chunk_row_at, fork_row_at, chunk_rows_in, fork_rows_in, table, is_row, index_of}
 use Rattle.bundle.specs.declared.index.ChunkRow.{ChunkRow}
 use Rattle.bundle.specs.declared.index.Fork.{Fork}
-use Rattle.bundle.specs.declared.shape.Test.{Test}
-use Rattle.bundle.specs.declared.shape.Test.TheVariants.{ForkedBefore, LacksChunk, TooDeep, UnlikeLowest, Uneven}
+use Rattle.bundle.specs.declared.index.Chunks.{Chunks}
+use Rattle.bundle.specs.declared.index.Forks.{Forks}
 
 unfoldable pub stray_row : List Fork → List ChunkRow → ChunkRow → Bool
 stray_row fs before r = leb (size_of fs r.team) r.member || any (is_row r.team r.member) before
@@ -60,6 +62,16 @@ passed f (suc i) = f i ∷ passed f i
 
 abbrev pub fails_at : {A : Type 0} → (List A → A → Bool) → (ℕ → A) → ℕ → Bool
 fails_at fails f i = fails (passed f i) (f i)
+
+-- what a search front to back finds below n, by the answers that a test gives
+unfoldable pub FoundFirst : (ℕ → Bool → Type 0) → ℕ → Option ℕ → Type 0
+FoundFirst answers n None = (i : ℕ) → i < n → answers i false
+FoundFirst answers n (Some r) = (r < n) × answers r true × ((i : ℕ) → i < r → answers i false)
+
+-- what was found, as an index; n for none
+abbrev pub index_or : ℕ → Option ℕ → ℕ
+index_or n None = n
+index_or n (Some r) = r
 
 -- the first index below n that fails a test; n where there is none
 pub record FirstFailing (fails : ℕ → Bool) (n r : ℕ) : Type 0 where
@@ -117,14 +129,23 @@ pub record Blank (order masks leads : List ℕ) (regions : ℕ) : Type 0 where
   pub leads_long : regions < length leads
   pub leads_clear : leads ≡ replicate (length leads) 0
 
+-- so many REGIONs have tables of these lengths
+pub record WithinTables (n regions masks leads : ℕ) : Type 0 where
+  pub few : n ≤ regions
+  pub regions_few : regions ≤ 512
+  pub masks_long : 4 * regions + 3 < masks
+  pub masks_few : masks ≤ 2052
+  pub leads_long : regions < leads
+  pub leads_few : leads ≤ 513
+
 -- the tables where no chunk was met, and where those before the first stray one were
 pub record Ready (chunks forks order masks leads : List ℕ) (regions : ℕ) : Type 0 where
   pub by_team : ByTeam order (table (fork_row_at forks) regions)
   pub met : Met (table (fork_row_at forks) regions) (table (chunk_row_at chunks) 0) masks leads
 
-pub record MetTo (chunks forks masks leads : List ℕ) (count regions r : ℕ) : Type 0 where
-  pub first : FirstFailing (fails_at (stray_row (table (fork_row_at forks) regions)) (chunk_row_at chunks)) count r
-  pub met : Met (table (fork_row_at forks) regions) (table (chunk_row_at chunks) r) masks leads
+pub record MetTo (chunks : Chunks) (forks : Forks) (found : Option ℕ) (masks leads : List ℕ) : Type 0 where
+  pub first : FoundFirst (λ i b. b ≡ fails_at (stray_row (fork_rows_in forks)) (chunk_row_at chunks.words.now) i) chunks.count found
+  pub met : Met (fork_rows_in forks) (table (chunk_row_at chunks.words.now) (index_or chunks.count found)) masks leads
 
 -- what is known past 8 and 9
 pub record Settled (chunks forks order masks leads : List ℕ) (count regions : ℕ) : Type 0 where
@@ -158,11 +179,18 @@ beyond_by r lead = not r.complete && (leb 1 lead && ltb (lead % 65536) r.barrier
 unfoldable pub uneven_by : ChunkRow → ℕ → Bool
 uneven_by r lead = cond r.complete (not (eqb r.barriers (lead % 65536))) (leb 1 lead && ltb (lead % 65536) r.barriers)
 
-unfoldable pub fails_by : Test → (chunks forks order masks leads : List ℕ) → ℕ → Bool
-fails_by ForkedBefore chunks forks order masks leads i = ltb (first_with_key order (fork_row_at forks i).team) i
-fails_by LacksChunk chunks forks order masks leads i = lacks_by masks i (fork_row_at forks i).size
-fails_by TooDeep chunks forks order masks leads i = deep_by forks order (fork_row_at forks i).team
-fails_by UnlikeLowest chunks forks order masks leads i =
-    unlike_by (chunk_row_at chunks i) (get_or leads (first_with_key order (chunk_row_at chunks i).team) 0)
-fails_by Uneven chunks forks order masks leads i =
-    uneven_by (chunk_row_at chunks i) (get_or leads (first_with_key order (chunk_row_at chunks i).team) 0)
+-- the tests of the i-th REGION, 8, 10 and 11, and of the i-th chunk, 12 and 19
+abbrev pub forked_by : (forks order : List ℕ) → ℕ → Bool
+forked_by forks order i = ltb (first_with_key order (fork_row_at forks i).team) i
+
+abbrev pub lacks_at : (forks masks : List ℕ) → ℕ → Bool
+lacks_at forks masks i = lacks_by masks i (fork_row_at forks i).size
+
+abbrev pub deep_at : (forks order : List ℕ) → ℕ → Bool
+deep_at forks order i = deep_by forks order (fork_row_at forks i).team
+
+abbrev pub unlike_at : (chunks order leads : List ℕ) → ℕ → Bool
+unlike_at chunks order leads i = unlike_by (chunk_row_at chunks i) (get_or leads (first_with_key order (chunk_row_at chunks i).team) 0)
+
+abbrev pub uneven_at : (chunks order leads : List ℕ) → ℕ → Bool
+uneven_at chunks order leads i = uneven_by (chunk_row_at chunks i) (get_or leads (first_with_key order (chunk_row_at chunks i).team) 0)

@@ -1,5 +1,7 @@
 -- Inner: the scan as the code goes: one command at a position, and the rows of the chunks and REGIONs that it has met so far.
 use Rattle.std.specs.Prelude.{ℕ, ◌+◌, ◌*◌, ◌≤◌, ◌<◌, ◌≡◌, Bool, true, cond, List, [], ◌∷◌, ◌++◌, map, eqb, length}
+use Rattle.std.specs.declared.result.Result.{Result}
+use Rattle.std.specs.declared.result.Result.TheVariants.{Ok, Err}
 use Rattle.bundle.specs.Answer.{Answer, gives, refuses, when_given, number_of}
 use Rattle.bundle.specs.Commands.{Taken, decode_at}
 use Rattle.bundle.specs.Lists.{any, concat_map}
@@ -16,10 +18,9 @@ use Rattle.bundle.specs.declared.index.ChunkRow.{ChunkRow}
 use Rattle.bundle.specs.declared.index.Fork.{Fork}
 use Rattle.bundle.specs.declared.survey.Open.{Open}
 use Rattle.bundle.specs.declared.survey.Progress.{Progress}
-use Rattle.bundle.specs.declared.survey.Survey.{Survey}
-use Rattle.bundle.specs.declared.survey.Survey.TheVariants as Surveys
-use Rattle.bundle.specs.declared.scan.Step.{Step}
-use Rattle.bundle.specs.declared.scan.Step.TheVariants as Steps
+use Rattle.bundle.specs.declared.survey.RowCounts.{RowCounts}
+use Rattle.bundle.specs.declared.refusal.Refusal.{Refusal}
+pub use Rattle.bundle.specs.declared.scan.Stepped.{Stepped}
 
 -- the scan's counts are within 7's limits, and the open chunk's within the count of segments; it has the wide group only of accesses
 pub record Bounded (k : Scan) : Type 0 where
@@ -39,16 +40,6 @@ scan_with k state opens adds wide =
       wide = wide;
     }
 
--- one command of the scan: the scan after it, the command, and the position after it
-pub record Stepped : Type 0 where
-  pub scan : Scan
-  pub command : Command
-  pub next : ℕ
-
--- what was read, with the scan as it stands
-abbrev pub unmoved : Scan → Answer Taken → Answer Stepped
-unmoved k a = when_given a (λ t. gives (record { scan = k; command = t.command; next = t.next }))
-
 -- 4, 20, 5, 6 and 7 in that order, where the tests say so
 abbrev pub decided : ℕ → Bool → Bool → Bool → Bool → Bool → Answer Stepped → Answer Stepped
 decided at misplaced foreign beyond misused many onward =
@@ -64,10 +55,6 @@ tested_at k at t =
 
 unfoldable pub step_at : List ℕ → ℕ → Scan → Answer Stepped
 step_at s at k = when_given (decode_at s at) (tested_at k at)
-
-abbrev pub step_of : Step → Answer Stepped
-step_of (Steps.Onward next scan command) = gives (record { scan = scan; command = command; next = next })
-step_of (Steps.Refused place cause) = refuses (number_of cause) place
 
 -- the pass at the front of a bundle
 unfoldable pub beginning : Progress
@@ -184,8 +171,8 @@ pub record Surveying (s : List ℕ) (p : Progress) (chunks forks : List ℕ) : T
   pub fork_rest :
       table (fork_row_at forks) p.forks ++ forks_to_come p (gather (front_from fuel s p.at).placed) ≡ forks_of (chunks_of s)
 
-unfoldable pub finished : Progress → ℕ → Survey
-finished p end = cond p.scan.inside (Surveys.Refused end Causes.Misplaced) (Surveys.Complete p.chunks p.forks)
+unfoldable pub finished : Progress → ℕ → Result RowCounts Refusal
+finished p end = cond p.scan.inside (Err (record { place = end; cause = Causes.Misplaced })) (Ok (record { chunks = p.chunks; forks = p.forks }))
 
 -- the bundle passes the scan, and the tables hold its rows
 pub record InTables (s : List ℕ) (n m : ℕ) (chunks forks : List ℕ) : Type 0 where
@@ -197,6 +184,6 @@ pub record InTables (s : List ℕ) (n m : ℕ) (chunks forks : List ℕ) : Type 
   pub chunk-rows : table (chunk_row_at chunks) n ≡ chunk_rows (chunks_of s)
   pub fork_rows : table (fork_row_at forks) m ≡ forks_of (chunks_of s)
 
-abbrev pub Surveyed : List ℕ → Survey → List ℕ → List ℕ → Type 0
-Surveyed s (Surveys.Complete n m) chunks forks = InTables s n m chunks forks
-Surveyed s (Surveys.Refused place cause) chunks forks = scan_of s ≡ refuses (number_of cause) place
+abbrev pub Surveyed : List ℕ → Result RowCounts Refusal → List ℕ → List ℕ → Type 0
+Surveyed s (Ok k) chunks forks = InTables s k.chunks k.forks chunks forks
+Surveyed s (Err r) chunks forks = scan_of s ≡ refuses (number_of r.cause) r.place

@@ -22,7 +22,7 @@ pub fn holds_lock(locks: u64, lock: u8) -> bool
 }
 
 // The state after a command. Where a count is at its limit, the lock to acquire is held or no lock, or the one to release is not held,
-// the state stays as it is; the scan refuses all of these.
+// the state stays as it is; the scan refuses all of these. Each test stays an `if` of its own: joined by `||`, check of a bundle of locks took 2.5 times as long.
 impl ChunkState {
     pub fn fresh() -> Self
         ensures { result ≡ fresh }
@@ -34,6 +34,7 @@ impl ChunkState {
         }
     }
 
+    // Stays apart from `after_join`: each counts in a field of its own.
     pub fn after_barrier(self) -> Self
         ensures { result ≡ cond (ltb self.barriers 4294967295) (after_barrier self) self }
     {
@@ -41,8 +42,7 @@ impl ChunkState {
         if barriers < 4294967295 {
             return ChunkState {
                 barriers: barriers + 1,
-                regions: self.regions,
-                locks: self.locks,
+                ..self
             };
         }
         self
@@ -54,14 +54,14 @@ impl ChunkState {
         let regions = self.regions;
         if regions < 4294967295 {
             return ChunkState {
-                barriers: self.barriers,
                 regions: regions + 1,
-                locks: self.locks,
+                ..self
             };
         }
         self
     }
 
+    // Stays apart from `after_release`: one sets a bit that is not set, the other takes away one that is.
     pub fn after_acquire(self, lock: u8) -> Self
         ensures { result ≡ cond (ltb lock 64 && not (holds lock self.locks)) (after_acquire lock self) self }
     {
@@ -73,9 +73,8 @@ impl ChunkState {
             return self;
         }
         ChunkState {
-            barriers: self.barriers,
-            regions: self.regions,
             locks: locks + (1 << lock),
+            ..self
         }
     }
 
@@ -88,9 +87,8 @@ impl ChunkState {
         }
         if holds_lock(locks, lock) {
             return ChunkState {
-                barriers: self.barriers,
-                regions: self.regions,
                 locks: locks - (1 << lock),
+                ..self
             };
         }
         self

@@ -1,19 +1,43 @@
 // The commands of a run log: "One byte, then operands of fixed width, low byte first", read from bytes and put into them.
-ghost use Rattle.std.specs.Prelude.{◌≡◌, true, false, cond, ◌||◌, ◌+◌, ◌-◌, ◌%◌, ◌≤◌, ltb, leb, [], ◌∷◌, length};
-ghost use Rattle.bundle.specs.Commands.{number_at, kind_of, size_ok, stride_ok, last_byte, range_ok, in_range, decode_at, read_at, reading_of, kind_byte, access_byte, access_widths, operand_bytes, bytes_of, put_at, putting_of, ranged};
+ghost use Rattle.std.specs.Prelude.{◌≡◌, true, false, cond, ◌||◌, ◌⊎◌, ◌+◌, ◌-◌, ◌%◌, ◌≤◌, ltb, leb, [], ◌∷◌, length};
+ghost use Rattle.bundle.specs.Commands.{number_at, kind_of, size_ok, stride_ok, last_byte, range_ok, in_range, decode_at, read_at, kind_byte, access_byte, access_widths, operand_bytes, bytes_of, put_at, ranged};
 ghost use Rattle.bundle.specs.Inner.{StandsAt, AccessAt, AccessTo, range_operands, Holds};
-ghost use Rattle.bundle.specs.Answer.{refuses, when_given};
+ghost use Rattle.bundle.specs.Answer.{answer_of, refuses, when_given};
 
 use crate::copy::copy_in;
-use crate::refusal::Cause;
+use crate::refusal::{Cause, Refusal};
 
-// What an access does: the commands 0x30 to 0x33, and 0x38 to 0x3b, in this order.
-#[derive(Clone, Copy)]
+// The first bytes of the commands but the accesses (docs/FORMAT.md).
+const MEMBER: u8 = 0x01;
+
+const END: u8 = 0x02;
+
+const CUT: u8 = 0x03;
+
+const REGION: u8 = 0x10;
+
+const BARRIER: u8 = 0x11;
+
+const ACQUIRE: u8 = 0x20;
+
+const RELEASE: u8 = 0x21;
+
+// What an access does, with its command byte in the narrow group; the wide group's are 8 more.
+#[derive(Clone, Copy, PartialEq, Eq)]
 pub enum AccessKind {
-    Read,
-    Write,
-    AtomicRead,
-    AtomicWrite,
+    Read = 0x30,
+    Write = 0x31,
+    AtomicRead = 0x32,
+    AtomicWrite = 0x33,
+}
+
+impl From<AccessKind> for u8 {
+    ghost from_gives = { λ kind byte. byte ≡ kind_byte kind };
+
+    #[tactic(auto, unfolding(crate::specs::Commands::kind_byte))]
+    fn from(kind: AccessKind) -> u8 {
+        kind as u8
+    }
 }
 
 // The bytes base + k * stride + j, with k below count and j below size.
@@ -46,23 +70,14 @@ pub enum Command {
     Cut,
 }
 
-// What reading a command at a position gives.
+// A command that was read, and the position after it.
 #[derive(Clone, Copy)]
-pub enum Reading {
-    // The position after the command, and the command.
-    Taken { next: usize, command: Command },
-    Refused { place: usize, cause: Cause },
+pub struct Taken {
+    pub next: usize,
+    pub command: Command,
 }
 
-// What putting a command at a position gives.
-#[derive(Clone, Copy)]
-pub enum Putting {
-    // The position after the command.
-    Written(usize),
-    Refused { place: usize, cause: Cause },
-}
-
-// Bits 1, 2, 4 and 8 of the number are set.
+// Stays a test of bits 1, 2, 4 and 8 of a number: with `matches!` the lowest shared byte of two ranges took 1.35 times as long.
 fn size_ok(size: u8) -> bool
     ensures { result ≡ size_ok size }
 {
@@ -132,108 +147,82 @@ pub fn in_range(command: Command) -> bool
 }
 
 // The number of two bytes at a position, low byte first.
+#[tactic(auto, unfolding(crate::specs::Commands::number_at))]
 fn two_bytes(bytes: &[u8], at: usize) -> u16
     requires { at + 2 ≤ length bytes.now }
     ensures { result ≡ number_at 2 bytes.now at }
 {
-    let low = bytes[at];
-    let high = bytes[at + 1];
-    (low as u16) + 256 * (high as u16)
+    u16::from_le_bytes([bytes[at], bytes[at + 1]])
 }
 
 // The number of four bytes at a position, low byte first.
+#[tactic(auto, unfolding(crate::specs::Commands::number_at))]
 pub fn four_bytes(bytes: &[u8], at: usize) -> u32
     requires { at + 4 ≤ length bytes.now }
     ensures { result ≡ number_at 4 bytes.now at }
 {
-    let low = two_bytes(bytes, at);
-    let high = two_bytes(bytes, at + 2);
-    (low as u32) + 65536 * (high as u32)
+    u32::from_le_bytes([bytes[at], bytes[at + 1], bytes[at + 2], bytes[at + 3]])
 }
 
-fn cut_off(place: usize) -> Reading
-    ensures { reading_of result ≡ refuses 3 place }
+fn cut_off(place: usize) -> Result<Taken, Refusal>
+    ensures { answer_of result ≡ refuses 3 place }
 {
-    Reading::Refused {
+    Err(Refusal {
         place,
         cause: Cause::OperandsCutOff,
-    }
+    })
 }
 
-// MEMBER and REGION, ACQUIRE and RELEASE have operands of the same widths. Each has a function of its own: with one for two of them, told apart by
-// a flag, check takes up to twice the time, since the compiler keeps it apart from the loop of the scan.
-fn decode_member(bytes: &[u8], position: usize) -> Reading
-    requires { StandsAt bytes.now position 0x01 }
-    ensures { reading_of result ≡ decode_at bytes.now position }
+// MEMBER and REGION have operands of the same widths, and so have ACQUIRE and RELEASE. With a flag that tells two of them apart as the program runs, check
+// took up to twice the time, since the compiler kept the function apart from the loop of the scan; a const parameter is gone by then.
+fn decode_team<const BYTE: u8>(bytes: &[u8], position: usize) -> Result<Taken, Refusal>
+    requires stands { StandsAt bytes.now position BYTE }
+    requires of_team { (BYTE ≡ 0x01) ⊎ (BYTE ≡ 0x10) }
+    ensures { answer_of result ≡ decode_at bytes.now position }
 {
     if bytes.len() - position < 4 {
         return cut_off(position);
     }
     let team = two_bytes(bytes, position + 1);
-    let member = bytes[position + 3];
-    Reading::Taken {
-        next: position + 4,
-        command: Command::Member { team, member },
+    let last = bytes[position + 3];
+    let next = position + 4;
+    if BYTE == MEMBER {
+        let command = Command::Member { team, member: last };
+        return Ok(Taken { next, command });
     }
+    let command = Command::Region { team, size: last };
+    Ok(Taken { next, command })
 }
 
-fn decode_region(bytes: &[u8], position: usize) -> Reading
-    requires { StandsAt bytes.now position 0x10 }
-    ensures { reading_of result ≡ decode_at bytes.now position }
-{
-    if bytes.len() - position < 4 {
-        return cut_off(position);
-    }
-    let team = two_bytes(bytes, position + 1);
-    let size = bytes[position + 3];
-    Reading::Taken {
-        next: position + 4,
-        command: Command::Region { team, size },
-    }
-}
-
-fn decode_acquire(bytes: &[u8], position: usize) -> Reading
-    requires { StandsAt bytes.now position 0x20 }
-    ensures { reading_of result ≡ decode_at bytes.now position }
+fn decode_lock<const BYTE: u8>(bytes: &[u8], position: usize) -> Result<Taken, Refusal>
+    requires stands { StandsAt bytes.now position BYTE }
+    requires of_lock { (BYTE ≡ 0x20) ⊎ (BYTE ≡ 0x21) }
+    ensures { answer_of result ≡ decode_at bytes.now position }
 {
     if bytes.len() - position < 2 {
         return cut_off(position);
     }
     let lock = bytes[position + 1];
-    Reading::Taken {
-        next: position + 2,
-        command: Command::Acquire(lock),
+    let next = position + 2;
+    if BYTE == ACQUIRE {
+        let command = Command::Acquire(lock);
+        return Ok(Taken { next, command });
     }
+    let command = Command::Release(lock);
+    Ok(Taken { next, command })
 }
 
-fn decode_release(bytes: &[u8], position: usize) -> Reading
-    requires { StandsAt bytes.now position 0x21 }
-    ensures { reading_of result ≡ decode_at bytes.now position }
-{
-    if bytes.len() - position < 2 {
-        return cut_off(position);
-    }
-    let lock = bytes[position + 1];
-    Reading::Taken {
-        next: position + 2,
-        command: Command::Release(lock),
-    }
-}
-
-// The kind of an access of the narrow group by its command byte.
+// The kind of an access of the narrow group by its command byte. Stays a function of any byte, and no TryFrom: callers have tested the byte.
+#[tactic(auto, unfolding(crate::specs::Commands::kind_of))]
 pub fn kind_of(byte: u8) -> AccessKind
     ensures { result ≡ kind_of byte }
 {
-    if byte == 0x30 {
-        return AccessKind::Read;
+    match byte {
+        0x30 => AccessKind::Read,
+        0x31 => AccessKind::Write,
+        0x32 => AccessKind::AtomicRead,
+        _ => AccessKind::AtomicWrite,
     }
-    if byte == 0x31 {
-        return AccessKind::Write;
-    }
-    if byte == 0x32 {
-        return AccessKind::AtomicRead;
-    }
-    AccessKind::AtomicWrite
 }
 
 // The site of an access, which has 4 bytes in the wide group and 2 in the narrow one.
@@ -248,9 +237,9 @@ fn site_at(bytes: &[u8], at: usize, wide: bool) -> u32
 }
 
 // The access at a position, of which the position after it and the group are known. What stands behind the site is read from the end of the access.
-fn decode_operands(bytes: &[u8], position: usize, next: usize, wide: bool) -> Reading
+fn decode_operands(bytes: &[u8], position: usize, next: usize, wide: bool) -> Result<Taken, Refusal>
     requires { AccessTo bytes.now position next wide }
-    ensures { reading_of result ≡ decode_at bytes.now position }
+    ensures { answer_of result ≡ decode_at bytes.now position }
 {
     let kind = kind_of(bytes[position] % 8 + 0x30);
     let site = site_at(bytes, position + 1, wide);
@@ -270,17 +259,17 @@ fn decode_operands(bytes: &[u8], position: usize, next: usize, wide: bool) -> Re
         site,
         range,
     };
-    Reading::Taken {
+    Ok(Taken {
         next,
         command: Command::Access(access),
-    }
+    })
 }
 
 // An access of either group. Both stand in one arm below: where this is called twice in a match, the compiler keeps it apart from both callers, and
 // reading an access takes five times as long.
-fn decode_access(bytes: &[u8], position: usize) -> Reading
+fn decode_access(bytes: &[u8], position: usize) -> Result<Taken, Refusal>
     requires { AccessAt bytes.now position }
-    ensures { reading_of result ≡ decode_at bytes.now position }
+    ensures { answer_of result ≡ decode_at bytes.now position }
 {
     if 0x38 <= bytes[position] {
         if bytes.len() - position < 14 {
@@ -295,103 +284,95 @@ fn decode_access(bytes: &[u8], position: usize) -> Reading
 }
 
 // The command at a position, its operands of any value, and the position after it: 18, 2 and 3 are tested.
-pub fn decode_command(bytes: &[u8], position: usize) -> Reading
-    ensures { reading_of result ≡ decode_at bytes.now position }
+pub fn decode_command(bytes: &[u8], position: usize) -> Result<Taken, Refusal>
+    ensures { answer_of result ≡ decode_at bytes.now position }
 {
     if bytes.len() <= position {
-        return Reading::Refused {
+        return Err(Refusal {
             place: position,
             cause: Cause::PastEnd,
-        };
+        });
     }
     match bytes[position] {
-        0x01 => decode_member(bytes, position),
-        0x02 => Reading::Taken {
+        MEMBER => decode_team::<MEMBER>(bytes, position),
+        END => Ok(Taken {
             next: position + 1,
             command: Command::End,
-        },
-        0x03 => Reading::Taken {
+        }),
+        CUT => Ok(Taken {
             next: position + 1,
             command: Command::Cut,
-        },
-        0x10 => decode_region(bytes, position),
-        0x11 => Reading::Taken {
+        }),
+        REGION => decode_team::<REGION>(bytes, position),
+        BARRIER => Ok(Taken {
             next: position + 1,
             command: Command::Barrier,
-        },
-        0x20 => decode_acquire(bytes, position),
-        0x21 => decode_release(bytes, position),
+        }),
+        ACQUIRE => decode_lock::<ACQUIRE>(bytes, position),
+        RELEASE => decode_lock::<RELEASE>(bytes, position),
         0x30..=0x33 | 0x38..=0x3b => decode_access(bytes, position),
-        _ => Reading::Refused {
+        _ => Err(Refusal {
             place: position,
             cause: Cause::UnknownCommand,
-        },
+        }),
     }
 }
 
 // 5: what was decoded at a position, if its operands are in range.
-fn accept(reading: Reading, position: usize) -> Reading
-    ensures { reading_of result ≡ when_given (reading_of reading) (ranged position) }
+fn accept(reading: Result<Taken, Refusal>, position: usize) -> Result<Taken, Refusal>
+    ensures { answer_of result ≡ when_given (answer_of reading) (ranged position) }
 {
-    let Reading::Taken { next: _, command } = reading else {
-        return reading;
-    };
-    if !in_range(command) {
-        return Reading::Refused {
+    let taken = reading?;
+    if !in_range(taken.command) {
+        return Err(Refusal {
             place: position,
             cause: Cause::OutOfRange,
-        };
+        });
     }
-    reading
+    Ok(taken)
 }
 
 // The command at a position, its operands in range, and the position after it. It has a match of its own, so that the scan alone calls
 // `decode_command`, which is then compiled into the scan's loop: check takes a third of the time.
-pub fn read_command(bytes: &[u8], position: usize) -> Reading
-    ensures { reading_of result ≡ read_at bytes.now position }
+pub fn read_command(bytes: &[u8], position: usize) -> Result<Taken, Refusal>
+    ensures { answer_of result ≡ read_at bytes.now position }
 {
     if bytes.len() <= position {
-        return Reading::Refused {
+        return Err(Refusal {
             place: position,
             cause: Cause::PastEnd,
-        };
+        });
     }
     match bytes[position] {
-        0x01 => accept(decode_member(bytes, position), position),
-        0x02 => Reading::Taken {
+        MEMBER => accept(decode_team::<MEMBER>(bytes, position), position),
+        END => Ok(Taken {
             next: position + 1,
             command: Command::End,
-        },
-        0x03 => Reading::Taken {
+        }),
+        CUT => Ok(Taken {
             next: position + 1,
             command: Command::Cut,
-        },
-        0x10 => accept(decode_region(bytes, position), position),
-        0x11 => Reading::Taken {
+        }),
+        REGION => accept(decode_team::<REGION>(bytes, position), position),
+        BARRIER => Ok(Taken {
             next: position + 1,
             command: Command::Barrier,
-        },
-        0x20 => accept(decode_acquire(bytes, position), position),
-        0x21 => accept(decode_release(bytes, position), position),
+        }),
+        ACQUIRE => accept(decode_lock::<ACQUIRE>(bytes, position), position),
+        RELEASE => accept(decode_lock::<RELEASE>(bytes, position), position),
         0x30..=0x33 | 0x38..=0x3b => accept(decode_access(bytes, position), position),
-        _ => Reading::Refused {
+        _ => Err(Refusal {
             place: position,
             cause: Cause::UnknownCommand,
-        },
+        }),
     }
 }
 
-// A command's bytes: the first ones of `bytes`, as many as `length` says.
+// A command's bytes: the first ones of `bytes`, as many as `length` says. Stays an array with a length: nothing here is on the heap.
 #[derive(Clone, Copy)]
 struct Encoded {
     bytes: [u8; 14],
     length: usize,
-}
-
-fn low(number: u32) -> u8
-    ensures { result ≡ number % 256 }
-{
-    (number % 256) as u8
 }
 
 fn encode_plain(byte: u8) -> Encoded
@@ -406,7 +387,6 @@ fn encode_plain(byte: u8) -> Encoded
 fn encode_lock(byte: u8, lock: u8) -> Encoded
     ensures { Holds result (byte ∷ operand_bytes (1 ∷ []) (lock ∷ [])) }
 {
-    let lock = low(lock as u32);
     Encoded {
         bytes: [byte, lock, 0, 0, 0, 0, 0, 0, 0, 0, 0, 0, 0, 0],
         length: 2,
@@ -416,148 +396,83 @@ fn encode_lock(byte: u8, lock: u8) -> Encoded
 fn encode_team(byte: u8, team: u16, last: u8) -> Encoded
     ensures { Holds result (byte ∷ operand_bytes (2 ∷ 1 ∷ []) (team ∷ last ∷ [])) }
 {
-    let team = team as u32;
-    let team_0 = low(team);
-    let team_1 = low(team / 256);
-    let last = low(last as u32);
+    let [team_0, team_1] = team.to_le_bytes();
     Encoded {
         bytes: [byte, team_0, team_1, last, 0, 0, 0, 0, 0, 0, 0, 0, 0, 0],
         length: 4,
     }
 }
 
-// The command byte of an access of the narrow group.
-pub fn kind_byte(kind: AccessKind) -> u8
-    ensures { result ≡ kind_byte kind }
-{
-    match kind {
-        AccessKind::Read => 0x30,
-        AccessKind::Write => 0x31,
-        AccessKind::AtomicRead => 0x32,
-        AccessKind::AtomicWrite => 0x33,
-    }
-}
-
 // The command byte of an access.
+#[tactic(auto, unfolding(crate::specs::Commands::access_byte))]
 pub fn access_byte(wide: bool, kind: AccessKind) -> u8
     ensures { result ≡ access_byte wide kind }
 {
-    let byte = kind_byte(kind);
+    let byte = u8::from(kind);
     if wide { byte + 8 } else { byte }
-}
-
-fn encode_narrow(byte: u8, site: u32, range: Range) -> Encoded
-    ensures { Holds result (byte ∷ operand_bytes (access_widths false) (site ∷ range_operands range)) }
-{
-    let base = range.base;
-    let stride = range.stride as u32;
-    let count = range.count as u32;
-    let size = range.size as u32;
-    Encoded {
-        bytes: [
-            byte,
-            low(site),
-            low(site / 256),
-            low(base),
-            low(base / 256),
-            low(base / 256 / 256),
-            low(base / 256 / 256 / 256),
-            low(stride),
-            low(stride / 256),
-            low(count),
-            low(count / 256),
-            low(size),
-            0,
-            0,
-        ],
-        length: 12,
-    }
-}
-
-fn encode_wide(byte: u8, site: u32, range: Range) -> Encoded
-    ensures { Holds result (byte ∷ operand_bytes (access_widths true) (site ∷ range_operands range)) }
-{
-    let base = range.base;
-    let stride = range.stride as u32;
-    let count = range.count as u32;
-    let size = range.size as u32;
-    Encoded {
-        bytes: [
-            byte,
-            low(site),
-            low(site / 256),
-            low(site / 256 / 256),
-            low(site / 256 / 256 / 256),
-            low(base),
-            low(base / 256),
-            low(base / 256 / 256),
-            low(base / 256 / 256 / 256),
-            low(stride),
-            low(stride / 256),
-            low(count),
-            low(count / 256),
-            low(size),
-        ],
-        length: 14,
-    }
 }
 
 fn encode_access(access: Access) -> Encoded
     ensures { Holds result (bytes_of (Command.Access access)) }
 {
-    let kind = access.kind;
-    let byte = access_byte(access.wide, kind);
+    let byte = access_byte(access.wide, access.kind);
+    let range = access.range;
+    let [site_0, site_1, site_2, site_3] = access.site.to_le_bytes();
+    let [base_0, base_1, base_2, base_3] = range.base.to_le_bytes();
+    let [stride_0, stride_1] = range.stride.to_le_bytes();
+    let [count_0, count_1] = range.count.to_le_bytes();
+    let size = range.size;
     if access.wide {
-        return encode_wide(byte, access.site, access.range);
+        return Encoded {
+            bytes: [
+                byte, site_0, site_1, site_2, site_3, base_0, base_1, base_2, base_3, stride_0,
+                stride_1, count_0, count_1, size,
+            ],
+            length: 14,
+        };
     }
-    encode_narrow(byte, access.site, access.range)
+    Encoded {
+        bytes: [
+            byte, site_0, site_1, base_0, base_1, base_2, base_3, stride_0, stride_1, count_0,
+            count_1, size, 0, 0,
+        ],
+        length: 12,
+    }
 }
 
 fn encode(command: Command) -> Encoded
     ensures { Holds result (bytes_of command) }
 {
     match command {
-        Command::Member { team, member } => encode_team(0x01, team, member),
-        Command::End => encode_plain(0x02),
-        Command::Region { team, size } => encode_team(0x10, team, size),
-        Command::Barrier => encode_plain(0x11),
-        Command::Acquire(lock) => encode_lock(0x20, lock),
-        Command::Release(lock) => encode_lock(0x21, lock),
+        Command::Member { team, member } => encode_team(MEMBER, team, member),
+        Command::End => encode_plain(END),
+        Command::Region { team, size } => encode_team(REGION, team, size),
+        Command::Barrier => encode_plain(BARRIER),
+        Command::Acquire(lock) => encode_lock(ACQUIRE, lock),
+        Command::Release(lock) => encode_lock(RELEASE, lock),
         Command::Access(access) => encode_access(access),
-        Command::Cut => encode_plain(0x03),
+        Command::Cut => encode_plain(CUT),
     }
-}
-
-// Whether so many bytes fit between the position and the end.
-fn fits(length: usize, end: usize, position: usize) -> bool
-    requires { 1 ≤ length }
-    ensures { result ≡ leb length (end - position) }
-{
-    if end <= position {
-        return false;
-    }
-    length <= end - position
 }
 
 // Puts the command's bytes into the buffer at a position.
-pub fn put_command(command: Command, buffer: &mut [u8], position: usize) -> Putting
-    ensures { put_at command buffer.old position ≡ record { answer = putting_of result; buffer = buffer.new } }
+pub fn put_command(command: Command, buffer: &mut [u8], position: usize) -> Result<usize, Refusal>
+    ensures { put_at command buffer.old position ≡ record { answer = answer_of result; buffer = buffer.new } }
 {
     if !in_range(command) {
-        return Putting::Refused {
+        return Err(Refusal {
             place: position,
             cause: Cause::OutOfRange,
-        };
+        });
     }
     let encoded = encode(command);
-    let bytes = encoded.bytes;
     let length = encoded.length;
-    if !fits(length, buffer.len(), position) {
-        return Putting::Refused {
+    if buffer.len().saturating_sub(position) < length {
+        return Err(Refusal {
             place: position,
             cause: Cause::DoesNotFit,
-        };
+        });
     }
-    copy_in(&bytes[..length], buffer, position);
-    Putting::Written(position + length)
+    copy_in(&encoded.bytes[..length], buffer, position);
+    Ok(position + length)
 }

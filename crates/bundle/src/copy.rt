@@ -7,9 +7,5 @@ pub fn copy_in(bytes: &[u8], buffer: &mut [u8], position: usize)
     requires { position + length bytes.now ≤ length buffer.old }
     ensures { buffer.new ≡ written buffer.old position bytes.now }
 {
-    let mut i = 0;
-    while i < bytes.len() {
-        buffer[position + i] = bytes[i];
-        i += 1;
-    }
+    buffer[position..position + bytes.len()].copy_from_slice(bytes);
 }

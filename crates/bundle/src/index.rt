@@ -1,6 +1,6 @@
 // The index of a bundle: a row for each chunk and one for each REGION, in words of 64 bits that are lent.
 ghost use Rattle.std.specs.Prelude.{◌≡◌, ◌+◌, ◌*◌, ◌<◌, eqb, length, get_or};
-ghost use Rattle.bundle.specs.Index.{parts_of, chunk_row_at, fork_row_at, ChunkFits, ForkFits, Added, is_row, index_of, table};
+ghost use Rattle.bundle.specs.Index.{parts_of, chunk_row_at, fork_row_at, ChunkFits, ForkFits, Added, is_row, index_of, table, below, chunk_rows_in, fork_rows_in};
 
 use crate::chunk::ChunkState;
 
@@ -29,7 +29,21 @@ pub struct Fork {
     pub state: ChunkState,
 }
 
-// The numbers that a word holds, from the low bits up.
+// The rows of the first `count` chunks in a table of words, two for each.
+#[derive(Clone, Copy)]
+pub struct Chunks<'a> {
+    pub words: &'a [u64],
+    pub count: u32,
+}
+
+// The rows of the first `count` REGIONs in a table of words, three for each.
+#[derive(Clone, Copy)]
+pub struct Forks<'a> {
+    pub words: &'a [u64],
+    pub count: u32,
+}
+
+// The numbers that a word holds, from the low bits up. Rows stay in words: a caller lends memory of one size for any bundle.
 #[derive(Clone, Copy)]
 pub struct Parts {
     pub first: u16,
@@ -73,48 +87,7 @@ pub fn word_at(table: &[u64], i: usize) -> u64
     0
 }
 
-// The row of the i-th chunk, in two words.
-pub fn chunk_at(chunks: &[u64], i: u32) -> ChunkRow
-    ensures { result ≡ chunk_row_at chunks.now i }
-{
-    let at = 2 * (i as usize);
-    let one = unpack(word_at(chunks, at));
-    let other = unpack(word_at(chunks, at + 1));
-    ChunkRow {
-        place: one.first as usize,
-        past: other.first as usize + 1,
-        team: one.fifth,
-        member: one.fourth,
-        barriers: one.second as u32,
-        complete: one.third == 1,
-        segments: other.second as u32,
-        accesses: other.fifth as u32,
-    }
-}
-
-// The row of the i-th REGION, in three words.
-pub fn fork_at(forks: &[u64], i: u32) -> Fork
-    ensures { result ≡ fork_row_at forks.now i }
-{
-    let at = 3 * (i as usize);
-    let one = unpack(word_at(forks, at));
-    let other = unpack(word_at(forks, at + 1));
-    let locks = word_at(forks, at + 2);
-    Fork {
-        place: one.first as usize,
-        team: one.fifth,
-        size: one.third,
-        parent: one.second,
-        member: one.fourth,
-        state: ChunkState {
-            barriers: other.first as u32,
-            regions: other.second as u32,
-            locks,
-        },
-    }
-}
-
-// Writes the row of a chunk behind the first `count`.
+// Writes the row of a chunk behind the first `count`. Stays apart from `add_fork`: the rows have other fields, in two words and in three.
 pub(crate) fn add_chunk(chunks: &mut [u64], count: u32, row: ChunkRow)
     requires { (2 * count + 1 < length chunks.old) × ChunkFits row }
     ensures { Added chunk_row_at chunks.old chunks.new count row }
@@ -160,39 +133,80 @@ pub(crate) fn add_fork(forks: &mut [u64], count: u32, row: Fork)
     forks[at + 2] = state.locks;
 }
 
-// Whether the row of the i-th chunk is that of a team and member.
-fn is_row(chunks: &[u64], i: u32, team: u16, member: u8) -> bool
-    ensures { result ≡ is_row team member (chunk_row_at chunks.now i) }
-{
-    let row = chunk_at(chunks, i);
-    (row.team == team) & (row.member == member)
+impl<'a> Chunks<'a> {
+    // The row of the i-th chunk, in two words.
+    pub fn at(self, i: u32) -> ChunkRow
+        ensures { result ≡ chunk_row_at self.entry.words.now i }
+    {
+        let at = 2 * (i as usize);
+        let one = unpack(word_at(self.words, at));
+        let other = unpack(word_at(self.words, at + 1));
+        ChunkRow {
+            place: one.first as usize,
+            past: other.first as usize + 1,
+            team: one.fifth,
+            member: one.fourth,
+            barriers: one.second as u32,
+            complete: one.third == 1,
+            segments: other.second as u32,
+            accesses: other.fifth as u32,
+        }
+    }
+
+    // Whether the row of the i-th chunk is that of a team and member.
+    fn is_row(self, i: u32, team: u16, member: u8) -> bool
+        ensures { result ≡ is_row team member (chunk_row_at self.entry.words.now i) }
+    {
+        let row = self.at(i);
+        (row.team == team) & (row.member == member)
+    }
+
+    // The index of the chunk of a team and member.
+    pub fn find(self, team: u16, member: u8) -> Option<u32>
+        ensures { result ≡ below self.entry.count (index_of (is_row team member) (chunk_rows_in self.entry)) }
+    {
+        for i in 0..self.count {
+            if self.is_row(i, team, member) {
+                return Some(i);
+            }
+        }
+        None
+    }
 }
 
-// The index of the first of `count` chunks that is of a team and member; `count` where there is none.
-pub fn chunk_of(chunks: &[u64], count: u32, team: u16, member: u8) -> u32
-    ensures { result ≡ index_of (is_row team member) (table (chunk_row_at chunks.now) count) }
-{
-    let mut i = 0;
-    while i < count {
-        if is_row(chunks, i, team, member) {
-            return i;
+impl<'a> Forks<'a> {
+    // The row of the i-th REGION, in three words.
+    pub fn at(self, i: u32) -> Fork
+        ensures { result ≡ fork_row_at self.entry.words.now i }
+    {
+        let at = 3 * (i as usize);
+        let one = unpack(word_at(self.words, at));
+        let other = unpack(word_at(self.words, at + 1));
+        let locks = word_at(self.words, at + 2);
+        Fork {
+            place: one.first as usize,
+            team: one.fifth,
+            size: one.third,
+            parent: one.second,
+            member: one.fourth,
+            state: ChunkState {
+                barriers: other.first as u32,
+                regions: other.second as u32,
+                locks,
+            },
         }
-        i += 1;
     }
-    i
-}
 
-// The index of the first of `count` REGIONs that forks a team; `count` where there is none.
-pub fn fork_of(forks: &[u64], count: u32, team: u16) -> u32
-    ensures { result ≡ index_of (λ f. eqb f.team team) (table (fork_row_at forks.now) count) }
-{
-    let mut i = 0;
-    while i < count {
-        let fork = fork_at(forks, i);
-        if fork.team == team {
-            return i;
+    // The index of the REGION that forks a team.
+    pub fn find(self, team: u16) -> Option<u32>
+        ensures { result ≡ below self.entry.count (index_of (λ f. eqb f.team team) (fork_rows_in self.entry)) }
+    {
+        for i in 0..self.count {
+            let fork = self.at(i);
+            if fork.team == team {
+                return Some(i);
+            }
         }
-        i += 1;
+        None
     }
-    i
 }

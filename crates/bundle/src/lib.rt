@@ -1,7 +1,6 @@
 // Bundles of run logs: commands, chunks, and the check of a whole bundle.
 #![tactic(auto)]
 
-pub mod answer;
 pub mod check;
 pub mod chunk;
 pub mod command;

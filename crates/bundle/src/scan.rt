@@ -1,15 +1,14 @@
 // The scan, front to back: the tests 2, 3, 4, 20, 5, 6 and 7 of each command in that order.
 ghost use Rattle.std.specs.Prelude.{◌≡◌, true, false, ◌&&◌, ◌+◌, ◌<◌, ◌≤◌, ltb};
-ghost use Rattle.bundle.specs.Answer.{refuses, number_of};
+ghost use Rattle.bundle.specs.Answer.{gives, refuses, number_of, answer_of};
 ghost use Rattle.bundle.specs.Chunks.{fresh};
-ghost use Rattle.bundle.specs.Commands.{reading_of};
 ghost use Rattle.bundle.specs.Scan.{differs};
-ghost use Rattle.bundle.specs.Survey.{Bounded, step_of, unmoved, decided, tested_at, step_at, scan_with};
+ghost use Rattle.bundle.specs.Survey.{Bounded, decided, tested_at, step_at, scan_with};
 
 use crate::chunk::{ChunkState, holds_lock};
-use crate::command::{Access, Command, Reading, decode_command, in_range};
+use crate::command::{Access, Command, Taken, decode_command, in_range};
 use crate::limits::{MOST_ACCESSES, MOST_SEGMENTS};
-use crate::refusal::Cause;
+use crate::refusal::{Cause, Refusal};
 
 // Whether a chunk is open, and whether the accesses so far are of the wide group; the open chunk's team and state, and the segments and accesses of the
 // bundle so far.
@@ -23,19 +22,12 @@ pub struct Scan {
     pub accesses: u32,
 }
 
-// What the scan says to a command.
+// A command that passed the tests: the position after it, the scan after it, and the command.
 #[derive(Clone, Copy)]
-pub enum Step {
-    // The position after the command, the scan after it, and the command.
-    Onward {
-        next: usize,
-        scan: Scan,
-        command: Command,
-    },
-    Refused {
-        place: usize,
-        cause: Cause,
-    },
+pub struct Stepped {
+    pub next: usize,
+    pub scan: Scan,
+    pub command: Command,
 }
 
 // The scan with another state, so many segments and accesses more, and the group.
@@ -44,12 +36,11 @@ fn count(scan: Scan, state: ChunkState, opens: u32, adds: u32, wide: bool) -> Sc
     ensures { result ≡ scan_with scan state opens adds wide }
 {
     Scan {
-        inside: scan.inside,
-        team: scan.team,
         state,
         segments: scan.segments + opens,
         accesses: scan.accesses + adds,
         wide,
+        ..scan
     }
 }
 
@@ -62,8 +53,7 @@ fn open_chunk(scan: Scan, team: u16) -> Scan
         team,
         state: ChunkState::fresh(),
         segments: scan.segments + 1,
-        accesses: scan.accesses,
-        wide: scan.wide,
+        ..scan
     }
 }
 
@@ -74,13 +64,12 @@ fn close_chunk(scan: Scan) -> Scan
         inside: false,
         team: 0,
         state: ChunkState::fresh(),
-        segments: scan.segments,
-        accesses: scan.accesses,
-        wide: scan.wide,
+        ..scan
     }
 }
 
-// 7: whether one more segment is the 513th.
+// 7: whether one more segment is the 513th. `Bounded` stays a `requires`, here and below, and no invariant of Scan: `scanned` (specs/Scan.antt) makes a Scan
+// past the limits too, before 7 is told.
 fn full(scan: Scan) -> bool
     requires { Bounded scan }
     ensures { result ≡ ltb 512 (scan.segments + 1) }
@@ -88,23 +77,24 @@ fn full(scan: Scan) -> bool
     MOST_SEGMENTS < scan.segments + 1
 }
 
-fn refuse(cause: Cause, place: usize) -> Step
-    ensures { step_of result ≡ refuses (number_of cause) place }
+fn refuse(cause: Cause, place: usize) -> Result<Stepped, Refusal>
+    ensures { answer_of result ≡ refuses (number_of cause) place }
 {
-    Step::Refused { cause, place }
+    Err(Refusal { place, cause })
 }
 
-// 4, 20, 5, 6 and 7 in that order, where the tests say so; else onward.
+// 4, 20, 5, 6 and 7 in that order, where the tests say so; else onward. Stays one function over what the tests found: the order of the refusals is said
+// once for all commands.
 fn decide(
     misplaced: bool,
     foreign: bool,
     beyond: bool,
     misused: bool,
     many: bool,
-    onward: Step,
+    onward: Stepped,
     place: usize,
-) -> Step
-    ensures { step_of result ≡ decided place misplaced foreign beyond misused many (step_of onward) }
+) -> Result<Stepped, Refusal>
+    ensures { answer_of result ≡ decided place misplaced foreign beyond misused many (gives onward) }
 {
     if misplaced {
         return refuse(Cause::Misplaced, place);
@@ -121,15 +111,22 @@ fn decide(
     if many {
         return refuse(Cause::TooManyEntries, place);
     }
-    onward
+    Ok(onward)
 }
 
-fn test_member(scan: Scan, team: u16, member: u8, next: usize, place: usize) -> Step
+// The tests of the commands. Each stays a function of its own with all that it reads: which refusals can come, and the state after, are said once for each.
+fn test_member(
+    scan: Scan,
+    team: u16,
+    member: u8,
+    next: usize,
+    place: usize,
+) -> Result<Stepped, Refusal>
     requires { Bounded scan }
-    ensures { step_of result ≡ tested_at scan place (record { command = Command.Member team member; next = next }) }
+    ensures { answer_of result ≡ tested_at scan place (record { command = Command.Member team member; next = next }) }
 {
     let command = Command::Member { team, member };
-    let onward = Step::Onward {
+    let onward = Stepped {
         next,
         scan: open_chunk(scan, team),
         command,
@@ -145,13 +142,12 @@ fn test_member(scan: Scan, team: u16, member: u8, next: usize, place: usize) -> 
     )
 }
 
-fn test_end(scan: Scan, next: usize, place: usize) -> Step
+fn test_end(scan: Scan, next: usize, place: usize) -> Result<Stepped, Refusal>
     requires { Bounded scan }
-    ensures { step_of result ≡ tested_at scan place (record { command = Command.End; next = next }) }
+    ensures { answer_of result ≡ tested_at scan place (record { command = Command.End; next = next }) }
 {
     let command = Command::End;
-    let state = scan.state;
-    let onward = Step::Onward {
+    let onward = Stepped {
         next,
         scan: close_chunk(scan),
         command,
@@ -160,7 +156,7 @@ fn test_end(scan: Scan, next: usize, place: usize) -> Step
         !scan.inside,
         false,
         false,
-        !(state.locks == 0),
+        scan.state.locks != 0,
         false,
         onward,
         place,
@@ -168,15 +164,20 @@ fn test_end(scan: Scan, next: usize, place: usize) -> Step
 }
 
 // 5 has the own-team rule here.
-fn test_region(scan: Scan, team: u16, size: u8, next: usize, place: usize) -> Step
+fn test_region(
+    scan: Scan,
+    team: u16,
+    size: u8,
+    next: usize,
+    place: usize,
+) -> Result<Stepped, Refusal>
     requires { Bounded scan }
-    ensures { step_of result ≡ tested_at scan place (record { command = Command.Region team size; next = next }) }
+    ensures { answer_of result ≡ tested_at scan place (record { command = Command.Region team size; next = next }) }
 {
     let command = Command::Region { team, size };
-    let state = scan.state;
-    let onward = Step::Onward {
+    let onward = Stepped {
         next,
-        scan: count(scan, state.after_join(), 1, 0, scan.wide),
+        scan: count(scan, scan.state.after_join(), 1, 0, scan.wide),
         command,
     };
     decide(
@@ -190,58 +191,55 @@ fn test_region(scan: Scan, team: u16, size: u8, next: usize, place: usize) -> St
     )
 }
 
-fn test_barrier(scan: Scan, next: usize, place: usize) -> Step
+fn test_barrier(scan: Scan, next: usize, place: usize) -> Result<Stepped, Refusal>
     requires { Bounded scan }
-    ensures { step_of result ≡ tested_at scan place (record { command = Command.Barrier; next = next }) }
+    ensures { answer_of result ≡ tested_at scan place (record { command = Command.Barrier; next = next }) }
 {
     let command = Command::Barrier;
-    let state = scan.state;
-    let onward = Step::Onward {
+    let onward = Stepped {
         next,
-        scan: count(scan, state.after_barrier(), 1, 0, scan.wide),
+        scan: count(scan, scan.state.after_barrier(), 1, 0, scan.wide),
         command,
     };
     decide(!scan.inside, false, false, false, full(scan), onward, place)
 }
 
-fn test_acquire(scan: Scan, lock: u8, next: usize, place: usize) -> Step
+fn test_acquire(scan: Scan, lock: u8, next: usize, place: usize) -> Result<Stepped, Refusal>
     requires { Bounded scan }
-    ensures { step_of result ≡ tested_at scan place (record { command = Command.Acquire lock; next = next }) }
+    ensures { answer_of result ≡ tested_at scan place (record { command = Command.Acquire lock; next = next }) }
 {
     let command = Command::Acquire(lock);
-    let state = scan.state;
-    let onward = Step::Onward {
+    let onward = Stepped {
         next,
-        scan: count(scan, state.after_acquire(lock), 0, 0, scan.wide),
+        scan: count(scan, scan.state.after_acquire(lock), 0, 0, scan.wide),
         command,
     };
     decide(
         !scan.inside,
         false,
         !in_range(command),
-        holds_lock(state.locks, lock),
+        holds_lock(scan.state.locks, lock),
         false,
         onward,
         place,
     )
 }
 
-fn test_release(scan: Scan, lock: u8, next: usize, place: usize) -> Step
+fn test_release(scan: Scan, lock: u8, next: usize, place: usize) -> Result<Stepped, Refusal>
     requires { Bounded scan }
-    ensures { step_of result ≡ tested_at scan place (record { command = Command.Release lock; next = next }) }
+    ensures { answer_of result ≡ tested_at scan place (record { command = Command.Release lock; next = next }) }
 {
     let command = Command::Release(lock);
-    let state = scan.state;
-    let onward = Step::Onward {
+    let onward = Stepped {
         next,
-        scan: count(scan, state.after_release(lock), 0, 0, scan.wide),
+        scan: count(scan, scan.state.after_release(lock), 0, 0, scan.wide),
         command,
     };
     decide(
         !scan.inside,
         false,
         !in_range(command),
-        !holds_lock(state.locks, lock),
+        !holds_lock(scan.state.locks, lock),
         false,
         onward,
         place,
@@ -261,15 +259,20 @@ fn follows_other(scan: Scan, wide: bool) -> bool
 }
 
 // An access of this group.
-fn test_of_group(scan: Scan, access: Access, wide: bool, next: usize, place: usize) -> Step
+fn test_of_group(
+    scan: Scan,
+    access: Access,
+    wide: bool,
+    next: usize,
+    place: usize,
+) -> Result<Stepped, Refusal>
     requires { Bounded scan × (access.wide ≡ wide) }
-    ensures { step_of result ≡ tested_at scan place (record { command = Command.Access access; next = next }) }
+    ensures { answer_of result ≡ tested_at scan place (record { command = Command.Access access; next = next }) }
 {
     let command = Command::Access(access);
-    let state = scan.state;
-    let onward = Step::Onward {
+    let onward = Stepped {
         next,
-        scan: count(scan, state, 0, 1, wide),
+        scan: count(scan, scan.state, 0, 1, wide),
         command,
     };
     decide(
@@ -284,9 +287,9 @@ fn test_of_group(scan: Scan, access: Access, wide: bool, next: usize, place: usi
 }
 
 // The groups are tested apart, so that the compiler keeps them apart from the decoding on: check takes up to 6 in a hundred less for narrow accesses.
-fn test_access(scan: Scan, access: Access, next: usize, place: usize) -> Step
+fn test_access(scan: Scan, access: Access, next: usize, place: usize) -> Result<Stepped, Refusal>
     requires { Bounded scan }
-    ensures { step_of result ≡ tested_at scan place (record { command = Command.Access access; next = next }) }
+    ensures { answer_of result ≡ tested_at scan place (record { command = Command.Access access; next = next }) }
 {
     if access.wide {
         return test_of_group(scan, access, true, next, place);
@@ -295,11 +298,11 @@ fn test_access(scan: Scan, access: Access, next: usize, place: usize) -> Step
 }
 
 // A chunk may be cut with locks held.
-fn test_cut(scan: Scan, next: usize, place: usize) -> Step
+fn test_cut(scan: Scan, next: usize, place: usize) -> Result<Stepped, Refusal>
     requires { Bounded scan }
-    ensures { step_of result ≡ tested_at scan place (record { command = Command.Cut; next = next }) }
+    ensures { answer_of result ≡ tested_at scan place (record { command = Command.Cut; next = next }) }
 {
-    let onward = Step::Onward {
+    let onward = Stepped {
         next,
         scan: close_chunk(scan),
         command: Command::Cut,
@@ -308,11 +311,12 @@ fn test_cut(scan: Scan, next: usize, place: usize) -> Step
 }
 
 // A command that was decoded: 4, 20, 5, 6 and 7 in that order.
-fn test(scan: Scan, command: Command, next: usize, place: usize) -> Step
+fn test(scan: Scan, taken: Taken, place: usize) -> Result<Stepped, Refusal>
     requires { Bounded scan }
-    ensures { step_of result ≡ tested_at scan place (record { command = command; next = next }) }
+    ensures { answer_of result ≡ tested_at scan place taken }
 {
-    match command {
+    let next = taken.next;
+    match taken.command {
         Command::Member { team, member } => test_member(scan, team, member, next, place),
         Command::End => test_end(scan, next, place),
         Command::Region { team, size } => test_region(scan, team, size, next, place),
@@ -324,28 +328,11 @@ fn test(scan: Scan, command: Command, next: usize, place: usize) -> Step
     }
 }
 
-// What was read as an answer of the scan, which has not moved: so a refusal is passed on.
-fn as_step(reading: Reading, scan: Scan) -> Step
-    ensures { step_of result ≡ unmoved scan (reading_of reading) }
-{
-    match reading {
-        Reading::Taken { next, command } => Step::Onward {
-            next,
-            scan,
-            command,
-        },
-        Reading::Refused { place, cause } => Step::Refused { cause, place },
-    }
-}
-
 // The command at a position, tested.
-pub fn step_at(bytes: &[u8], at: usize, scan: Scan) -> Step
+pub fn step_at(bytes: &[u8], at: usize, scan: Scan) -> Result<Stepped, Refusal>
     requires { Bounded scan }
-    ensures { step_of result ≡ step_at bytes.now at scan }
+    ensures { answer_of result ≡ step_at bytes.now at scan }
 {
-    let reading = decode_command(bytes, at);
-    let Reading::Taken { next, command } = reading else {
-        return as_step(reading, scan);
-    };
-    test(scan, command, next, at)
+    let taken = decode_command(bytes, at)?;
+    test(scan, taken, at)
 }

@@ -1,25 +1,14 @@
 // The shape of a bundle, 8 to 12 and 19, by its index.
 ghost use Rattle.std.specs.Prelude.{◌≡◌, ◌||◌, ◌+◌, ◌*◌, ◌≤◌, ◌<◌, ltb, leb, length, get_or};
 ghost use Rattle.sorting.specs.Searching.{first_with_key};
-ghost use Rattle.bundle.specs.Check.{size_of, checking_of};
-ghost use Rattle.bundle.specs.Index.{table, chunk_row_at, fork_row_at};
-ghost use Rattle.bundle.specs.Shape.{settled_by_rows, shape_by_rows, FirstFailing, slot_of, ByTeam, met_at, marked_at, Blank, Ready, MetTo, Settled, climbs, deep_by, lacks_by, lead_word, noted_lead, unlike_by, uneven_by, barriers_by_rows, fails_by};
-ghost use Rattle.bundle.specs.declared.answer.Checking.TheVariants as Checks;
+ghost use Rattle.bundle.specs.Answer.{answer_of, refuses, number_of};
+ghost use Rattle.bundle.specs.Check.{size_of};
+ghost use Rattle.bundle.specs.Index.{table, chunk_row_at, fork_row_at, chunk_rows_in, fork_rows_in};
+ghost use Rattle.bundle.specs.Shape.{settled_by_rows, shape_by_rows, FoundFirst, slot_of, met_at, marked_at, Blank, Ready, MetTo, Settled, climbs, forked_by, lacks_at, lacks_by, deep_at, unlike_at, uneven_at, lead_word, noted_lead, barriers_by_rows, WithinTables};
 
-use crate::answer::Checking;
-use crate::index::{ChunkRow, chunk_at, fork_at};
-use crate::refusal::Cause;
+use crate::index::{ChunkRow, Chunks, Forks};
+use crate::refusal::{Cause, Refusal};
 use crate::teams::{order_teams, size_of, slot_of};
-
-// The tests of a row by tables that are complete.
-#[derive(Clone, Copy)]
-pub enum Test {
-    ForkedBefore, // 8, of a REGION
-    LacksChunk, // 10, of a REGION
-    TooDeep, // 11, of a REGION
-    UnlikeLowest, // 12, of a chunk
-    Uneven, // 12 or 19, of a chunk
-}
 
 // Whether a member of the team of a slot was met: a bit for each member, in four words.
 fn met(masks: &[u64], slot: u32, member: u8) -> bool
@@ -40,7 +29,7 @@ fn mark(masks: &mut [u64], slot: u32, member: u8)
     masks[at] = masks[at] | (1 << (member % 64));
 }
 
-// The number of the lowest-numbered complete member of the team of a slot, 0 where none is complete.
+// The number of the lowest-numbered complete member of the team of a slot, 0 where none is complete. Stays 0: the table is all 0 at first.
 fn lead_at(leads: &[u32], slot: u32) -> u32
     ensures { result ≡ get_or leads.now slot 0 }
 {
@@ -52,13 +41,11 @@ fn lead_at(leads: &[u32], slot: u32) -> u32
 }
 
 // 9: a member number not below the team's size, or a second chunk of one member.
-fn is_stray(forks: &[u64], regions: u32, masks: &[u64], slot: u32, row: ChunkRow) -> bool
-    requires { slot ≡ slot_of (table (fork_row_at forks.now) regions) row.team }
-    ensures { result ≡ (leb (size_of (table (fork_row_at forks.now) regions) row.team) row.member || met_at masks.now slot row.member) }
+fn is_stray(forks: Forks<'_>, masks: &[u64], slot: u32, row: ChunkRow) -> bool
+    requires { slot ≡ slot_of (fork_rows_in forks) row.team }
+    ensures { result ≡ (leb (size_of (fork_rows_in forks.entry) row.team) row.member || met_at masks.now slot row.member) }
 {
-    let team = row.team;
-    let member = row.member;
-    (size_of(forks, regions, slot, team) <= member) | met(masks, slot, member)
+    (size_of(forks, slot, row.team) <= row.member) | met(masks, slot, row.member)
 }
 
 // A complete chunk as a number: of two members the one of the lower number has the greater.
@@ -81,50 +68,45 @@ fn note(masks: &mut [u64], leads: &mut [u32], slot: u32, row: ChunkRow)
     }
 }
 
-// 9: the index of the first chunk that is stray, `count` where none is. The chunks before it are noted in the tables.
+// 9: the index of the first chunk that is stray. The chunks before it are noted in the tables. Stays with five parameters, as its callers: masks and leads
+// are written here, and in a struct that holds them by `&mut` each clause would have to say that it holds them still.
 fn first_stray(
-    chunks: &[u64],
-    count: u32,
-    forks: &[u64],
-    regions: u32,
+    chunks: Chunks<'_>,
+    forks: Forks<'_>,
     order: &[u64],
     masks: &mut [u64],
     leads: &mut [u32],
-) -> u32
-    requires { Ready chunks.now forks.now order.now masks.old leads.old regions }
-    ensures { MetTo chunks.now forks.now masks.new leads.new count regions result }
+) -> Option<u32>
+    requires { Ready chunks.words.now forks.words.now order.now masks.old leads.old forks.count }
+    ensures { MetTo chunks.entry forks.entry result masks.new leads.new }
 {
-    let mut i = 0;
-    while i < count {
-        let row = chunk_at(chunks, i);
+    for i in 0..chunks.count {
+        let row = chunks.at(i);
         let slot = slot_of(order, row.team);
-        if is_stray(forks, regions, masks, slot, row) {
-            return i;
+        if is_stray(forks, masks, slot, row) {
+            return Some(i);
         }
         note(masks, leads, slot, row);
-        i += 1;
     }
-    i
+    None
 }
 
 // Whether a member below `size` was not met.
 fn lacks_member(masks: &[u64], slot: u32, size: u8) -> bool
     ensures { result ≡ lacks_by masks.now slot size }
 {
-    let mut member = 0;
-    while member < size {
+    for member in 0..size {
         if !met(masks, slot, member) {
             return true;
         }
-        member += 1;
     }
     false
 }
 
 // Whether so many REGIONs can be climbed from a team.
-fn climb(forks: &[u64], order: &[u64], team: u16, levels: u8) -> bool
+fn climb(forks: Forks<'_>, order: &[u64], team: u16, levels: u8) -> bool
     requires { length order.now ≤ 512 }
-    ensures { result ≡ climbs levels forks.now order.now team }
+    ensures { result ≡ climbs levels forks.entry.words.now order.now team }
 {
     if levels == 0 {
         return true;
@@ -133,294 +115,196 @@ fn climb(forks: &[u64], order: &[u64], team: u16, levels: u8) -> bool
     if order.len() <= slot as usize {
         return false;
     }
-    let row = fork_at(forks, slot);
-    climb(forks, order, row.parent, levels - 1)
+    climb(forks, order, forks.at(slot).parent, levels - 1)
 }
 
-fn forked_before(forks: &[u64], order: &[u64], i: u32) -> bool
+// 8, of a REGION: its team was forked before.
+fn forked_before(forks: Forks<'_>, order: &[u64], i: u32) -> bool
     requires { length order.now ≤ 512 }
-    ensures { result ≡ ltb (first_with_key order.now (fork_row_at forks.now i).team) i }
+    ensures { result ≡ forked_by forks.entry.words.now order.now i }
 {
-    let row = fork_at(forks, i);
-    slot_of(order, row.team) < i
+    slot_of(order, forks.at(i).team) < i
 }
 
-fn lacks_chunk(forks: &[u64], masks: &[u64], i: u32) -> bool
-    ensures { result ≡ lacks_by masks.now i (fork_row_at forks.now i).size }
+// The index of the first of so many rows that fails a test.
+fn first_failing<F: Fn(u32) -> bool>(rows: u32, fails: F) -> Option<u32>
+    requires { F.IsAlwaysCallable fails }
+    ensures { FoundFirst (F.post fails) rows result }
 {
-    let row = fork_at(forks, i);
-    lacks_member(masks, i, row.size)
-}
-
-// Deeper than 4. The team number falls at each climb, so a team below 4 is not.
-fn too_deep(forks: &[u64], order: &[u64], i: u32) -> bool
-    requires { length order.now ≤ 512 }
-    ensures { result ≡ deep_by forks.now order.now (fork_row_at forks.now i).team }
-{
-    let row = fork_at(forks, i);
-    let team = row.team;
-    if team < 4 {
-        return false;
-    }
-    climb(forks, order, team, 5)
-}
-
-// 12: a complete chunk with other barriers than the lowest-numbered complete member.
-fn unlike_lowest(chunks: &[u64], order: &[u64], leads: &[u32], i: u32) -> bool
-    requires { length order.now ≤ 512 }
-    ensures { result ≡ unlike_by (chunk_row_at chunks.now i) (get_or leads.now (first_with_key order.now (chunk_row_at chunks.now i).team) 0) }
-{
-    let row = chunk_at(chunks, i);
-    let lead = lead_at(leads, slot_of(order, row.team));
-    row.complete & !(row.barriers == lead % 65536)
-}
-
-// 12 or 19: a complete chunk with other barriers than the lowest-numbered complete member, or a cut one with more.
-fn uneven(chunks: &[u64], order: &[u64], leads: &[u32], i: u32) -> bool
-    requires { length order.now ≤ 512 }
-    ensures { result ≡ uneven_by (chunk_row_at chunks.now i) (get_or leads.now (first_with_key order.now (chunk_row_at chunks.now i).team) 0) }
-{
-    let row = chunk_at(chunks, i);
-    let lead = lead_at(leads, slot_of(order, row.team));
-    if row.complete {
-        return !(row.barriers == lead % 65536);
-    }
-    (1 <= lead) & (lead % 65536 < row.barriers)
-}
-
-fn fails(
-    test: Test,
-    i: u32,
-    chunks: &[u64],
-    forks: &[u64],
-    order: &[u64],
-    masks: &[u64],
-    leads: &[u32],
-) -> bool
-    requires { length order.now ≤ 512 }
-    ensures { result ≡ fails_by test chunks.now forks.now order.now masks.now leads.now i }
-{
-    match test {
-        Test::ForkedBefore => forked_before(forks, order, i),
-        Test::LacksChunk => lacks_chunk(forks, masks, i),
-        Test::TooDeep => too_deep(forks, order, i),
-        Test::UnlikeLowest => unlike_lowest(chunks, order, leads, i),
-        Test::Uneven => uneven(chunks, order, leads, i),
-    }
-}
-
-// The index of the first row that fails the test; the number of rows where none does.
-fn first_failing(
-    test: Test,
-    rows: u32,
-    chunks: &[u64],
-    forks: &[u64],
-    order: &[u64],
-    masks: &[u64],
-    leads: &[u32],
-) -> u32
-    requires { length order.now ≤ 512 }
-    ensures { FirstFailing (fails_by test chunks.now forks.now order.now masks.now leads.now) rows result }
-{
-    let mut row = 0;
-    while row < rows {
-        if fails(test, row, chunks, forks, order, masks, leads) {
-            return row;
+    for row in 0..rows {
+        if fails(row) {
+            return Some(row);
         }
-        row += 1;
     }
-    row
+    None
 }
 
-// A refusal at a REGION, or at a chunk.
-fn at_fork(forks: &[u64], i: u32, cause: Cause) -> Checking
-    ensures { result ≡ Checks.Refused (fork_row_at forks.now i).place cause }
-{
-    let row = fork_at(forks, i);
-    Checking::Refused {
-        place: row.place,
-        cause,
-    }
+// What the tests after 9 read: the rows, the words in which a team's slot is found, and of each slot the members that were met and the lowest-numbered
+// complete one.
+#[derive(Clone, Copy)]
+struct Tables<'a> {
+    chunks: Chunks<'a>,
+    forks: Forks<'a>,
+    order: &'a [u64],
+    masks: &'a [u64],
+    leads: &'a [u32],
+    ghost few: { length order.now ≤ 512 },
 }
 
-fn at_chunk(chunks: &[u64], i: u32, cause: Cause) -> Checking
-    ensures { result ≡ Checks.Refused (chunk_row_at chunks.now i).place cause }
-{
-    let row = chunk_at(chunks, i);
-    Checking::Refused {
-        place: row.place,
-        cause,
+impl<'a> Tables<'a> {
+    // 10, of a REGION.
+    fn lacks_chunk(self, i: u32) -> bool
+        ensures { result ≡ lacks_at self.entry.forks.words.now self.entry.masks.now i }
+    {
+        lacks_member(self.masks, i, self.forks.at(i).size)
     }
-}
 
-// 12 and 19, past 8 to 11. One pass where neither fails. The first chunk to fail is a 12 where it is complete; else a 12 behind it comes
-// first.
-fn test_barriers(
-    chunks: &[u64],
-    count: u32,
-    forks: &[u64],
-    regions: u32,
-    order: &[u64],
-    masks: &[u64],
-    leads: &[u32],
-) -> Checking
-    requires { Settled chunks.now forks.now order.now masks.now leads.now count regions }
-    ensures { checking_of result ≡ barriers_by_rows (table (chunk_row_at chunks.now) count) }
-{
-    let i = first_failing(Test::Uneven, count, chunks, forks, order, masks, leads);
-    if count <= i {
-        return Checking::Accepted;
+    // 11, of a REGION: deeper than 4. The team number falls at each climb, so a team below 4 is not.
+    fn too_deep(self, i: u32) -> bool
+        ensures { result ≡ deep_at self.entry.forks.words.now self.entry.order.now i }
+    {
+        let team = self.forks.at(i).team;
+        if team < 4 {
+            return false;
+        }
+        climb(self.forks, self.order, team, 5)
     }
-    let row = chunk_at(chunks, i);
-    if row.complete {
-        return at_chunk(chunks, i, Cause::BarrierCount);
-    }
-    let k = first_failing(
-        Test::UnlikeLowest,
-        count,
-        chunks,
-        forks,
-        order,
-        masks,
-        leads,
-    );
-    if k < count {
-        return at_chunk(chunks, k, Cause::BarrierCount);
-    }
-    at_chunk(chunks, i, Cause::CutAhead)
-}
 
-// 10 to 12 and 19, past 8 and 9.
-fn test_settled(
-    chunks: &[u64],
-    count: u32,
-    forks: &[u64],
-    regions: u32,
-    order: &[u64],
-    masks: &[u64],
-    leads: &[u32],
-) -> Checking
-    requires { Settled chunks.now forks.now order.now masks.now leads.now count regions }
-    ensures { checking_of result ≡ settled_by_rows (table (chunk_row_at chunks.now) count) (table (fork_row_at forks.now) regions) }
-{
-    if !met(masks, slot_of(order, 0), 0) {
-        return Checking::Refused {
-            place: 0,
-            cause: Cause::MissingChunk,
+    // The number of the lowest-numbered complete member of a team.
+    fn lead_of(self, team: u16) -> u32
+        ensures { result ≡ get_or self.entry.leads.now (first_with_key self.entry.order.now team) 0 }
+    {
+        lead_at(self.leads, slot_of(self.order, team))
+    }
+
+    // 12, of a chunk: complete, with other barriers than the lowest-numbered complete member.
+    fn unlike_lowest(self, i: u32) -> bool
+        ensures { result ≡ unlike_at self.entry.chunks.words.now self.entry.order.now self.entry.leads.now i }
+    {
+        let row = self.chunks.at(i);
+        let lead = self.lead_of(row.team);
+        row.complete & (row.barriers != lead % 65536)
+    }
+
+    // 12 or 19, of a chunk: complete, with other barriers than the lowest-numbered complete member, or cut, with more.
+    fn uneven(self, i: u32) -> bool
+        ensures { result ≡ uneven_at self.entry.chunks.words.now self.entry.order.now self.entry.leads.now i }
+    {
+        let row = self.chunks.at(i);
+        let lead = self.lead_of(row.team);
+        if row.complete {
+            return row.barriers != lead % 65536;
+        }
+        (1 <= lead) & (lead % 65536 < row.barriers)
+    }
+
+    // 12 and 19, past 8 to 11. One pass where neither fails. The first chunk to fail is a 12 where it is complete; else a 12 behind it comes
+    // first.
+    fn test_barriers(self) -> Result<(), Refusal>
+        requires { Settled self.chunks.words.now self.forks.words.now self.order.now self.masks.now self.leads.now self.chunks.count self.forks.count }
+        ensures { answer_of result ≡ barriers_by_rows (chunk_rows_in self.entry.chunks) }
+    {
+        let Some(i) = first_failing(self.chunks.count, |i| self.uneven(i)) else {
+            return Ok(());
         };
+        let row = self.chunks.at(i);
+        if row.complete {
+            return refuse(row.place, Cause::BarrierCount);
+        }
+        if let Some(k) = first_failing(self.chunks.count, |k| self.unlike_lowest(k)) {
+            return refuse(self.chunks.at(k).place, Cause::BarrierCount);
+        }
+        refuse(row.place, Cause::CutAhead)
     }
-    let i = first_failing(
-        Test::LacksChunk,
-        regions,
-        chunks,
-        forks,
-        order,
-        masks,
-        leads,
-    );
-    if i < regions {
-        return at_fork(forks, i, Cause::MissingChunk);
+
+    // 10 to 12 and 19, past 8 and 9.
+    fn test_settled(self) -> Result<(), Refusal>
+        requires { Settled self.chunks.words.now self.forks.words.now self.order.now self.masks.now self.leads.now self.chunks.count self.forks.count }
+        ensures { answer_of result ≡ settled_by_rows (chunk_rows_in self.entry.chunks) (fork_rows_in self.entry.forks) }
+    {
+        if !met(self.masks, slot_of(self.order, 0), 0) {
+            return refuse(0, Cause::MissingChunk);
+        }
+        if let Some(i) = first_failing(self.forks.count, |i| self.lacks_chunk(i)) {
+            return refuse(self.forks.at(i).place, Cause::MissingChunk);
+        }
+        if let Some(i) = first_failing(self.forks.count, |i| self.too_deep(i)) {
+            return refuse(self.forks.at(i).place, Cause::TooDeep);
+        }
+        self.test_barriers()
     }
-    let i = first_failing(Test::TooDeep, regions, chunks, forks, order, masks, leads);
-    if i < regions {
-        return at_fork(forks, i, Cause::TooDeep);
-    }
-    test_barriers(chunks, count, forks, regions, order, masks, leads)
+}
+
+fn refuse(place: usize, cause: Cause) -> Result<(), Refusal>
+    ensures { answer_of result ≡ refuses (number_of cause) place }
+{
+    Err(Refusal { place, cause })
 }
 
 // "the lowest number, then lowest offset"
 fn test_all(
-    chunks: &[u64],
-    count: u32,
-    forks: &[u64],
-    regions: u32,
+    chunks: Chunks<'_>,
+    forks: Forks<'_>,
     order: &[u64],
     masks: &mut [u64],
     leads: &mut [u32],
-) -> Checking
-    requires { Ready chunks.now forks.now order.now masks.old leads.old regions }
-    ensures { checking_of result ≡ shape_by_rows (table (chunk_row_at chunks.now) count) (table (fork_row_at forks.now) regions) }
+) -> Result<(), Refusal>
+    requires { Ready chunks.words.now forks.words.now order.now masks.old leads.old forks.count }
+    ensures { answer_of result ≡ shape_by_rows (chunk_rows_in chunks.entry) (fork_rows_in forks.entry) }
 {
-    let i = first_failing(
-        Test::ForkedBefore,
-        regions,
+    if let Some(i) = first_failing(forks.count, |i| forked_before(forks, order, i)) {
+        return refuse(forks.at(i).place, Cause::ForkedBefore);
+    }
+    if let Some(i) = first_stray(chunks, forks, order, masks, leads) {
+        return refuse(chunks.at(i).place, Cause::StrayChunk);
+    }
+    let tables = Tables {
         chunks,
         forks,
         order,
         masks,
         leads,
-    );
-    if i < regions {
-        return at_fork(forks, i, Cause::ForkedBefore);
-    }
-    let i = first_stray(chunks, count, forks, regions, order, masks, leads);
-    if i < count {
-        return at_chunk(chunks, i, Cause::StrayChunk);
-    }
-    test_settled(chunks, count, forks, regions, order, masks, leads)
+    };
+    tables.test_settled()
 }
 
 // The tests 8 to 12 and 19, in tables that are lent: a word for each REGION, and masks and leads that are all 0.
 fn shape_in(
-    chunks: &[u64],
-    count: u32,
-    forks: &[u64],
-    regions: u32,
+    chunks: Chunks<'_>,
+    forks: Forks<'_>,
     order: &mut [u64],
     masks: &mut [u64],
     leads: &mut [u32],
-) -> Checking
-    requires { Blank order.old masks.old leads.old regions }
-    ensures { checking_of result ≡ shape_by_rows (table (chunk_row_at chunks.now) count) (table (fork_row_at forks.now) regions) }
+) -> Result<(), Refusal>
+    requires { Blank order.old masks.old leads.old forks.count }
+    ensures { answer_of result ≡ shape_by_rows (chunk_rows_in chunks.entry) (fork_rows_in forks.entry) }
 {
-    order_teams(forks, order);
-    test_all(chunks, count, forks, regions, order, masks, leads)
+    order_teams(forks.words, order);
+    test_all(chunks, forks, order, masks, leads)
 }
 
-// For a few REGIONs small tables do: clearing large ones would take longer than all else.
-fn shape_small(chunks: &[u64], count: u32, forks: &[u64], regions: u32) -> Checking
-    requires { regions ≤ 16 }
-    ensures { checking_of result ≡ shape_by_rows (table (chunk_row_at chunks.now) count) (table (fork_row_at forks.now) regions) }
+// The same in tables for at most REGIONS REGIONs.
+fn shape_within<const REGIONS: usize, const MASKS: usize, const LEADS: usize>(
+    chunks: Chunks<'_>,
+    forks: Forks<'_>,
+) -> Result<(), Refusal>
+    requires { WithinTables forks.count REGIONS MASKS LEADS }
+    ensures { answer_of result ≡ shape_by_rows (chunk_rows_in chunks.entry) (fork_rows_in forks.entry) }
 {
-    let mut order = [0u64; 16];
-    let mut masks = [0u64; 68];
-    let mut leads = [0u32; 17];
-    shape_in(
-        chunks,
-        count,
-        forks,
-        regions,
-        &mut order[..regions as usize],
-        &mut masks,
-        &mut leads,
-    )
+    let mut order = [0u64; REGIONS];
+    let mut masks = [0u64; MASKS];
+    let mut leads = [0u32; LEADS];
+    let regions = forks.count as usize;
+    shape_in(chunks, forks, &mut order[..regions], &mut masks, &mut leads)
 }
 
-fn shape_large(chunks: &[u64], count: u32, forks: &[u64], regions: u32) -> Checking
-    requires { regions ≤ 512 }
-    ensures { checking_of result ≡ shape_by_rows (table (chunk_row_at chunks.now) count) (table (fork_row_at forks.now) regions) }
+// The tests 8 to 12 and 19. For a few REGIONs small tables do: clearing large ones would take longer than all else.
+pub fn shape(chunks: Chunks<'_>, forks: Forks<'_>) -> Result<(), Refusal>
+    requires { chunks.count + forks.count ≤ 512 }
+    ensures { answer_of result ≡ shape_by_rows (chunk_rows_in chunks.entry) (fork_rows_in forks.entry) }
 {
-    let mut order = [0u64; 512];
-    let mut masks = [0u64; 2052];
-    let mut leads = [0u32; 513];
-    shape_in(
-        chunks,
-        count,
-        forks,
-        regions,
-        &mut order[..regions as usize],
-        &mut masks,
-        &mut leads,
-    )
-}
-
-// The tests 8 to 12 and 19.
-pub fn shape(chunks: &[u64], count: u32, forks: &[u64], regions: u32) -> Checking
-    requires { count + regions ≤ 512 }
-    ensures { checking_of result ≡ shape_by_rows (table (chunk_row_at chunks.now) count) (table (fork_row_at forks.now) regions) }
-{
-    if regions <= 16 {
-        return shape_small(chunks, count, forks, regions);
+    if forks.count <= 16 {
+        return shape_within::<16, 68, 17>(chunks, forks);
     }
-    shape_large(chunks, count, forks, regions)
+    shape_within::<512, 2052, 513>(chunks, forks)
 }

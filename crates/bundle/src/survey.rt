@@ -6,8 +6,8 @@ ghost use Rattle.bundle.specs.Survey.{beginning, Near, opened_at, closed_row, fo
 use crate::chunk::ChunkState;
 use crate::command::Command;
 use crate::index::{ChunkRow, Fork, add_chunk, add_fork};
-use crate::refusal::Cause;
-use crate::scan::{Scan, Step, step_at};
+use crate::refusal::{Cause, Refusal};
+use crate::scan::{Scan, Stepped, step_at};
 
 // The open chunk: the offset of its MEMBER, its member, and the segments and accesses of the bundle before it.
 #[derive(Clone, Copy)]
@@ -28,11 +28,11 @@ pub struct Progress {
     pub forks: u32,
 }
 
-// What the pass gives: the number of chunks and of REGIONs, whose rows are in the tables.
+// How many chunks and REGIONs a bundle has, whose rows are in the tables.
 #[derive(Clone, Copy)]
-pub enum Survey {
-    Complete { chunks: u32, forks: u32 },
-    Refused { place: usize, cause: Cause },
+pub struct RowCounts {
+    pub chunks: u32,
+    pub forks: u32,
 }
 
 fn begin() -> Progress
@@ -59,17 +59,16 @@ fn begin() -> Progress
     }
 }
 
-// The chunk that is opened at the position.
+// The chunk that is opened at the position. `Near` stays a `requires`, here and below: the definitions of the pass make a Progress beyond it too.
 fn opened(pass: Progress, member: u8) -> Open
     requires { Near pass }
     ensures { result ≡ opened_at pass member }
 {
-    let scan = pass.scan;
     Open {
         place: pass.at as u16,
         member,
-        segments: scan.segments as u16,
-        accesses: scan.accesses as u16,
+        segments: pass.scan.segments as u16,
+        accesses: pass.scan.accesses as u16,
     }
 }
 
@@ -79,14 +78,13 @@ fn closed_row(pass: Progress, complete: bool) -> ChunkRow
     ensures { (result ≡ closed_row pass complete) × ChunkFits result }
 {
     let scan = pass.scan;
-    let state = scan.state;
     let open = pass.chunk;
     ChunkRow {
         place: open.place as usize,
         past: pass.at + 1,
         team: scan.team,
         member: open.member,
-        barriers: state.barriers,
+        barriers: scan.state.barriers,
         complete,
         segments: open.segments as u32,
         accesses: open.accesses as u32,
@@ -99,15 +97,13 @@ fn fork_row(pass: Progress, team: u16, size: u8) -> Fork
     ensures { (result ≡ fork_here pass team size) × ForkFits result }
 {
     let scan = pass.scan;
-    let open = pass.chunk;
-    let state = scan.state;
     Fork {
         place: pass.at,
         team,
         size,
         parent: scan.team,
-        member: open.member,
-        state,
+        member: pass.chunk.member,
+        state: scan.state,
     }
 }
 
@@ -115,93 +111,76 @@ fn fork_row(pass: Progress, team: u16, size: u8) -> Fork
 fn move_on(pass: Progress, scan: Scan, next: usize) -> Progress
     ensures { result ≡ record { at = next; scan = scan; chunk = pass.chunk; chunks = pass.chunks; forks = pass.forks } }
 {
-    let chunk = pass.chunk;
     Progress {
         at: next,
         scan,
-        chunk,
-        chunks: pass.chunks,
-        forks: pass.forks,
+        ..pass
     }
 }
 
 // Notes a command that passed the tests.
-fn note(
-    pass: Progress,
-    command: Command,
-    scan: Scan,
-    next: usize,
-    chunks: &mut [u64],
-    forks: &mut [u64],
-) -> Progress
+fn note(pass: Progress, step: Stepped, chunks: &mut [u64], forks: &mut [u64]) -> Progress
     requires { Notable pass chunks.old forks.old }
-    ensures { Noted pass command scan next result chunks.old forks.old chunks.new forks.new }
+    ensures { Noted pass step.command step.scan step.next result chunks.old forks.old chunks.new forks.new }
 {
-    let mut after = move_on(pass, scan, next);
-    match command {
-        Command::Member { team: _, member } => {
-            let chunk = opened(pass, member);
-            after.chunk = chunk;
-        }
+    let after = move_on(pass, step.scan, step.next);
+    match step.command {
+        Command::Member { team: _, member } => Progress {
+            chunk: opened(pass, member),
+            ..after
+        },
         Command::End => {
-            let count = pass.chunks;
-            add_chunk(chunks, count, closed_row(pass, true));
-            after.chunks = count + 1;
+            add_chunk(chunks, pass.chunks, closed_row(pass, true));
+            Progress {
+                chunks: pass.chunks + 1,
+                ..after
+            }
         }
         Command::Region { team, size } => {
-            let count = pass.forks;
-            add_fork(forks, count, fork_row(pass, team, size));
-            after.forks = count + 1;
+            add_fork(forks, pass.forks, fork_row(pass, team, size));
+            Progress {
+                forks: pass.forks + 1,
+                ..after
+            }
         }
-        Command::Barrier => {}
-        Command::Acquire(_) => {}
-        Command::Release(_) => {}
-        Command::Access(_) => {}
         Command::Cut => {
-            let count = pass.chunks;
-            add_chunk(chunks, count, closed_row(pass, false));
-            after.chunks = count + 1;
+            add_chunk(chunks, pass.chunks, closed_row(pass, false));
+            Progress {
+                chunks: pass.chunks + 1,
+                ..after
+            }
         }
+        Command::Barrier | Command::Acquire(_) | Command::Release(_) | Command::Access(_) => after,
     }
-    after
 }
 
 // 4: the bundle ending inside a chunk, at its length.
-fn finish(pass: Progress, end: usize) -> Survey
+#[tactic(auto, unfolding(crate::specs::Survey::finished))]
+fn finish(pass: Progress, end: usize) -> Result<RowCounts, Refusal>
     ensures { result ≡ finished pass end }
 {
-    let scan = pass.scan;
-    if scan.inside {
-        return Survey::Refused {
+    if pass.scan.inside {
+        return Err(Refusal {
             place: end,
             cause: Cause::Misplaced,
-        };
+        });
     }
-    Survey::Complete {
+    Ok(RowCounts {
         chunks: pass.chunks,
         forks: pass.forks,
-    }
+    })
 }
 
 // The whole bundle, front to back: each command is tested, and noted where it passes.
-pub fn survey_all(bytes: &[u8], chunks: &mut [u64], forks: &mut [u64]) -> Survey
+pub fn survey_all(bytes: &[u8], chunks: &mut [u64], forks: &mut [u64]) -> Result<RowCounts, Refusal>
     requires { (length bytes.now ≤ 65536) × (length chunks.old ≡ 1024) × (length forks.old ≡ 1536) }
     ensures { Surveyed bytes.now result chunks.new forks.new }
 {
     let mut pass = begin();
+    // Stays a while: where the next command begins is known once this one is read.
     while pass.at < bytes.len() {
-        match step_at(bytes, pass.at, pass.scan) {
-            Step::Onward {
-                next,
-                scan,
-                command,
-            } => {
-                pass = note(pass, command, scan, next, chunks, forks);
-            }
-            Step::Refused { place, cause } => {
-                return Survey::Refused { place, cause };
-            }
-        }
+        let step = step_at(bytes, pass.at, pass.scan)?;
+        pass = note(pass, step, chunks, forks);
     }
     finish(pass, bytes.len())
 }

@@ -2,14 +2,15 @@
 ghost use Rattle.std.specs.Prelude.{◌≡◌, ◌+◌, ◌*◌, ◌≤◌, length};
 ghost use Rattle.sorting.specs.Searching.{first_with_key};
 ghost use Rattle.bundle.specs.Check.{size_of};
-ghost use Rattle.bundle.specs.Index.{table, fork_row_at};
+ghost use Rattle.bundle.specs.Index.{table, fork_row_at, fork_rows_in};
 ghost use Rattle.bundle.specs.Shape.{slot_of, ByTeam};
 
-use crate::index::fork_at;
+use crate::index::Forks;
 use sorting::search::first_with_key;
 use sorting::sort::sort;
 
-// The slot of a team: the index of the REGION that forks it, the number of REGIONs where none does.
+// The slot of a team: the index of the REGION that forks it, the number of REGIONs where none does. Stays an index in either case: the root's
+// tables are at that slot.
 pub fn slot_of(order: &[u64], team: u16) -> u32
     requires { length order.now ≤ 512 }
     ensures { result ≡ first_with_key order.now team }
@@ -18,30 +19,31 @@ pub fn slot_of(order: &[u64], team: u16) -> u32
 }
 
 // "The root is team 0, size 1"; a team that is never forked has no members.
-pub fn size_of(forks: &[u64], regions: u32, slot: u32, team: u16) -> u8
-    requires { slot ≡ slot_of (table (fork_row_at forks.now) regions) team }
-    ensures { result ≡ size_of (table (fork_row_at forks.now) regions) team }
+pub fn size_of(forks: Forks<'_>, slot: u32, team: u16) -> u8
+    requires { slot ≡ slot_of (fork_rows_in forks) team }
+    ensures { result ≡ size_of (fork_rows_in forks.entry) team }
 {
     if team == 0 {
         return 1;
     }
-    if regions <= slot {
+    if forks.count <= slot {
         return 0;
     }
-    let row = fork_at(forks, slot);
-    row.size
+    forks.at(slot).size
 }
 
-// Writes the team of each REGION with its index, as first_with_key reads them.
+// Writes the team of each REGION with its index, as first_with_key reads them. `length order ≤ 512` stays a `requires`, here and below: the words are a slice
+// that is filled and sorted before it says anything.
 fn number_teams(forks: &[u64], order: &mut [u64])
     requires { length order.old ≤ 512 }
     ensures { order.new ≡ table (λ i. (fork_row_at forks.now i).team * 65536 + i) (length order.old) }
 {
-    let mut i = 0;
-    while i < order.len() {
-        let row = fork_at(forks, i as u32);
-        order[i] = (row.team as u64) * 65536 + i as u64;
-        i += 1;
+    let forks = Forks {
+        words: forks,
+        count: order.len() as u32,
+    };
+    for i in 0..order.len() {
+        order[i] = (forks.at(i as u32).team as u64) * 65536 + i as u64;
     }
 }
 

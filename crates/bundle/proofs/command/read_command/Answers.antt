@@ -20,7 +20,7 @@ decode_access-requires c =
     ]
 
 pub returns-in-1 : goal.returns-in-1
-returns-in-1 c = read-accepted _ _ c.decode_member.ensures c.accept.ensures
+returns-in-1 c = read-accepted _ _ c.decode_team.ensures c.accept.ensures
 
 pub returns-in-2 : goal.returns-in-2
 unfolding form_of sum width_of command_at code_of widths_of fit_widths operands_ok in_range
@@ -31,17 +31,17 @@ unfolding form_of sum width_of command_at code_of widths_of fit_widths operands_
 returns-in-3 c = read_whole _ _ _ (decode-whole _ _ (record { within = c.if-bytes-position.false; byte = c.in-3.is }) _ (omega arith) (search rules) refl) refl
 
 pub returns-in-16 : goal.returns-in-16
-returns-in-16 c = read-accepted _ _ c.decode_region.ensures c.accept-in-16.ensures
+returns-in-16 c = read-accepted _ _ c.decode_team-in-16.ensures c.accept-in-16.ensures
 
 pub returns-in-17 : goal.returns-in-17
 unfolding form_of sum width_of command_at code_of widths_of fit_widths operands_ok in_range
 returns-in-17 c = read_whole _ _ _ (decode-whole _ _ (record { within = c.if-bytes-position.false; byte = c.in-17.is }) _ (omega arith) (search rules) refl) refl
 
 pub returns-in-32 : goal.returns-in-32
-returns-in-32 c = read-accepted _ _ c.decode_acquire.ensures c.accept-in-32.ensures
+returns-in-32 c = read-accepted _ _ c.decode_lock.ensures c.accept-in-32.ensures
 
 pub returns-in-33 : goal.returns-in-33
-returns-in-33 c = read-accepted _ _ c.decode_release.ensures c.accept-in-33.ensures
+returns-in-33 c = read-accepted _ _ c.decode_lock-in-33.ensures c.accept-in-33.ensures
 
 pub returns-in-48-to-51 : goal.returns-in-48-to-51
 returns-in-48-to-51 c = read-accepted _ _ c.decode_access.ensures c.accept-in-48-to-51.ensures

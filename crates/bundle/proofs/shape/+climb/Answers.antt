@@ -10,4 +10,4 @@ pub returns-then-order-slot : goal.returns-then-order-slot
 returns-then-order-slot t c = climbs-ends _ _ _ _ c.if-levels-eq0.false _ c.slot_of-slot.ensures c.if-order-slot.true
 
 pub returns : goal.returns
-returns t c = c.climb.ensures ∙ climbs-goes _ _ _ _ c.if-levels-eq0.false _ c.slot_of-slot.ensures c.if-order-slot.false _ c.fork_at-row.ensures
+returns t c = c.climb.ensures ∙ climbs-goes _ _ _ _ c.if-levels-eq0.false _ c.slot_of-slot.ensures c.if-order-slot.false _ c.at.ensures

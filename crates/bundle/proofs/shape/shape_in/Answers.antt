@@ -7,6 +7,6 @@ use Rattle.bundle.proofs.shape.shape_in.Goals as goal
 pub test_all-requires : goal.test_all-requires
 test_all-requires c =
     record {
-      by_team = ordered-for c.args.forks.now c.args.order.now c.requires.order_long c.order_teams.ensures;
+      by_team = ordered-for c.args.forks.words.now c.args.order.now c.requires.order_long c.order_teams.ensures;
       met = nothing-met _ _ _ c.requires (table_none _);
     }

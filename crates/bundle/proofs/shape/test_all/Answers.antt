@@ -1,35 +1,34 @@
 -- `bundle::shape::test_all` meets its contract. Assumes nothing.
+use mathlib.Core.Path.{◌∙◌}
+use native.Mathlib.Omega.{arith}
+use borrow.Author.Rules.{rules}
+use Rattle.bundle.specs.Shape.{forked_by}
+use Rattle.bundle.proofs.FailingAt.{found-at, found-none}
 use Rattle.bundle.proofs.ShapeTests.{forked-twice, one-stray, none-stray, past-9}
-use Rattle.bundle.specs.Check.{checking_of}
-use mathlib.Core.Path.{ap, ◌∙◌}
 use Rattle.bundle.proofs.shape.test_all.Goals as goal
 
-pub first_failing-i-requires : goal.first_failing-i-requires
-first_failing-i-requires c = c.requires.by_team.few
+pub returns-in-Some : goal.returns-in-Some
+returns-in-Some c =
+    let forked = found-at {t = forked_by _ _} c.first_failing.ensures c.in-Some.is (λ i b e. search rules) in
+    rw c.at.ensures at c.refuse.ensures ∙ forked-twice _ _ _ _ _ c.requires.by_team forked.1 forked.0
 
-pub returns-then-i-regions : goal.returns-then-i-regions
-returns-then-i-regions c = ap checking_of c.at_fork.ensures ∙ forked-twice _ _ _ _ _ _ _ c.requires.by_team c.first_failing-i.ensures c.if-i-regions.true
-
-pub first_stray-i-requires : goal.first_stray-i-requires
-first_stray-i-requires c = c.requires
-
-pub shape_of-masks-then-i-count : goal.shape_of-masks-then-i-count
-shape_of-masks-then-i-count c = c.masks-1.given
-
-pub shape_of-leads-then-i-count : goal.shape_of-leads-then-i-count
-shape_of-leads-then-i-count c = c.leads-1.given
-
-pub returns-then-i-count : goal.returns-then-i-count
-returns-then-i-count c = ap checking_of c.at_chunk.ensures ∙ one-stray _ _ _ _ _ _ _ c.requires.by_team c.first_failing-i.ensures c.if-i-regions.false c.first_stray-i.ensures.first c.first_stray-i.ensures.met c.if-i-count.true
+pub returns-in-Some-first_stray : goal.returns-in-Some-first_stray
+returns-in-Some-first_stray c =
+    let forked = found-none {t = forked_by _ _} c.first_failing.ensures c.in_default.is (λ i b e. search rules) in
+    let stray = found-at c.first_stray.ensures.first c.in-Some-first_stray.is (λ i b e. e) in
+    let met = rw c.in-Some-first_stray.is at c.first_stray.ensures.met in
+    rw c.at-in-Some-first_stray.ensures at c.refuse-in-Some-first_stray.ensures
+    ∙ one-stray _ _ _ _ _ c.requires.by_team forked (omega arith) stray.1 met stray.0
 
 pub test_settled-requires : goal.test_settled-requires
-test_settled-requires c = none-stray _ _ _ _ _ _ _ c.requires.by_team c.first_failing-i.ensures c.if-i-regions.false c.first_stray-i.ensures.first c.first_stray-i.ensures.met c.if-i-count.false
-
-pub shape_of-masks : goal.shape_of-masks
-shape_of-masks c = c.masks-1.given
-
-pub shape_of-leads : goal.shape_of-leads
-shape_of-leads c = c.leads-1.given
+test_settled-requires c =
+    let forked = found-none {t = forked_by _ _} c.first_failing.ensures c.in_default.is (λ i b e. search rules) in
+    let stray = found-none c.first_stray.ensures.first c.in_default-first_stray.is (λ i b e. e) in
+    none-stray _ _ _ _ _ c.requires.by_team forked (omega arith) stray (rw c.in_default-first_stray.is at c.first_stray.ensures.met) (omega arith)
 
 pub returns : goal.returns
-returns c = c.test_settled.ensures ∙ past-9 _ _ _ _ _ _ _ c.requires.by_team c.first_failing-i.ensures c.if-i-regions.false c.first_stray-i.ensures.first c.first_stray-i.ensures.met c.if-i-count.false
+returns c =
+    let forked = found-none {t = forked_by _ _} c.first_failing.ensures c.in_default.is (λ i b e. search rules) in
+    let stray = found-none c.first_stray.ensures.first c.in_default-first_stray.is (λ i b e. e) in
+    let met = rw c.in_default-first_stray.is at c.first_stray.ensures.met in
+    c.test_settled.ensures ∙ past-9 _ _ _ _ _ c.requires.by_team forked (omega arith) stray met (omega arith)

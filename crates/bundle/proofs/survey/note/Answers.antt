@@ -1,13 +1,14 @@
 -- `bundle::survey::note` meets its contract. Assumes nothing.
 use mathlib.Core.Path.{refl}
+use mathlib.Core.Logic.{⊎_elim}
 use Rattle.bundle.specs.Chunks.{is_end}
 use Rattle.bundle.specs.Survey.{pass_after, new_chunks, new_forks}
 use Rattle.bundle.proofs.Delimiters.{closes}
 use Rattle.bundle.proofs.Passing.{noted-none, noted-chunk, noted-fork}
 use Rattle.bundle.proofs.survey.note.Goals as goal
 
-pub opened-chunk-requires : goal.opened-chunk-requires
-opened-chunk-requires c = c.requires.near
+pub opened-requires : goal.opened-requires
+opened-requires c = c.requires.near
 
 pub closed_row-requires : goal.closed_row-requires
 closed_row-requires c = c.requires.near
@@ -29,7 +30,7 @@ add_chunk-requires-in-Cut c = (c.requires.chunk_room, c.closed_row-in-Cut.ensure
 
 pub returns-in-Member : goal.returns-in-Member
 unfolding pass_after new_chunks new_forks
-returns-in-Member c = rw c.in-Member.is (noted-none _ _ _ _ _ _ _ (rw (c.move_on-after.ensures, c.opened-chunk.ensures)) refl refl refl refl)
+returns-in-Member c = rw c.in-Member.is (noted-none _ _ _ _ _ _ _ (rw (c.move_on-after.ensures, c.opened.ensures)) refl refl refl refl)
 
 pub shape_of-chunks-in-End : goal.shape_of-chunks-in-End
 shape_of-chunks-in-End c = c.chunks-1.given
@@ -46,19 +47,15 @@ returns-in-Region c = rw c.in-Region.is (noted-fork _ _ _ _ _ _ _ _ _ _ (rw c.mo
 
 pub returns-in-Barrier : goal.returns-in-Barrier
 unfolding pass_after new_chunks new_forks
-returns-in-Barrier c = rw c.in-Barrier.is (noted-none _ _ _ _ _ _ _ c.move_on-after.ensures refl refl refl refl)
-
-pub returns-in-Acquire : goal.returns-in-Acquire
-unfolding pass_after new_chunks new_forks
-returns-in-Acquire c = rw c.in-Acquire.is (noted-none _ _ _ _ _ _ _ c.move_on-after.ensures refl refl refl refl)
-
-pub returns-in-Release : goal.returns-in-Release
-unfolding pass_after new_chunks new_forks
-returns-in-Release c = rw c.in-Release.is (noted-none _ _ _ _ _ _ _ c.move_on-after.ensures refl refl refl refl)
-
-pub returns-in-Access : goal.returns-in-Access
-unfolding pass_after new_chunks new_forks
-returns-in-Access c = rw c.in-Access.is (noted-none _ _ _ _ _ _ _ c.move_on-after.ensures refl refl refl refl)
+returns-in-Barrier c =
+    ⊎_elim
+    (λ e. rw e (noted-none _ _ _ _ _ _ _ c.move_on-after.ensures refl refl refl refl))
+    (⊎_elim
+    (λ w. rw w.1 (noted-none _ _ _ _ _ _ _ c.move_on-after.ensures refl refl refl refl))
+    (⊎_elim
+    (λ w. rw w.1 (noted-none _ _ _ _ _ _ _ c.move_on-after.ensures refl refl refl refl))
+    (λ w. rw w.1 (noted-none _ _ _ _ _ _ _ c.move_on-after.ensures refl refl refl refl))))
+    c.in-Barrier.is
 
 pub shape_of-chunks-in-Cut : goal.shape_of-chunks-in-Cut
 shape_of-chunks-in-Cut c = c.chunks-in-Cut-1.given

@@ -1,18 +1,15 @@
 -- `bundle::teams::number_teams` meets its contract. Assumes nothing.
-use borrow.Author.Rules.{rules}
-use Rattle.bundle.proofs.TeamOrder.{written-more, written_all}
-use Rattle.bundle.proofs.Tables.{table_none}
 use mathlib.Core.Path.{refl, sym}
+use borrow.Author.Rules.{rules}
+use Rattle.bundle.proofs.Tables.{table_none}
+use Rattle.bundle.proofs.TeamOrder.{written-more, written_all}
 use Rattle.bundle.proofs.teams.number_teams.Goals as goal
 
 pub loop-i-init : goal.loop-i-init
-loop-i-init c = (search rules, refl, sym (table_none _))
+loop-i-init c = sym (table_none _)
 
 pub loop-i-preserved : goal.loop-i-preserved
-loop-i-preserved c = (search rules, search rules, written-more _ _ _ c.loop-i.invariant.2 _ c.loop-i-test.true (rw c.fork_at-row.ensures refl))
-
-pub shape_of-order : goal.shape_of-order
-shape_of-order c = c.loop-i.invariant.1
+loop-i-preserved c = written-more _ _ _ c.loop-i.invariant _ (search rules) (rw c.at.ensures refl)
 
 pub returns : goal.returns
-returns c = written_all _ _ _ c.loop-i.invariant.2 _ c.loop-i.invariant.1 c.loop-i.invariant.0 c.loop-i-test.false
+returns c = written_all _ _ _ c.loop-i.invariant _ (search rules) (search rules) (search rules)
