@@ -10,24 +10,26 @@ use lib.ListN.{length, replicate, set, get_elem?, get_or, length-append}
 use lib.Seq.{take-append_seam}
 use lib.Dec.{eqb}
 use borrow.Author.Tests.{eqb-true, ne_eqb, ltb-false, lt-ltb, le-ltb}
-use Rattle.bundle.specs.Answer.{Answer, gives, refuses}
+use Rattle.bundle.specs.Answer.{Answer, gives, refuses, number_of}
 use Rattle.bundle.specs.Lists.{from_option}
 use Rattle.bundle.specs.Chunks.{Chunk, chunks_of, chunk_of}
 use Rattle.bundle.specs.Walk.{Segment, segments_in, forks_of}
 use Rattle.bundle.specs.Check.{fork_of, size_of, depth_from, depth_of, check_of, Accepted}
-use Rattle.bundle.specs.Index.{is_row, chunk_row_at, fork_row_of, fork_row_at, table, index_of, Indexed}
+use Rattle.bundle.specs.Index.{is_row, chunk_row_at, fork_row_of, fork_row_at, table, index_of, below, Indexed}
 use Rattle.bundle.specs.declared.chunk.ChunkState.{ChunkState}
 use Rattle.bundle.specs.declared.index.ChunkRow.{ChunkRow}
 use Rattle.bundle.specs.declared.index.Fork.{Fork}
 use Rattle.bundle.proofs.ListLaws.{first_some}
-use Rattle.bundle.proofs.Tables.{first-at, first_past}
+use Rattle.bundle.proofs.Tables.{first-at, first_past, below-some, below-none}
 use Rattle.bundle.proofs.Onward.{legible, team-falls}
-use Rattle.order.specs.Labels.{last_triple, fork_label, segment_label, label_of, counted, blank, holding, Labelled}
+use Rattle.order.specs.Labels.{last_triple, fork_label, segment_label, label_of, counted, blank, holding, label_held, Labelled}
 use Rattle.order.specs.Climbing.{joined_before, opened_in, state_by_rows, Climbable, Joinable, triple_of, extended, chunk_label_of, label_in, label_by_rows}
+use Rattle.bundle.specs.declared.refusal.Refusal.{Refusal}
 use Rattle.order.specs.declared.label.Triple.{Triple}
 use Rattle.order.specs.declared.label.Label.{Label}
 use Rattle.order.specs.declared.climb.ChunkLabel.{ChunkLabel}
-use Rattle.order.specs.declared.climb.LabelAnswer.TheVariants as Ans
+use Rattle.std.specs.declared.option.Option.TheVariants.{Some, None}
+use Rattle.std.specs.declared.result.Result.TheVariants.{Ok, Err}
 use Rattle.order.proofs.SegmentRows.{unlocked, state_in, state_of, joined-few, joined-earlier, state-by-rows}
 
 pub span_fits : (size regions : ℕ) → size < 256 → regions ≤ 65536 → size * regions ≤ 16711680
@@ -165,6 +167,15 @@ module _ (row : ℕ → Fork) (n t i : ℕ) (e : i ≡ index_of (λ (f : Fork). 
   unfolding fork_of
   fork-some h q = first-at (λ (f : Fork). eqb f.team t) row n i e h ∙ ap some (sym q)
 
+-- and by what the search for it finds
+module _ (row : ℕ → Fork) (n t : ℕ) where
+  pub fork-unfound : None ≡ below n (index_of (λ (f : Fork). eqb f.team t) (table row n)) → fork_of (table row n) t ≡ none
+  fork-unfound e = fork-none row n t _ refl (below-none e)
+
+  pub fork-found :
+      {i : ℕ} → Some i ≡ below n (index_of (λ (f : Fork). eqb f.team t) (table row n)) → {f : Fork} → f ≡ row i → fork_of (table row n) t ≡ some f
+  fork-found e q = let w = below-some e in fork-some row n t _ w.0 (omega (arith, w.0, w.1)) q
+
 pub row-few : (words : List ℕ) (i : ℕ) {f : Fork} → f ≡ fork_row_at words i → (f.state.barriers ≤ 65536) × (f.state.regions ≤ 65536)
 unfolding fork_row_at fork_row_of
 row-few words i e =
@@ -181,19 +192,23 @@ holding-counted ts = take-append_seam ts (replicate (5 - length ts) blank)
 pub labelled :
     (fs : List Fork) (t m : ℕ) (k : ChunkState) (l : Label)
     → l ≡ holding (segment_label fs t m k)
-    → Labelled (record { answer = Ans.Found; label = l }) (label_in fs t m (some k))
+    → Labelled (Ok l) (label_in fs t m (some k))
 labelled fs t m k l e = rw e (record { answer = ap gives (holding-counted (segment_label fs t m k)); label = refl })
 
--- by the index of the chunk's row
-module _ (row : ℕ → ChunkRow) (fs : List Fork) (n t m number i : ℕ) (e : i ≡ index_of (is_row t m) (table row n)) where
-  pub chunk-missing : n ≤ i → refuses 14 0 ≡ label_by_rows (table row n) fs t m number
-  unfolding state_by_rows
-  chunk-missing h = rw (first_past (is_row t m) row n i e h)
+pub unlabelled : (r : Refusal) {a : Answer (List Triple)} → refuses (number_of r.cause) r.place ≡ a → Labelled (Err r) a
+unlabelled r e = record { answer = e; label = ap label_held e }
 
-  module _ (h : i < n) {r : ChunkRow} (q : r ≡ row i) {joined : ℕ} (w : joined ≡ joined_before fs t m number) where
+-- by what the search for the chunk's row finds
+module _ (row : ℕ → ChunkRow) (fs : List Fork) (n t m number : ℕ) where
+  pub chunk-missing : None ≡ below n (index_of (is_row t m) (table row n)) → refuses 14 0 ≡ label_by_rows (table row n) fs t m number
+  unfolding state_by_rows
+  chunk-missing e = rw (first_past (is_row t m) row n (index_of (is_row t m) (table row n)) refl (below-none e))
+
+  module _ {i : ℕ} (e : Some i ≡ below n (index_of (is_row t m) (table row n))) {r : ChunkRow} (q : r ≡ row i)
+      {joined : ℕ} (w : joined ≡ joined_before fs t m number) where
     in_row : opened_in r.barriers joined number ≡ state_by_rows (table row n) fs t m number
     unfolding state_by_rows
-    in_row = rw (first-at (is_row t m) row n i e h, q, w)
+    in_row = let f = below-some e in rw (first-at (is_row t m) row n i f.0 (omega (arith, f.0, f.1)), q, w)
 
     pub segment-missing : r.barriers < number - joined → refuses 14 0 ≡ label_by_rows (table row n) fs t m number
     unfolding opened_in

@@ -5,18 +5,21 @@ use mathlib.Core.Logic.{⊎_elim}
 use mathlib.Core.Bool.{Bool, true, false, cond, ◌||◌}
 use mathlib.Core.List.{List, Memᴰ}
 use mathlib.Core.Option.{Option, none, some}
-use native.Mathlib.Nat.{div-add-mod', div-le_self, mod-lt, mul-zero, mul-le-mul_right, lt_of_mul-lt-mul_right}
+use native.Mathlib.Nat.{div-add-mod', mod-lt, mul-zero, mul-le-mul_right, lt_of_mul-lt-mul_right}
 use native.Mathlib.Omega.{arith}
 use lib.Dec.{eqb, leb, ltb}
-use borrow.Author.Tests.{le-leb, lt-ltb, le-ltb, leb-true, ltb-true, ltb-false, eqb-true, eqb-false}
-use Rattle.bundle.specs.Answer.{gives}
+use borrow.Author.Tests.{le-leb, lt-ltb, leb-true, ltb-true, ltb-false, eqb-true, eqb-false}
 use Rattle.bundle.specs.Lists.{up_to, passing, from_option}
 use Rattle.bundle.specs.declared.command.Range.{Range}
 use Rattle.bundle.proofs.Tests.{both, and_left, and_right, or_cases, or-false, cond-elim}
 use Rattle.bundle.proofs.ListLaws.{passing-elim, passing-intro, up_to-elim, up_to-intro}
 use Rattle.order.specs.Ranges.{Touches, LeastShared, Covers, LowestElement}
 use Rattle.order.specs.SharedBytes.{least, shared_byte, covers, lowest_element, overlap_at, overlap_of}
-use Rattle.order.specs.Pairs.{element_from, element_by, turned_of}
+use Rattle.order.specs.Pairs.{element_from, element_by, turned_over, turned_of}
+use Rattle.std.specs.Option.{option_map}
+use Rattle.std.specs.declared.option.Option as Opt
+use Rattle.std.specs.declared.option.Option.TheVariants as Opts
+use Rattle.bundle.specs.Lists.{option_of}
 use Rattle.order.specs.declared.range.Overlap.{Overlap}
 use Rattle.order.proofs.SharedByte.{LeastIs, least-is, shared-some, shared-is, shared-unique, shared-swap}
 
@@ -128,27 +131,6 @@ module _ (r : Range) (byte : ℕ) where
           → LowestElement r byte ((byte - (r.base + r.size)) / r.stride + 1)
       later e f = at-later t (ltb-false byte (r.base + r.size) e) (more-elements (r.base + r.size) r.stride refl f).0
 
--- the code's cases
-module _ (end stride byte : ℕ) where
-  pub first-told : byte < end → 0 ≡ element_from end stride byte
-  unfolding element_from
-  first-told h = sym (rw (lt-ltb byte end h))
-
-  module _ (past : end ≤ byte) {t : Bool} (e : t ≡ (eqb stride 0 || eqb end 0)) where
-    pub only-told : t ≡ true → 0 ≡ element_from end stride byte
-    unfolding element_from
-    only-told h = sym (rw (le-ltb byte end past, sym e ∙ h))
-
-    pub later-strided : t ≡ false → 1 ≤ stride
-    later-strided h = (more-elements end stride e h).0
-
-    pub later-fits : t ≡ false → byte < 4294967296 → (byte - end) / stride + 1 < 4294967296
-    later-fits h l = omega (arith, past, (more-elements end stride e h).1, div-le_self (byte - end) stride)
-
-    pub later-told : t ≡ false → (byte - end) / stride + 1 ≡ element_from end stride byte
-    unfolding element_from
-    later-told h = sym (rw (le-ltb byte end past, sym e ∙ h))
-
 -- the lowest shared byte with its elements
 module _ (a b : Range) where
   pub overlap-some : {byte : ℕ} → shared_byte a b ≡ some byte → overlap_of a b ≡ some (overlap_at a b byte)
@@ -198,10 +180,14 @@ module _ (a b : Range) where
   met-nowhere h = sym (overlap-none (sym (shared-unique a b none h)))
 
 -- whichever range comes first
-pub overlap-swap : (a b : Range) → turned_of (gives (overlap_of b a)) ≡ gives (overlap_of a b)
-unfolding turned_of overlap_of overlap_at
+pub turned-is : (o : Opt.Option Overlap) → option_of (option_map turned_over o) ≡ turned_of (option_of o)
+turned-is Opts.None = refl
+turned-is (Opts.Some x) = refl
+
+pub overlap-swap : (a b : Range) → turned_of (overlap_of b a) ≡ overlap_of a b
+unfolding overlap_of overlap_at
 overlap-swap a b = rw (shared-swap b a) (go (shared_byte a b))
   where
-    go : (o : Option ℕ) → turned_of (gives (from_option none (λ (n : ℕ). some (overlap_at b a n)) o)) ≡ gives (from_option none (λ (n : ℕ). some (overlap_at a b n)) o)
+    go : (o : Option ℕ) → turned_of (from_option none (λ (n : ℕ). some (overlap_at b a n)) o) ≡ from_option none (λ (n : ℕ). some (overlap_at a b n)) o
     go none = refl
     go (some n) = refl

@@ -1,24 +1,23 @@
 -- The first pair of near elements of two ranges gives the lowest byte that both touch, and is the lowest element of each that covers it.
 use Prim.Native.Nat.{ℕ, ◌+◌, ◌*◌, ◌-◌, ◌<◌, ◌≤◌, max}
-use mathlib.Core.Path.{◌≡◌, sym, ap, subst, ◌∙◌}
+use mathlib.Core.Path.{◌≡◌, sym, subst}
 use mathlib.Core.Bool.{true, false}
 use mathlib.Core.Option.{none, some}
+use Rattle.std.specs.declared.option.Option.{Option}
+use Rattle.std.specs.declared.option.Option.TheVariants.{Some, None}
+use Rattle.std.specs.Option.{option_map}
+use Rattle.bundle.specs.Lists.{option_of}
 use native.Mathlib.Nat.{mul-le-mul_right}
 use native.Mathlib.Omega.{arith}
-use lib.Dec.{leb}
-use borrow.Author.Tests.{le-leb, leb-true}
-use Rattle.bundle.specs.Answer.{gives}
+use borrow.Author.Tests.{le-leb}
 use Rattle.bundle.specs.Commands.{range_ok, last_byte}
 use Rattle.bundle.specs.declared.command.Range.{Range}
-use Rattle.bundle.proofs.Tests.{both, and_left, and_right, not-both}
+use Rattle.bundle.proofs.Tests.{both, not-both}
 use Rattle.bundle.proofs.Ranges.{range-parts, size-within}
-use Rattle.order.specs.Ranges.{Touches, LeastShared, Covers, shared_byte, overlap_of, shared_of}
-use Rattle.order.specs.Pairs.{touches_some, Near, PairFits, InOrder, PairOf, lowest_of, pair_meeting, meeting_byte, MeetingOf}
-use Rattle.order.specs.declared.range.ElementPair.{ElementPair}
-use Rattle.order.specs.declared.range.ElementPair.TheVariants as Pr
-use Rattle.order.specs.declared.range.Lowest.{Lowest}
+use Rattle.order.specs.Ranges.{Touches, LeastShared, Covers, shared_byte, overlap_of}
+use Rattle.order.specs.Pairs.{touches_some, Near, InOrder, PairOf, pair_meeting, MeetingOf}
 use Rattle.order.specs.declared.range.Meeting.{Meeting}
-use Rattle.order.specs.declared.range.Meeting.TheVariants as Mee
+use Rattle.order.specs.declared.range.ElementPair.{ElementPair}
 use Rattle.order.proofs.SharedByte.{shared-unique, shared-some}
 use Rattle.order.proofs.Elements.{touched-covers, met_at, met-nowhere}
 
@@ -47,7 +46,7 @@ module _ (lower upper : Range) (o : InOrder lower upper) where
       })
 
   -- and both first elements cover it
-  pub base-met : upper.base - lower.base < lower.size → MeetingOf lower upper (Mee.At upper.base 0 0)
+  pub base-met : upper.base - lower.base < lower.size → MeetingOf lower upper (Some (record { byte = upper.base; one = 0; other = 0 }))
   base-met near = (
     shared-some lower upper upper.base (sym (base-shared near)),
     record {
@@ -81,7 +80,7 @@ module _ (lower upper : Range) (o : InOrder lower upper) where
     near-elements byte s t = near-covers byte (touched-covers lower byte s) (touched-covers upper byte t)
 
     pair-least :
-        (i j : ℕ) → PairOf lower upper (Pr.Elements i j)
+        (i j : ℕ) → PairOf lower upper (Some (record { one = i; other = j }))
         → LeastShared lower upper (max (lower.base + i * lower.stride) (upper.base + j * upper.stride))
     pair-least i j l =
         let start : ℕ = lower.base + i * lower.stride in
@@ -114,59 +113,42 @@ module _ (lower upper : Range) (o : InOrder lower upper) where
             omega (arith, s.at, t.at, mul-le-mul_right lower.stride h.0, mul-le-mul_right upper.stride h.1)
 
     -- a lower element that covered the byte would make a pair before the first
-    pub pair-met : {r : Meeting} (pair : ElementPair) → PairOf lower upper pair → r ≡ pair_meeting pair lower upper → MeetingOf lower upper r
+    pub met-pair : (i j : ℕ) → PairOf lower upper (Some (record { one = i; other = j }))
+        → MeetingOf lower upper (Some (record { byte = max (lower.base + i * lower.stride) (upper.base + j * upper.stride); one = i; other = j }))
+    met-pair i j l =
+        let w : ℕ = max (lower.base + i * lower.stride) (upper.base + j * upper.stride) in
+        let one : Covers lower w i = record { element_below = l.one_below; from = omega arith; to = omega (arith, l.near.from, o.lower_sized, o.bases) } in
+        let other : Covers upper w j = record { element_below = l.other_below; from = omega arith; to = omega (arith, l.near.to, o.upper_sized, o.bases) } in (
+          pair-least i j l,
+          record {
+            covers = one;
+            lowest = λ k below c. omega (arith, (l.least k j c.element_below l.other_below (near-covers w c other)).0);
+          },
+          record {
+            covers = other;
+            lowest = λ k below c. omega (arith, (l.least i k l.one_below c.element_below (near-covers w one c)).1);
+          },
+        )
+
+    -- and where there is no pair, no byte is shared
+    pub pair-met : {r : Option Meeting} (pair : Option ElementPair) → PairOf lower upper pair → r ≡ pair_meeting pair lower upper → MeetingOf lower upper r
     unfolding pair_meeting
     pair-met pair h e = subst (MeetingOf lower upper) (sym e) (go pair h)
       where
-        go : (p : ElementPair) → PairOf lower upper p → MeetingOf lower upper (pair_meeting p lower upper)
-        go (Pr.Elements i j) l =
-            let w : ℕ = max (lower.base + i * lower.stride) (upper.base + j * upper.stride) in
-            let one : Covers lower w i = record { element_below = l.one_below; from = omega arith; to = omega (arith, l.near.from, o.lower_sized, o.bases) } in
-            let other : Covers upper w j = record { element_below = l.other_below; from = omega arith; to = omega (arith, l.near.to, o.upper_sized, o.bases) } in (
-              pair-least i j l,
-              record {
-                covers = one;
-                lowest = λ k below c. omega (arith, (l.least k j c.element_below l.other_below (near-covers w c other)).0);
-              },
-              record {
-                covers = other;
-                lowest = λ k below c. omega (arith, (l.least i k l.one_below c.element_below (near-covers w one c)).1);
-              },
-            )
-        go Pr.Nothing l =
-            λ byte s t. l s.element t.element s.element_below t.element_below (near-elements byte s t)
+        none-met : PairOf lower upper None → MeetingOf lower upper None
+        none-met l = λ byte s t. l s.element t.element s.element_below t.element_below (near-elements byte s t)
 
--- the elements of a pair are below the counts
-pub pair-of-fits : (lower upper : Range) (pair : ElementPair) → PairOf lower upper pair → lower.count < 65536 → upper.count < 65536
-    → PairFits pair
-pair-of-fits lower upper (Pr.Elements one other) l hl hu = (omega (arith, l.one_below), omega (arith, l.other_below))
-pair-of-fits lower upper Pr.Nothing h hl hu = tt
+        go : (p : Option ElementPair) → PairOf lower upper p → MeetingOf lower upper (pair_meeting p lower upper)
+        go (Some p) l = met-pair p.one p.other l
+        go None l = none-met l
 
--- the meeting of a pair
-module _ {pair : ElementPair} (lower upper : Range) where
-  pub met-pair : {one other start upper-start byte : ℕ} → pair ≡ Pr.Elements one other
-      → start ≡ lower.base + one * lower.stride
-      → upper-start ≡ upper.base + other * upper.stride
-      → byte ≡ max start upper-start
-      → Mee.At byte one other ≡ pair_meeting pair lower upper
-  unfolding pair_meeting
-  met-pair e s t m = cc
-
-  pub met-nothing : pair ≡ Pr.Nothing → Mee.Nothing ≡ pair_meeting pair lower upper
-  unfolding pair_meeting
-  met-nothing e = sym (ap (λ p. pair_meeting p lower upper) e)
-
--- its byte
-pub meeting-shared : (a b : Range) (m : Meeting) {l : Lowest} → MeetingOf a b m → l ≡ meeting_byte m → lowest_of l ≡ shared_byte a b
-meeting-shared a b m h e = ap lowest_of e ∙ go m h
-  where
-    go : (n : Meeting) → MeetingOf a b n → lowest_of (meeting_byte n) ≡ shared_byte a b
-    go (Mee.At byte one other) k = shared-unique a b (some byte) k.0
-    go Mee.Nothing k = shared-unique a b none k
+-- the byte of a meeting
+pub meeting-shared : (a b : Range) (o : Option Meeting) → MeetingOf a b o → option_of (option_map (λ (m : Meeting). m.byte) o) ≡ shared_byte a b
+meeting-shared a b (Some m) h = shared-unique a b (some m.byte) h.0
+meeting-shared a b None h = shared-unique a b none h
 
 -- a range that touches no byte
 touch-some : (r : Range) (byte : ℕ) → Touches r byte → touches_some r ≡ true
-unfolding touches_some
 touch-some r byte t =
     both (le-leb 1 r.count (omega (arith, t.element_below))) (le-leb 1 r.size (omega (arith, t.within_below)))
 
@@ -175,18 +157,6 @@ none_first a b e = shared-unique a b none (λ byte s t. not-both (touch-some a b
 
 pub none-second : (a b : Range) → touches_some b ≡ false → none ≡ shared_byte a b
 none-second a b e = shared-unique a b none (λ byte s t. not-both (touch-some b byte t) e)
-
-pub in_order : (lower upper : Range) → touches_some lower ≡ true → touches_some upper ≡ true → lower.base ≤ upper.base
-    → InOrder lower upper
-unfolding touches_some
-in_order lower upper l u h =
-    record {
-      lower_counted = leb-true 1 lower.count (and_left (leb 1 lower.count) (leb 1 lower.size) l);
-      lower_sized = leb-true 1 lower.size (and_right (leb 1 lower.count) (leb 1 lower.size) l);
-      upper_counted = leb-true 1 upper.count (and_left (leb 1 upper.count) (leb 1 upper.size) u);
-      upper_sized = leb-true 1 upper.size (and_right (leb 1 upper.count) (leb 1 upper.size) u);
-      bases = h;
-    }
 
 -- the answer for two ranges that are in range
 element-within : (n k t : ℕ) → k < n → k * t ≤ (n - 1) * t
@@ -199,10 +169,6 @@ touch-fits r byte e t =
     omega (arith, (range-parts r e).last, t.at, t.within_below)
 
 module _ (a b : Range) (ok : (range_ok a ≡ true) × (range_ok b ≡ true)) where
-  pub shared-given : shared_of a b ≡ gives (overlap_of a b)
-  unfolding shared_of
-  shared-given = simp (ok.0, ok.1)
-
   pub valid-order : a.base ≤ b.base → InOrder a b
   valid-order h =
       let p = range-parts a ok.0 in
@@ -216,16 +182,13 @@ module _ (a b : Range) (ok : (range_ok a ≡ true) × (range_ok b ≡ true)) whe
       }
 
 -- what the code makes of a meeting
-module _ (a b : Range) {m : Meeting} (h : MeetingOf a b m) where
-  module _ {byte one other : ℕ} (e : m ≡ Mee.At byte one other) where
-    met : MeetingOf a b (Mee.At byte one other)
-    met = subst (MeetingOf a b) e h
+pub byte_fits : (a b : Range) (m : Meeting) → MeetingOf a b (Some m) → range_ok a ≡ true → m.byte < 4294967296
+byte_fits a b m h ok = touch-fits a m.byte ok h.0.one
 
-    pub byte_fits : range_ok a ≡ true → byte < 4294967296
-    byte_fits ok = touch-fits a byte ok met.0.one
+pub met-overlap :
+    (a b : Range) (m : Meeting) → MeetingOf a b (Some m)
+    → some (record { byte = m.byte; first_element = m.one; second_element = m.other }) ≡ overlap_of a b
+met-overlap a b m h = met_at a b h.0 h.1 h.2
 
-    pub meeting-told : gives (some (record { byte = byte; first_element = one; second_element = other })) ≡ gives (overlap_of a b)
-    meeting-told = ap gives (met_at a b met.0 met.1 met.2)
-
-  pub nothing-told : m ≡ Mee.Nothing → gives none ≡ gives (overlap_of a b)
-  nothing-told e = ap gives (met-nowhere a b (subst (MeetingOf a b) e h))
+pub unmet-overlap : (a b : Range) → MeetingOf a b None → none ≡ overlap_of a b
+unmet-overlap a b h = met-nowhere a b h

@@ -10,6 +10,7 @@ use native.Mathlib.Omega.{arith}
 use native.Mathlib.Numerals.{add-one}
 use lib.ListN.{get_elem?}
 use lib.Dec.{eqb, ltb}
+use mir.Val.{bool_byte}
 use borrow.Author.Tests.{eq-eqb, lt-ltb, le-ltb}
 use Rattle.bundle.specs.Lists.{first, concat_map, from_option}
 use Rattle.bundle.specs.Cases.{on_region}
@@ -32,7 +33,7 @@ use Rattle.bundle.proofs.Gathering.{Body, ends, goes, Formed}
 use Rattle.bundle.proofs.Places.{member_key}
 use Rattle.bundle.proofs.Shaped.{is_of-elim}
 use Rattle.bundle.proofs.Onward.{legible}
-use Rattle.order.specs.Climbing.{joins_before, joined_before, opened_in, state_by_rows}
+use Rattle.order.specs.Climbing.{is_joined_before, joins_before, joined_before, opened_in, state_by_rows}
 
 -- the state in which the segment of a number is opened, in a chunk and in a bundle; and a state without its locks
 unfoldable pub state_in : Chunk → ℕ → Option ChunkState
@@ -381,14 +382,19 @@ module _ (t m number : ℕ) where
     joined-few zero = omega (arith, joined-none)
     joined-few (suc i) = let before = joined-few i in omega (arith, one-more-row i, joins-one (row i))
 
-    -- a turn, and the last
-    module _ (i : ℕ) {joined : ℕ} (e : joined ≡ joined_before (table row i) t m number) where
-      module _ {r : ℕ} (q : r ≡ joins_before t m number (row i)) where
-        pub joined-more : joined + r ≡ joined_before (table row (i + 1)) t m number
-        joined-more = rw (e, q, add-one i) (sym (one-more-row i))
+    -- a turn
+    module _ (i : ℕ) {joined : ℕ} (e : joined ≡ joined_before (table row i) t m number)
+        {joins : Bool} (q : joins ≡ is_joined_before t m number (row i)) {r : ℕ} (w : r ≡ bool_byte joins) where
+      one-join : r ≡ joins_before t m number (row i)
+      unfolding joins_before
+      one-join = w ∙ rw q (byte (is_joined_before t m number (row i)))
+        where
+          byte : (b : Bool) → bool_byte b ≡ cond b 1 0
+          byte true = refl
+          byte false = refl
 
-        pub joined-fits : joined + r ≤ i + 1
-        joined-fits = omega (arith, joined-few i, joins-one (row i))
+      pub joined-more : joined + r ≡ joined_before (table row (i + 1)) t m number
+      joined-more = rw (e, one-join, add-one i) (sym (one-more-row i))
 
-      pub joined-all : (n : ℕ) → i ≤ n → n ≤ i → joined ≡ joined_before (table row n) t m number
-      joined-all n h l = let same : n ≡ i = omega arith in rw same e
+      pub joined-fits : joined + r ≤ i + 1
+      joined-fits = omega (arith, one-join, joined-few i, joins-one (row i))

@@ -1,5 +1,5 @@
 -- Inner: what the functions of a segment's label ask and promise.
-use Rattle.std.specs.Prelude.{ℕ, suc, ◌+◌, ◌-◌, ◌*◌, ◌≤◌, ◌<◌, cond, ◌&&◌, eqb, ltb, set}
+use Rattle.std.specs.Prelude.{ℕ, suc, Bool, ◌+◌, ◌-◌, ◌*◌, ◌≤◌, ◌<◌, cond, ◌&&◌, eqb, ltb, set}
 use mathlib.Core.List.{List, Memᴰ}
 use Rattle.std.proofs.Math.Option.{Option, none, some}
 use Rattle.bundle.specs.Answer.{Answer, gives, refuses}
@@ -14,11 +14,13 @@ use Rattle.order.specs.declared.label.Triple.{Triple}
 use Rattle.order.specs.declared.label.Label.{Label}
 use Rattle.order.specs.declared.climb.ChunkLabel.{ChunkLabel}
 
--- whether a REGION is of a member's chunk and stands before the segment of a number is opened, 1 or 0: each barrier and each region opens
--- a segment; and how many there are
+-- whether a REGION is of a member's chunk and stands before the segment of a number is opened: each barrier and each region opens
+-- a segment; as a count, 1 or 0; and how many there are
+abbrev pub is_joined_before : ℕ → ℕ → ℕ → Fork → Bool
+is_joined_before t m number f = (eqb f.parent t && eqb f.member m) && ltb (f.state.barriers + f.state.regions) number
+
 unfoldable pub joins_before : ℕ → ℕ → ℕ → Fork → ℕ
-joins_before t m number f =
-    cond ((eqb f.parent t && eqb f.member m) && ltb (f.state.barriers + f.state.regions) number) 1 0
+joins_before t m number f = cond (is_joined_before t m number f) 1 0
 
 unfoldable pub joined_before : List Fork → ℕ → ℕ → ℕ → ℕ
 joined_before fs t m number = total (joins_before t m number) fs

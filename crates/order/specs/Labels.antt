@@ -1,7 +1,7 @@
 -- Offset-span labels: the label of a segment, found by climbing, and the comparison of two labels.
 use Rattle.std.specs.Prelude.{ℕ, zero, suc, ◌+◌, ◌-◌, ◌*◌, ◌%◌, ◌≡◌, Bool, false, cond, not, ◌&&◌, List, [], ◌∷◌, ◌++◌, length, take, replicate, eqb, ltb, leb}
 use Rattle.std.proofs.Math.ListN.{get_elem?}
-use Rattle.bundle.specs.Answer.{Answer, gives, refuses, when_given, number_of}
+use Rattle.bundle.specs.Answer.{Answer, gives, refuses, when_given}
 use Rattle.bundle.specs.Lists.{all, from_option}
 use Rattle.bundle.specs.Chunks.{Chunk, chunks_of, chunk_of}
 use Rattle.bundle.specs.Walk.{Segment, segments_in, forks_of}
@@ -12,11 +12,9 @@ use Rattle.order.specs.declared.label.Triple.{Triple}
 use Rattle.order.specs.declared.label.Label.{Label}
 use Rattle.order.specs.declared.label.Order.{Order}
 use Rattle.order.specs.declared.label.Order.TheVariants as Ord
-use Rattle.order.specs.declared.climb.LabelAnswer.{LabelAnswer}
-use Rattle.order.specs.declared.climb.LabelAnswer.TheVariants as Ans
-use Rattle.order.specs.declared.climb.Labelling.{Labelling}
-use Rattle.order.specs.declared.label.Comparison.{Comparison}
-use Rattle.order.specs.declared.label.Comparison.TheVariants as Comparisons
+use Rattle.std.specs.declared.result.Result.{Result}
+use Rattle.bundle.specs.Answer.{answer_of}
+use Rattle.bundle.specs.declared.refusal.Refusal.{Refusal}
 
 -- "The last triple of a segment has offset = member + span times regions joined before it in its chunk, span = team size, interval =
 -- barriers passed"
@@ -72,6 +70,9 @@ label_ok l = leb 1 l.count && leb l.count 5 && all span_ok (counted l) && root_s
 unfoldable pub same_triple : Triple → Triple → Bool
 same_triple a b = eqb a.offset b.offset && eqb a.span b.span && eqb a.interval b.interval
 
+abbrev pub differs : Triple × Triple → Bool
+differs p = not (same_triple p.0 p.1)
+
 -- "take the first differing triples: unequal spans are refused; unequal intervals put the lower before; equal intervals with
 -- offsets equal modulo the span put the lower offset before; else the two are concurrent"
 unfoldable pub compare_triples : ℕ → Triple → Triple → Answer Order
@@ -97,23 +98,14 @@ compare_of a b =
     cond (label_ok a) (cond (label_ok b) (compare_from 0 (counted a) (counted b)) (refuses 15 2)) (refuses 15 1)
 
 -- what the code's answer says
-abbrev pub comparison_of : Comparison → Answer Order
-comparison_of (Comparisons.Compared o) = gives o
-comparison_of (Comparisons.Refused place cause) = refuses (number_of cause) place
+abbrev pub labelling_of : Result Label Refusal → Answer (List Triple)
+labelling_of r = when_given (answer_of r) (λ (l : Label). gives (counted l))
 
-abbrev pub label_answer_of : Label → LabelAnswer → Answer (List Triple)
-label_answer_of l Ans.Found = gives (counted l)
-label_answer_of l (Ans.Refused place cause) = refuses (number_of cause) place
+-- the label that holds an answer's triples
+abbrev pub label_held : Answer (List Triple) → Answer Label
+label_held a = when_given a (λ (ts : List Triple). gives (holding ts))
 
-abbrev pub labelling_of : Labelling → Answer (List Triple)
-labelling_of r = label_answer_of r.label r.answer
-
--- the label beside an answer; it has no triples where the answer is a refusal
-abbrev pub label_beside : Answer (List Triple) → Label
-label_beside (gives ts) = holding ts
-label_beside (refuses n p) = holding []
-
--- the code's answer, and the label beside it, are those of this answer
-pub record Labelled (r : Labelling) (a : Answer (List Triple)) : Type 0 where
+-- the code's answer, and the label in it, are those of this answer
+pub record Labelled (r : Result Label Refusal) (a : Answer (List Triple)) : Type 0 where
   pub answer : labelling_of r ≡ a
-  pub label : r.label ≡ label_beside a
+  pub label : answer_of r ≡ label_held a

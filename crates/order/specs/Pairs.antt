@@ -1,19 +1,16 @@
 -- Inner: pairs of elements, one of each of two ranges, that share a byte, and what the functions promise.
-use Rattle.std.specs.Prelude.{ℕ, ◌+◌, ◌-◌, ◌*◌, ◌/◌, ◌<◌, ◌≤◌, max, Bool, cond, ◌&&◌, ◌||◌, eqb, leb, ltb}
-use Rattle.std.proofs.Math.Option.{Option, none, some}
+use Rattle.std.specs.Prelude.{ℕ, ◌+◌, ◌-◌, ◌*◌, ◌/◌, ◌<◌, ◌≤◌, Bool, cond, ◌&&◌, ◌||◌, eqb, leb, ltb, max}
+use Rattle.std.proofs.Math.Option as Maybe
+use Rattle.std.specs.declared.option.Option.{Option}
+use Rattle.std.specs.declared.option.Option.TheVariants.{Some, None}
 use Rattle.bundle.specs.declared.command.Range.{Range}
-use Rattle.bundle.specs.Answer.{Answer, gives, refuses}
 use Rattle.order.specs.Ranges.{Touches, LeastShared, LowestElement}
 use Rattle.order.specs.declared.range.Overlap.{Overlap}
 use Rattle.order.specs.declared.range.Meeting.{Meeting}
-use Rattle.order.specs.declared.range.Meeting.TheVariants as Mee
 use Rattle.order.specs.declared.range.ElementPair.{ElementPair}
-use Rattle.order.specs.declared.range.ElementPair.TheVariants as Pr
-use Rattle.order.specs.declared.range.Lowest.{Lowest}
-use Rattle.order.specs.declared.range.Lowest.TheVariants as Lo
 
 -- whether a range touches any byte
-unfoldable pub touches_some : Range → Bool
+abbrev pub touches_some : Range → Bool
 touches_some r = leb 1 r.count && leb 1 r.size
 
 -- the first element of a stride that starts at or past low
@@ -35,9 +32,9 @@ pub record Least (stride spacing low high count limit one other : ℕ) : Type 0 
   pub least : (i j : ℕ) → i < count → j < limit → Near stride spacing low high i j → (one ≤ i) × (other ≤ j)
 
 -- what it is to be the first pair, or that there is none
-abbrev pub FirstPair : (stride spacing low high count limit : ℕ) → ElementPair → Type 0
-FirstPair stride spacing low high count limit (Pr.Elements one other) = Least stride spacing low high count limit one other
-FirstPair stride spacing low high count limit Pr.Nothing =
+abbrev pub FirstPair : (stride spacing low high count limit : ℕ) → Option ElementPair → Type 0
+FirstPair stride spacing low high count limit (Some p) = Least stride spacing low high count limit p.one p.other
+FirstPair stride spacing low high count limit None =
     (i j : ℕ) → i < count → j < limit → Near stride spacing low high i j → ⊥
 
 -- the numbers for which the first pair is looked for
@@ -52,17 +49,6 @@ pub record PairGiven (stride spacing low high count limit : ℕ) : Type 0 where
   pub limited : 1 ≤ limit
   pub limit_fits : limit < 65536
 
--- the elements of a pair are below every count
-abbrev pub PairFits : ElementPair → Type 0
-PairFits (Pr.Elements one other) = (one < 65536) × (other < 65536)
-PairFits Pr.Nothing = Unit
-
--- the first pair, made of the inner step's, where the two ranges have changed places
-unfoldable pub outer_of : ElementPair → ℕ → ℕ → ℕ → ElementPair
-outer_of (Pr.Elements one other) element quotient count =
-    cond (ltb (element + other + quotient * one) count) (Pr.Elements (element + other + quotient * one) one) Pr.Nothing
-outer_of Pr.Nothing element quotient count = Pr.Nothing
-
 -- two ranges that touch some byte, the one with the lower base first
 pub record InOrder (lower upper : Range) : Type 0 where
   pub lower_counted : 1 ≤ lower.count
@@ -72,7 +58,7 @@ pub record InOrder (lower upper : Range) : Type 0 where
   pub bases : lower.base ≤ upper.base
 
 -- the first pair of elements of two ranges that share a byte
-abbrev pub PairOf : Range → Range → ElementPair → Type 0
+abbrev pub PairOf : Range → Range → Option ElementPair → Type 0
 PairOf lower upper =
     FirstPair
     lower.stride
@@ -81,11 +67,6 @@ PairOf lower upper =
     (upper.base - lower.base + (upper.size - 1))
     lower.count
     upper.count
-
--- what the code's answer says
-abbrev pub lowest_of : Lowest → Option ℕ
-lowest_of (Lo.Byte n) = some n
-lowest_of Lo.Nothing = none
 
 -- the lowest element that covers a byte which a range touches: the first whose end lies past the byte, by the end of element 0 and the stride
 unfoldable pub element_from : ℕ → ℕ → ℕ → ℕ
@@ -96,26 +77,20 @@ abbrev pub element_by : Range → ℕ → ℕ
 element_by r byte = element_from (r.base + r.size) r.stride byte
 
 -- the lowest byte that both elements of a pair touch, and the pair
-unfoldable pub pair_meeting : ElementPair → Range → Range → Meeting
-pair_meeting (Pr.Elements one other) lower upper =
-    Mee.At (max (lower.base + one * lower.stride) (upper.base + other * upper.stride)) one other
-pair_meeting Pr.Nothing lower upper = Mee.Nothing
+unfoldable pub pair_meeting : Option ElementPair → Range → Range → Option Meeting
+pair_meeting (Some p) lower upper =
+    Some (record { byte = max (lower.base + p.one * lower.stride) (upper.base + p.other * upper.stride); one = p.one; other = p.other })
+pair_meeting None lower upper = None
 
 -- the lowest byte that two ranges share and the lowest elements that cover it, or that there is none
-abbrev pub MeetingOf : Range → Range → Meeting → Type 0
-MeetingOf a b (Mee.At byte one other) = LeastShared a b byte × LowestElement a byte one × LowestElement b byte other
-MeetingOf a b Mee.Nothing = (byte : ℕ) → Touches a byte → Touches b byte → ⊥
+abbrev pub MeetingOf : Range → Range → Option Meeting → Type 0
+MeetingOf a b (Some m) = LeastShared a b m.byte × LowestElement a m.byte m.one × LowestElement b m.byte m.other
+MeetingOf a b None = (byte : ℕ) → Touches a byte → Touches b byte → ⊥
 
--- the byte alone
-abbrev pub meeting_byte : Meeting → Lowest
-meeting_byte (Mee.At byte one other) = Lo.Byte byte
-meeting_byte Mee.Nothing = Lo.Nothing
-
--- the answer for two ranges in the other order
+-- the overlap for the two ranges in the other order
 abbrev pub turned_over : Overlap → Overlap
 turned_over o = record { byte = o.byte; first_element = o.second_element; second_element = o.first_element }
 
-unfoldable pub turned_of : Answer (Option Overlap) → Answer (Option Overlap)
-turned_of (gives none) = gives none
-turned_of (gives (some o)) = gives (some (turned_over o))
-turned_of (refuses number place) = refuses number place
+abbrev pub turned_of : Maybe.Option Overlap → Maybe.Option Overlap
+turned_of Maybe.none = Maybe.none
+turned_of (Maybe.some o) = Maybe.some (turned_over o)

@@ -1,15 +1,18 @@
 -- The bytes that a range touches, the lowest byte that two ranges share, and the elements that cover it. The lists that compute them stand in
 -- `SharedBytes`.
 use Rattle.std.specs.Prelude.{ℕ, ◌+◌, ◌*◌, ◌≤◌, ◌<◌, ◌≡◌, cond}
-use Rattle.std.proofs.Math.Option.{Option, none, some}
-use Rattle.bundle.specs.Answer.{Answer, gives, refuses, number_of}
+use Rattle.std.proofs.Math.Option.{Option}
+use Rattle.std.specs.declared.option.Option as Opt
+use Rattle.std.specs.declared.result.Result.{Result}
+use Rattle.bundle.specs.Answer.{Answer, gives, refuses, when_given}
+use Rattle.bundle.specs.Answer.{answer_of}
+use Rattle.bundle.specs.Lists.{option_of}
+use Rattle.bundle.specs.declared.refusal.Refusal.{Refusal}
 use Rattle.bundle.specs.Commands.{range_ok}
 use Rattle.bundle.specs.declared.command.Range.{Range}
 -- here and in the layers above
 unfoldable pub use Rattle.order.specs.SharedBytes.{shared_byte, lowest_element, overlap_of}
 use Rattle.order.specs.declared.range.Overlap.{Overlap}
-use Rattle.order.specs.declared.range.Shared.{Shared}
-use Rattle.order.specs.declared.range.Shared.TheVariants as Sh
 
 -- "It touches the bytes base + k times stride + j, with k below count and j below size"
 pub record Touches (r : Range) (byte : ℕ) : Type 0 where
@@ -42,7 +45,5 @@ unfoldable pub shared_of : Range → Range → Answer (Option Overlap)
 shared_of a b = cond (range_ok a) (cond (range_ok b) (gives (overlap_of a b)) (refuses 5 2)) (refuses 5 1)
 
 -- what the code's answer says
-abbrev pub sharing_of : Shared → Answer (Option Overlap)
-sharing_of (Sh.Byte o) = gives (some o)
-sharing_of Sh.Nothing = gives none
-sharing_of (Sh.Refused place cause) = refuses (number_of cause) place
+abbrev pub sharing_of : Result (Opt.Option Overlap) Refusal → Answer (Option Overlap)
+sharing_of r = when_given (answer_of r) (λ (o : Opt.Option Overlap). gives (option_of o))

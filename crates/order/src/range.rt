@@ -1,28 +1,12 @@
 // The lowest byte that two ranges share, and the elements that cover it.
-ghost use Rattle.std.specs.Prelude.{◌≡◌, true, ◌||◌, eqb, ◌+◌, ◌-◌, ◌*◌, ◌≤◌, ◌<◌, max};
+ghost use Rattle.std.specs.Prelude.{◌≡◌, true, ◌||◌, eqb, ◌+◌, ◌-◌, ◌*◌, ◌≤◌, ◌<◌};
 ghost use Rattle.bundle.specs.Commands.{range_ok};
-ghost use Rattle.bundle.specs.Answer.{gives};
+ghost use Rattle.bundle.specs.Lists.{option_of};
 ghost use Rattle.order.specs.Ranges.{shared_byte, overlap_of, shared_of, sharing_of};
-ghost use Rattle.order.specs.Pairs.{
-  touches_some,
-  FirstFrom,
-  FirstPair,
-  PairGiven,
-  PairFits,
-  InOrder,
-  PairOf,
-  outer_of,
-  lowest_of,
-  element_from,
-  element_by,
-  pair_meeting,
-  meeting_byte,
-  MeetingOf,
-  turned_of,
-};
+ghost use Rattle.order.specs.Pairs.{touches_some, FirstFrom, FirstPair, PairGiven, InOrder, element_from, element_by, MeetingOf, turned_over};
 
 use bundle::command::{Range, range_ok};
-use bundle::refusal::Cause;
+use bundle::refusal::{Cause, Refusal};
 
 // The lowest byte that two ranges share, and the lowest element of each that covers it.
 #[derive(Clone, Copy)]
@@ -32,53 +16,19 @@ pub struct Overlap {
     pub second_element: u32,
 }
 
-// What the lowest shared byte of two ranges is.
+// The same in the search, where the byte has 64 bits: a range of any field values may pass byte 4,294,967,295.
 #[derive(Clone, Copy)]
-pub enum Shared {
-    Byte(Overlap),
-    Nothing,
-    Refused { place: usize, cause: Cause },
-}
-
-// The lowest byte that two ranges of any field values share.
-#[derive(Clone, Copy)]
-pub enum Lowest {
-    Byte(u64),
-    Nothing,
-}
-
-// The lowest byte that two ranges share, and the lowest element of each that covers it.
-#[derive(Clone, Copy)]
-enum Meeting {
-    At { byte: u64, one: u32, other: u32 },
-    Nothing,
+struct Meeting {
+    byte: u64,
+    one: u32,
+    other: u32,
 }
 
 // An element of each of two ranges. Element numbers have 32 bits in the search; positions and products have 64.
 #[derive(Clone, Copy)]
-enum ElementPair {
-    Elements { one: u32, other: u32 },
-    Nothing,
-}
-
-// The first pair, made of the inner step's, where the two ranges have changed places.
-fn outer_pair(pair: ElementPair, element: u32, quotient: u64, count: u32) -> ElementPair
-    requires { PairFits pair × (element < 65536) × (quotient < 65536) }
-    ensures { result ≡ outer_of pair element quotient count }
-{
-    match pair {
-        ElementPair::Elements { one, other } => {
-            let sum = (element + other) as u64 + quotient * (one as u64);
-            if sum < count as u64 {
-                return ElementPair::Elements {
-                    one: sum as u32,
-                    other: one,
-                };
-            }
-            ElementPair::Nothing
-        }
-        ElementPair::Nothing => ElementPair::Nothing,
-    }
+struct ElementPair {
+    one: u32,
+    other: u32,
 }
 
 // The first element that starts at or past low.
@@ -93,22 +43,29 @@ fn first_from(stride: u64, low: u64) -> u32
 // `other * spacing + low <= one * stride <= other * spacing + high`. Spacing and limit are the other range's stride and
 // count. Where no multiple of the stride lies from low to high, only the spacing's remainder counts, and the two ranges
 // change places: Euclid's algorithm, which stops once an element passes its count.
-fn first_pair(stride: u64, spacing: u64, low: u64, high: u64, count: u32, limit: u32) -> ElementPair
+fn first_pair(
+    stride: u64,
+    spacing: u64,
+    low: u64,
+    high: u64,
+    count: u32,
+    limit: u32,
+) -> Option<ElementPair>
     requires { PairGiven stride spacing low high count limit }
     ensures { FirstPair stride spacing low high count limit result }
 {
     if (count - 1) as u64 * stride < low {
-        return ElementPair::Nothing;
+        return None;
     }
     let element = first_from(stride, low);
     let start = element as u64 * stride;
     if start <= high {
-        return ElementPair::Elements {
+        return Some(ElementPair {
             one: element,
             other: 0,
-        };
+        });
     }
-    let pair = first_pair(
+    let inner = first_pair(
         spacing % stride,
         stride,
         start - high,
@@ -116,7 +73,18 @@ fn first_pair(stride: u64, spacing: u64, low: u64, high: u64, count: u32, limit:
         limit,
         count - element,
     );
-    outer_pair(pair, element, spacing / stride, count)
+    // By its fields: taken whole, as by `?`, the pair stays packed in one word, and lowest_shared_byte took up to a quarter longer.
+    let Some(ElementPair { one, other }) = inner else {
+        return None;
+    };
+    let sum = (element + other) as u64 + spacing / stride * (one as u64);
+    if sum < count as u64 {
+        return Some(ElementPair {
+            one: sum as u32,
+            other: one,
+        });
+    }
+    None
 }
 
 // Where an element of a range starts.
@@ -127,77 +95,38 @@ fn start_of(range: Range, element: u32) -> u64
     range.base as u64 + element as u64 * (range.stride as u64)
 }
 
-// The larger of two numbers.
-fn larger(one: u64, other: u64) -> u64
-    ensures { result ≡ max one other }
-{
-    if one < other { other } else { one }
-}
-
-// The lowest byte that both elements of a pair touch, and the pair.
-fn meeting_of_pair(pair: ElementPair, lower: Range, upper: Range) -> Meeting
-    requires { PairFits pair }
-    ensures { result ≡ pair_meeting pair lower upper }
-{
-    match pair {
-        ElementPair::Elements { one, other } => Meeting::At {
-            byte: larger(start_of(lower, one), start_of(upper, other)),
-            one,
-            other,
-        },
-        ElementPair::Nothing => Meeting::Nothing,
-    }
-}
-
-// The first pair of elements of two ranges that share a byte, where the lower range's first element ends at or below the
-// upper range's base.
-fn pair_of(lower: Range, upper: Range) -> ElementPair
-    requires { InOrder lower upper × (lower.size ≤ upper.base - lower.base) }
-    ensures { PairOf lower upper result }
+// The lowest byte that both ranges touch, the one with the lower base first, with the lowest element of each that covers it: those of the first
+// pair of elements that share a byte, since a lower element that covered the byte would make a pair before it.
+fn meet_in_order(lower: Range, upper: Range) -> Option<Meeting>
+    requires { InOrder lower upper }
+    ensures { MeetingOf lower upper result }
 {
     let distance = (upper.base - lower.base) as u64;
+    if distance < lower.size as u64 {
+        return Some(Meeting {
+            byte: upper.base as u64,
+            one: 0,
+            other: 0,
+        });
+    }
     let low = distance - (lower.size as u64 - 1);
     let high = distance + (upper.size as u64 - 1);
-    first_pair(
+    let first = first_pair(
         lower.stride as u64,
         upper.stride as u64,
         low,
         high,
         lower.count as u32,
         upper.count as u32,
-    )
-}
-
-// The lowest byte that both ranges touch, the one with the lower base first, with the lowest element of each that covers it: those of the first
-// pair, since a lower element that covered the byte would make a pair before it.
-fn meet_in_order(lower: Range, upper: Range) -> Meeting
-    requires { InOrder lower upper }
-    ensures { MeetingOf lower upper result }
-{
-    let distance = upper.base - lower.base;
-    if distance < lower.size as u32 {
-        return Meeting::At {
-            byte: upper.base as u64,
-            one: 0,
-            other: 0,
-        };
-    }
-    let pair = pair_of(lower, upper);
-    meeting_of_pair(pair, lower, upper)
-}
-
-// The byte of a meeting.
-fn byte_of(meeting: Meeting) -> Lowest
-    ensures { result ≡ meeting_byte meeting }
-{
-    match meeting {
-        Meeting::At {
-            byte,
-            one: _,
-            other: _,
-        } => Lowest::Byte(byte),
-        Meeting::Nothing => Lowest::Nothing,
-    }
+    );
+    let Some(ElementPair { one, other }) = first else {
+        return None;
+    };
+    Some(Meeting {
+        byte: start_of(lower, one).max(start_of(upper, other)),
+        one,
+        other,
+    })
 }
 
 // Whether a range touches any byte.
@@ -208,21 +137,19 @@ fn touches_some(range: Range) -> bool
 }
 
 // The lowest byte that both ranges touch, whether or not the format allows the ranges.
-pub fn shared_byte(first: Range, second: Range) -> Lowest
-    ensures { lowest_of result ≡ shared_byte first second }
+pub fn shared_byte(first: Range, second: Range) -> Option<u64>
+    ensures { option_of result ≡ shared_byte first second }
 {
     if !touches_some(first) {
-        return Lowest::Nothing;
+        return None;
     }
     if !touches_some(second) {
-        return Lowest::Nothing;
+        return None;
     }
-    let base = first.base;
-    let other = second.base;
-    if base <= other {
-        return byte_of(meet_in_order(first, second));
+    if first.base <= second.base {
+        return meet_in_order(first, second).map(|meeting| meeting.byte);
     }
-    byte_of(meet_in_order(second, first))
+    meet_in_order(second, first).map(|meeting| meeting.byte)
 }
 
 // Whether a range has no element but element 0, or none at all.
@@ -233,6 +160,7 @@ fn only_first(end: u64, stride: u16) -> bool
 }
 
 // The lowest element that covers a byte which a range touches, by the end of its element 0 and its stride.
+#[tactic(auto, unfolding(crate::specs::Pairs::element_from))]
 pub fn element_from(end: u64, stride: u16, byte: u32) -> u32
     ensures { result ≡ element_from end stride byte }
 {
@@ -252,65 +180,58 @@ pub fn element_at(range: Range, byte: u32) -> u32
     element_from(range.base as u64 + range.size as u64, range.stride, byte)
 }
 
-// The answer for two ranges that are in range, the one with the lower base first.
-fn shared_upward(lower: Range, upper: Range) -> Shared
+// The lowest shared byte of two ranges that are in range, the one with the lower base first.
+fn shared_upward(lower: Range, upper: Range) -> Option<Overlap>
     requires { (range_ok lower ≡ true) × (range_ok upper ≡ true) × (lower.base ≤ upper.base) }
-    ensures { sharing_of result ≡ gives (overlap_of lower upper) }
+    ensures { option_of result ≡ overlap_of lower upper }
 {
-    match meet_in_order(lower, upper) {
-        Meeting::At { byte, one, other } => Shared::Byte(Overlap {
-            byte: byte as u32,
-            first_element: one,
-            second_element: other,
-        }),
-        Meeting::Nothing => Shared::Nothing,
+    let meeting = meet_in_order(lower, upper)?;
+    Some(Overlap {
+        byte: meeting.byte as u32,
+        first_element: meeting.one,
+        second_element: meeting.other,
+    })
+}
+
+// The same for the two ranges in the other order.
+fn turned(overlap: Overlap) -> Overlap
+    ensures { result ≡ turned_over overlap }
+{
+    Overlap {
+        byte: overlap.byte,
+        first_element: overlap.second_element,
+        second_element: overlap.first_element,
     }
 }
 
-// The answer for the two ranges in the other order.
-fn turned(shared: Shared) -> Shared
-    ensures { sharing_of result ≡ turned_of (sharing_of shared) }
-{
-    match shared {
-        Shared::Byte(overlap) => Shared::Byte(Overlap {
-            byte: overlap.byte,
-            first_element: overlap.second_element,
-            second_element: overlap.first_element,
-        }),
-        Shared::Nothing => Shared::Nothing,
-        Shared::Refused { place, cause } => Shared::Refused { place, cause },
-    }
-}
-
-// The answer for two ranges that are in range.
-fn shared_of_valid(first: Range, second: Range) -> Shared
+// The lowest shared byte of two ranges that are in range.
+fn shared_of_valid(first: Range, second: Range) -> Option<Overlap>
     requires { (range_ok first ≡ true) × (range_ok second ≡ true) }
-    ensures { sharing_of result ≡ shared_of first second }
+    ensures { option_of result ≡ overlap_of first second }
 {
-    let base = first.base;
-    let other = second.base;
-    if base <= other {
+    if first.base <= second.base {
         return shared_upward(first, second);
     }
-    turned(shared_upward(second, first))
+    shared_upward(second, first).map(turned)
 }
 
 // The lowest byte that both ranges touch, with the lowest element of each that covers it, or that there is none; 5 at 1 or 2 for the first bad
 // range.
-pub fn lowest_shared_byte(first: Range, second: Range) -> Shared
+#[tactic(auto, unfolding(crate::specs::Ranges::shared_of))]
+pub fn lowest_shared_byte(first: Range, second: Range) -> Result<Option<Overlap>, Refusal>
     ensures { sharing_of result ≡ shared_of first second }
 {
     if !range_ok(first) {
-        return Shared::Refused {
+        return Err(Refusal {
             place: 1,
             cause: Cause::OutOfRange,
-        };
+        });
     }
     if !range_ok(second) {
-        return Shared::Refused {
+        return Err(Refusal {
             place: 2,
             cause: Cause::OutOfRange,
-        };
+        });
     }
-    shared_of_valid(first, second)
+    Ok(shared_of_valid(first, second))
 }

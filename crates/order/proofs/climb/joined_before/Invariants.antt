@@ -1,12 +1,8 @@
 -- `order::climb::joined_before` meets its contract: the count over the rows passed. Assumes nothing.
-use Prim.Native.Nat.{◌-◌, ◌≤◌}
 use mathlib.Core.Path.{◌≡◌}
 use Rattle.bundle.specs.Index.{fork_row_at, table}
 use Rattle.order.specs.Climbing.{joined_before}
 use Rattle.order.proofs.climb.joined_before.Given as goal
 
 abbrev pub invariant-loop-i : goal.invariant-loop-i
-invariant-loop-i l = (l.i ≤ l.count) × (l.joined ≡ joined_before (table (fork_row_at l.forks) l.i) l.team l.member l.number)
-
-abbrev pub decreases-loop-i : goal.decreases-loop-i
-decreases-loop-i l = l.count - l.i
+invariant-loop-i l = l.joined ≡ joined_before (table (fork_row_at l.forks.words.now) l.i) l.team l.member l.number

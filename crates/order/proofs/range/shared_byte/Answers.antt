@@ -1,7 +1,9 @@
 -- `order::range::shared_byte` meets its contract. Assumes nothing.
-use mathlib.Core.Path.{sym, ◌∙◌}
+use mathlib.Core.Path.{◌≡◌, sym, ◌∙◌}
 use borrow.Author.Rules.{rules}
-use Rattle.order.proofs.PairBytes.{meeting-shared, none_first, none-second, in_order}
+use Rattle.std.specs.Option.{option_map}
+use Rattle.order.specs.declared.range.Meeting.{Meeting}
+use Rattle.order.proofs.PairBytes.{meeting-shared, none_first, none-second}
 use Rattle.order.proofs.SharedByte.{shared-swap}
 use Rattle.order.proofs.range.shared_byte.Goals as goal
 
@@ -11,22 +13,12 @@ returns-then-not-touches_some c = none_first _ _ (sym c.touches_some.ensures ∙
 pub returns-then-not-touches_some-2 : goal.returns-then-not-touches_some-2
 returns-then-not-touches_some-2 c = none-second _ _ (sym c.touches_some-2.ensures ∙ c.if-not-touches_some-2.true)
 
-pub meet_in_order-requires : goal.meet_in_order-requires
-meet_in_order-requires c =
-    in_order _ _
-    (sym c.touches_some.ensures ∙ c.if-not-touches_some.false)
-    (sym c.touches_some-2.ensures ∙ c.if-not-touches_some-2.false)
-    c.if-base-other.true
-
-pub returns-then-base-other : goal.returns-then-base-other
-returns-then-base-other c = meeting-shared _ _ c.meet_in_order.result c.meet_in_order.ensures c.byte_of.ensures
-
-pub meet_in_order-requires-2 : goal.meet_in_order-requires-2
-meet_in_order-requires-2 c =
-    in_order _ _
-    (sym c.touches_some-2.ensures ∙ c.if-not-touches_some-2.false)
-    (sym c.touches_some.ensures ∙ c.if-not-touches_some.false)
-    (search rules)
+pub returns-then-first-second : goal.returns-then-first-second
+returns-then-first-second c =
+    let e : c.map.result ≡ option_map (λ (m : Meeting). m.byte) c.meet_in_order.result = search rules in
+    rw e (meeting-shared _ _ c.meet_in_order.result c.meet_in_order.ensures)
 
 pub returns : goal.returns
-returns c = meeting-shared _ _ c.meet_in_order-2.result c.meet_in_order-2.ensures c.byte_of-2.ensures ∙ shared-swap _ _
+returns c =
+    let e : c.map-2.result ≡ option_map (λ (m : Meeting). m.byte) c.meet_in_order-2.result = search rules in
+    rw e (meeting-shared _ _ c.meet_in_order-2.result c.meet_in_order-2.ensures ∙ shared-swap _ _)
