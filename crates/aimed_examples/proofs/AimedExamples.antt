@@ -6,10 +6,12 @@ use mathlib.Core.List.{List, [], ◌∷◌, map}
 use mathlib.Core.Option.{Option, none, some}
 use lib.ListN.{replicate}
 use Rattle.bundle.specs.Answer.{Answer, gives, refuses, when_given}
-use Rattle.bundle.specs.Commands.{Lent, Taken, read_at}
+use Rattle.std.specs.declared.option.Option.TheVariants.{Some}
+use Rattle.bundle.specs.Commands.{Lent, read_at}
 use Rattle.bundle.specs.Check.{check_of}
 use Rattle.bundle.specs.declared.command.AccessKind.TheVariants as Kind
 use Rattle.bundle.specs.declared.command.Command.TheVariants as Com
+use Rattle.bundle.specs.declared.command.Taken.{Taken}
 use Rattle.order.specs.Labels.{label_of, compare_of}
 use Rattle.order.specs.Ranges.{shared_of}
 use Rattle.order.specs.declared.label.Triple.{Triple}
@@ -24,7 +26,6 @@ use Rattle.verdict.specs.Judge.{judge_of, race_above, next_of}
 use Rattle.verdict.specs.Table.{triple, range}
 use Rattle.verdict.specs.declared.race.Name.{Name}
 use Rattle.verdict.specs.declared.race.Race.{Race}
-use Rattle.verdict.specs.declared.race.Verdict.TheVariants as Ver
 use Rattle.verdict.specs.declared.race.Judgement.{Judgement}
 use Rattle.verdict.proofs.Computing.{verdict-computes}
 use Rattle.verdict.proofs.SmallBundles.{bytes, race}
@@ -565,7 +566,7 @@ judgements =
     row (judge_of (bytes 45 0x01000000100100020201010000310a000010000008000200041102010100013014000a10000000000100041102) (replicate 3 7)) (record { answer = (refuses 13 0); buffer = replicate 3 7 }) ∷
     row (judge_of (bytes 0 0x0) (replicate 3 7)) (record { answer = (refuses 13 0); buffer = replicate 3 7 }) ∷
     row (judge_of (bytes 45 0x01000000100100020201010000310a000010000008000200041102010100013014000a10000000000100041102) (replicate 16383 7)) (record { answer = (refuses 13 0); buffer = replicate 16383 7 }) ∷
-    row (judge_of (bytes 45 0x01000000100100020201010000310a000010000008000200041102010100013014000a10000000000100041102) (replicate 16384 7)) (record { answer = (gives (record { chunks = 3; segments = 6; accesses = 2; races = 1; verdict = Ver.Least (race 4106 1 0 0 10 1 1 1 0 20 0) })); buffer = replicate 16384 0 }) ∷
+    row (judge_of (bytes 45 0x01000000100100020201010000310a000010000008000200041102010100013014000a10000000000100041102) (replicate 16384 7)) (record { answer = (gives (record { chunks = 3; segments = 6; accesses = 2; races = 1; least = Some (race 4106 1 0 0 10 1 1 1 0 20 0) })); buffer = replicate 16384 0 }) ∷
     row (judge_of (bytes 0 0x0) (replicate 16385 7)) (record { answer = (refuses 10 0); buffer = replicate 16385 0 }) ∷
     []
 
@@ -605,7 +606,7 @@ wide-checks-agree = refl
 -- judge of a bundle with wide accesses
 unfoldable pub wide-judgements : List (AimedExample (Lent Judgement))
 wide-judgements =
-    row (judge_of (bytes 49 0x01000000100100020201010000397011010000100000080002000411020101000138140000000a10000000000100041102) (replicate 16384 7)) (record { answer = (gives (record { chunks = 3; segments = 6; accesses = 2; races = 1; verdict = Ver.Least (race 4106 1 0 0 70000 1 1 1 0 20 0) })); buffer = replicate 16384 0 }) ∷
+    row (judge_of (bytes 49 0x01000000100100020201010000397011010000100000080002000411020101000138140000000a10000000000100041102) (replicate 16384 7)) (record { answer = (gives (record { chunks = 3; segments = 6; accesses = 2; races = 1; least = Some (race 4106 1 0 0 70000 1 1 1 0 20 0) })); buffer = replicate 16384 0 }) ∷
     []
 
 pub wide-judgements-agree : map (λ (r : AimedExample (Lent Judgement)). r.given) wide-judgements ≡ map (λ (r : AimedExample (Lent Judgement)). r.wanted) wide-judgements

@@ -18,30 +18,30 @@ use Rattle.verdict.specs.RaceLists.{races_of}
 use Rattle.verdict.specs.Judge.{verdict_of, judgement_of, over_work, judged_of, judge_of}
 use Rattle.verdict.specs.Demand.{Ascending, Exact, Demand3}
 use Rattle.verdict.specs.declared.race.Race.{Race}
-use Rattle.verdict.specs.declared.race.Verdict.TheVariants as Ver
+use Rattle.std.specs.declared.option.Option.TheVariants.{Some, None}
 use Rattle.bundle.proofs.Reorder.{reordered, distinct-members}
 use Rattle.bundle.proofs.Onward.{legible}
 use Rattle.verdict.proofs.RaceList.{races-elim, races-intro, races-ascending}
 use Rattle.verdict.proofs.SameRaces.{same-judgement}
 
 -- what the verdict over a list of races says
-pub free-elim : (rs : List Race) → verdict_of rs ≡ Ver.RaceFree → (r : Race) → Memᴰ r rs → ⊥
+pub free-elim : (rs : List Race) → verdict_of rs ≡ None → (r : Race) → Memᴰ r rs → ⊥
 unfolding verdict_of
 free-elim [] e r m = Memᴰ.not-nil m
 free-elim (x ∷ xs) e r m = let z : ◌≡◌ {A = ℕ} 0 1 = cc in omega arith
 
-pub free-intro : (rs : List Race) → ((r : Race) → Memᴰ r rs → ⊥) → verdict_of rs ≡ Ver.RaceFree
+pub free-intro : (rs : List Race) → ((r : Race) → Memᴰ r rs → ⊥) → verdict_of rs ≡ None
 unfolding verdict_of
 free-intro [] h = refl
 free-intro (x ∷ xs) h = absurd (h x (Memᴰ.head refl))
 
-pub least-in : (rs : List Race) (r : Race) → verdict_of rs ≡ Ver.Least r → Memᴰ r rs
+pub least-in : (rs : List Race) (r : Race) → verdict_of rs ≡ Some r → Memᴰ r rs
 unfolding verdict_of
 least-in [] r e = let z : ◌≡◌ {A = ℕ} 0 1 = cc in absurd (omega arith)
 least-in (x ∷ xs) r e = Memᴰ.head {x = x} (cc)
 
 pub least_first :
-    {rs : List Race} → Ascending rs → (r : Race) → verdict_of rs ≡ Ver.Least r → (q : Race) → Memᴰ q rs → (q ≡ r) ⊎ (race_below r q ≡ true)
+    {rs : List Race} → Ascending rs → (r : Race) → verdict_of rs ≡ Some r → (q : Race) → Memᴰ q rs → (q ≡ r) ⊎ (race_below r q ≡ true)
 unfolding verdict_of
 least_first Ascending.none r e q m = absurd (Memᴰ.not-nil m)
 least_first (Ascending.more {r = x} least d) r e q m =

@@ -1,45 +1,43 @@
 -- Judge and next race, case by case: the tables in the work area, the counts, the answers, and demand 3.
 use Prim.Native.Nat.{ℕ, suc, ◌+◌, ◌≤◌, ◌<◌}
 use mathlib.Core.Path.{◌≡◌, refl, sym, ◌∙◌, ap, ap₂, subst}
-use mathlib.Core.Bool.{Bool, true, false, cond, not, ◌||◌}
-use mathlib.Core.List.{List, [], ◌∷◌, ◌++◌, append-nil, Memᴰ}
-use mathlib.Core.Option.{Option, none, some}
+use mathlib.Core.List.{List, [], ◌∷◌, ◌++◌, Memᴰ}
+use mathlib.Core.Option.{none, some}
 use native.Mathlib.Omega.{arith}
 use native.Mathlib.Decide.{dec_lt}
 use lib.ListN.{length, take, drop, replicate, get_or, get_elem?, length-drop}
-use lib.Seq.{length-take-le, length_front, take_at, drop_at, drop-length}
+use lib.Seq.{length-take-le, length_front, take_at, drop_at}
 use borrow.Rule.Slice.PartMut.{same_len_mid}
 use borrow.Author.Tests.{lt-ltb, le-ltb}
-use Rattle.bundle.specs.Answer.{Answer, gives, refuses, number_of}
-use Rattle.bundle.specs.Lists.{first}
+use Rattle.bundle.specs.Answer.{Answer, gives, refuses, number_of, answer_of}
+use Rattle.bundle.specs.Lists.{first, option_of}
 use Rattle.bundle.specs.Commands.{Bytes, Lent, range_ok}
 use Rattle.bundle.specs.Walk.{opens_segment, adds_access, Segment, forks_of}
 use Rattle.bundle.specs.Chunks.{Chunk, chunks_of}
 use Rattle.bundle.specs.Check.{fork_of, check_of, Accepted}
 use Rattle.bundle.specs.Index.{total, log_of, chunk_row_at, fork_row_at, rows_from, chunk_rows, Indexed}
 use Rattle.bundle.specs.declared.index.Fork.{Fork}
-use Rattle.bundle.specs.declared.refusal.Cause.{Cause}
 use Rattle.bundle.proofs.Tables.{table-length, table-in}
 use Rattle.bundle.proofs.Reorder.{distinct-members}
 use Rattle.bundle.proofs.Onward.{team-falls}
 use Rattle.order.proofs.Climbs.{fork-none}
 use Rattle.verdict.specs.Graph.{Node, segments_of}
-use Rattle.verdict.specs.Accesses.{NamedAccess, lex_less, key_of, race_key, accesses_of}
+use Rattle.verdict.specs.Accesses.{NamedAccess, key_of, race_key, accesses_of}
 use Rattle.verdict.specs.RaceLists.{races_of}
 use Rattle.verdict.specs.Working.{node_code, access_row_at, AccessTable}
 use Rattle.verdict.specs.Linking.{forks_in, fork_for, Rooted, LineagesFit}
 use Rattle.verdict.specs.Tallying.{above_key, tally_all, RowFits, TablesFit}
-use Rattle.verdict.specs.Judge.{verdict_of, judgement_of, race_above, over_work, judged_of, judge_of, next_above, next_of, judging_of, next_race_of}
+use Rattle.verdict.specs.Judge.{verdict_of, judgement_of, race_above, over_work, judged_of, judge_of, next_above, next_of, next_race_of}
 use Rattle.verdict.specs.Promise.{Promise}
-use Rattle.verdict.specs.Census.{matrix_part, rows_part, RegionsOf, MatrixFilled, AreaFilled, least_of, Tallies, Counted, verdict_in, next_in}
+use Rattle.verdict.specs.Census.{matrix_part, rows_part, RegionsOf, MatrixFilled, AreaFilled, least_of, Tallies, Counted, CensusOver, verdict_in}
 use Rattle.verdict.specs.declared.race.Name.{Name}
 use Rattle.verdict.specs.declared.race.Race.{Race}
-use Rattle.verdict.specs.declared.race.Verdict.TheVariants as Ver
+use Rattle.std.specs.declared.option.Option as Rust
+use Rattle.std.specs.declared.option.Option.TheVariants.{Some, None}
+use Rattle.std.specs.declared.result.Result.{Result}
+use Rattle.std.specs.declared.result.Result.TheVariants.{Ok, Err}
+use Rattle.bundle.specs.declared.refusal.Refusal.{Refusal}
 use Rattle.verdict.specs.declared.race.Judgement.{Judgement}
-use Rattle.verdict.specs.declared.race.Judging.{Judging}
-use Rattle.verdict.specs.declared.race.Judging.TheVariants as Jud
-use Rattle.verdict.specs.declared.race.Next.{Next}
-use Rattle.verdict.specs.declared.race.Next.TheVariants as Nex
 use Rattle.verdict.specs.declared.pairs.Key.{Key}
 use Rattle.verdict.specs.declared.pairs.Tally.{Tally}
 use Rattle.verdict.specs.declared.judge.Census.{Census}
@@ -53,6 +51,19 @@ use Rattle.verdict.proofs.BundleForkJoin.{forker, team-forked}
 use Rattle.verdict.proofs.RowRaces.{row-range}
 use Rattle.verdict.proofs.Tallies.{bundle-tallied}
 use Rattle.verdict.proofs.Demand3.{demand3}
+
+-- the number of rows is the number of chunks
+rows-length : (g n : ℕ) (cs : List Chunk) → length (rows_from g n cs) ≡ length cs
+unfolding rows_from
+rows-length g n [] = refl
+rows-length g n (c ∷ cs) = ap suc (rows-length (g + total opens_segment (log_of c)) (n + total adds_access (log_of c)) cs)
+
+pub chunk_count : (s : List ℕ) (n m : ℕ) (chunks forks : List ℕ) → Indexed s n m chunks forks → n ≡ length (chunks_of s)
+chunk_count s n m chunks forks x =
+    sym (table-length (chunk_row_at chunks) n) ∙ ap length x.chunk-rows ∙ (unfold chunk_rows in (rows-length 0 0 (chunks_of s)))
+
+pub regions-of : {s : List ℕ} {n m : ℕ} {chunks forks : List ℕ} → Indexed s n m chunks forks → RegionsOf s forks m
+regions-of x = record { few = omega (arith, x.few); rows = x.fork_rows }
 
 -- the halves of the area, each filled by itself
 abbrev pub with_rows : List ℕ → List ℕ → List ℕ
@@ -210,188 +221,160 @@ module _ (s area : List ℕ) {g n : ℕ} (a : AreaFilled s area g n) where
   area-fits ok r large = (tables-fit large, lineages-fit s ok r a.rows a.access_count, large)
 
   pub census-counted :
-      Accepted s
-      → {forks : List ℕ} {regions : ℕ}
-      → RegionsOf s forks regions
-      → (key : Key) {t : Tally}
-      → t ≡ tally_all (matrix_part area) (forks_in forks regions) (rows_part area) key n
-      → Counted s key (record { segments = g; accesses = n; tally = t })
-  census-counted ok r key e =
+      {c m : ℕ} {chunks forks : List ℕ}
+      → Indexed s c m chunks forks
+      → (key : Rust.Option Key) {t : Tally}
+      → t ≡ tally_all (matrix_part area) (forks_in forks m) (rows_part area) key n
+      → Counted s key (record { chunks = c; segments = g; accesses = n; tally = t })
+  census-counted {c} {m} {chunks} {forks} x key e =
       record {
+        chunk_count = chunk_count s c m chunks forks x;
         segment_count = a.segment_count;
         access_count = a.access_count;
         tally =
             subst (Tallies (races_of (chunks_of s)) key)
             (sym
             (e
-            ∙ ap₂ (λ (fs : List Fork) (k : ℕ). tally_all (matrix_part area) fs (rows_part area) key k) r.rows a.access_count))
-            (bundle-tallied (chunks_of s) (distinct-members s ok) a.paths a.rows key);
+            ∙ ap₂ (λ (fs : List Fork) (k : ℕ). tally_all (matrix_part area) fs (rows_part area) key k) x.fork_rows a.access_count))
+            (bundle-tallied (chunks_of s) (distinct-members s x.accepted) a.paths a.rows key);
       }
 
 -- what a tally says where no key is given
-verdict-free : (rs : List Race) (key : Key) (t : Tally) → key.given ≡ false → least_of t ≡ first (above_key key) rs → verdict_in t ≡ verdict_of rs
+verdict-free : (rs : List Race) (t : Tally) → least_of t ≡ first (above_key None) rs → verdict_in t ≡ verdict_of rs
 unfolding verdict_of
-verdict-free rs key t none-given e = go rs t.found e
+verdict-free rs t e = go rs t.least e
   where
-    passes : (r : Race) → above_key key r ≡ true
-    passes r = unfold above_key in (ap (λ (g : Bool). not g || lex_less (key_of key.witness key.first key.second) (race_key r)) none-given)
+    go : (rs : List Race) (least : Rust.Option Race) → option_of least ≡ first (above_key None) rs → least ≡ verdict_of rs
+    go [] None h = refl
+    go [] (Some r) h = absurd (let z : ◌≡◌ {A = ℕ} 0 1 = cc in omega arith)
+    go (r ∷ rs) None h = absurd (let z : ◌≡◌ {A = ℕ} 0 1 = cc in omega arith)
+    go (r ∷ rs) (Some q) h = let same : q ≡ r = cc in ap Some same
 
-    go : (rs : List Race) (found : Bool) → cond found (some t.race) none ≡ first (above_key key) rs → cond found (Ver.Least t.race) Ver.RaceFree ≡ verdict_of rs
-    go [] true h = absurd (let z : ◌≡◌ {A = ℕ} 0 1 = cc in omega arith)
-    go [] false h = refl
-    go (r ∷ rs) true h = let q : t.race ≡ r = one (h ∙ ap (λ (b : Bool). cond b (some r) (first (above_key key) rs)) (passes r)) in ap Ver.Least q
-      where
-        one : some t.race ≡ some r → t.race ≡ r
-        one p = cc
-    go (r ∷ rs) false h = absurd (never (h ∙ ap (λ (b : Bool). cond b (some r) (first (above_key key) rs)) (passes r)))
-      where
-        never : ◌≡◌ {A = Option Race} none (some r) → ⊥
-        never p = let z : ◌≡◌ {A = ℕ} 0 1 = cc in omega arith
-
--- the number of rows is the number of chunks
-rows-length : (g n : ℕ) (cs : List Chunk) → length (rows_from g n cs) ≡ length cs
-unfolding rows_from
-rows-length g n [] = refl
-rows-length g n (c ∷ cs) = ap suc (rows-length (g + total opens_segment (log_of c)) (n + total adds_access (log_of c)) cs)
-
-pub chunk_count : (s : List ℕ) (n m : ℕ) (chunks forks : List ℕ) → Indexed s n m chunks forks → n ≡ length (chunks_of s)
-chunk_count s n m chunks forks x =
-    sym (table-length (chunk_row_at chunks) n) ∙ ap length x.chunk-rows ∙ (unfold chunk_rows in (rows-length 0 0 (chunks_of s)))
-
-pub regions-of : {s : List ℕ} {n m : ℕ} {chunks forks : List ℕ} → Indexed s n m chunks forks → RegionsOf s forks m
-regions-of x = record { few = omega (arith, x.few); rows = x.fork_rows }
-
--- the answers of an accepted bundle, and of one that is refused
-module _ (s : List ℕ) {n m : ℕ} {chunks forks : List ℕ} (x : Indexed s n m chunks forks) where
+-- the answers to an accepted bundle, and to one that is refused
+module _ (s : List ℕ) (ok : Accepted s) where
   pub judged-as :
-      (key : Key) (census : Census) {j : Judgement}
-      → key.given ≡ false
-      → Counted s key census
-      → j ≡ record { chunks = n; segments = census.segments; accesses = census.accesses; races = census.tally.count; verdict = verdict_in census.tally }
+      (n : Census) {j : Judgement}
+      → Counted s None n
+      → j ≡ record { chunks = n.chunks; segments = n.segments; accesses = n.accesses; races = n.tally.count; least = verdict_in n.tally }
       → gives j ≡ judged_of s
   unfolding judged_of judgement_of
-  judged-as key census none-given k e =
-      let verdict = verdict-free (races_of (chunks_of s)) key census.tally none-given k.tally.least in
+  judged-as n k e =
+      let verdict = verdict-free (races_of (chunks_of s)) n.tally k.tally.least in
       let parts : j-of ≡ judgement_of (chunks_of s) =
       λ i.
       record {
-        chunks = chunk_count s n m chunks forks x i;
+        chunks = k.chunk_count i;
         segments = k.segment_count i;
         accesses = k.access_count i;
         races = k.tally.race_count i;
-        verdict = verdict i;
+        least = verdict i;
       }
       in
-      rw x.accepted (ap gives (e ∙ parts))
+      rw ok (ap gives (e ∙ parts))
     where
       j-of : Judgement
-      j-of = record { chunks = n; segments = census.segments; accesses = census.accesses; races = census.tally.count; verdict = verdict_in census.tally }
+      j-of = record { chunks = n.chunks; segments = n.segments; accesses = n.accesses; races = n.tally.count; least = verdict_in n.tally }
 
   pub next-as :
-      (key : Key) (census : Census) {r : Next}
-      → key.given ≡ true
-      → Counted s key census
-      → r ≡ next_in census.tally
-      → next_race_of r ≡ next_above s (key_of key.witness key.first key.second)
-  unfolding next_above race_above
-  next-as key census given k e =
-      rw x.accepted
-      (ap next_race_of e ∙ answer census.tally.found
-      ∙ ap gives
-      (k.tally.least
-      ∙ (unfold above_key in
-      (ap
-      (λ (g : Bool). first (λ (r : Race). not g || lex_less (key_of key.witness key.first key.second) (race_key r)) (races_of (chunks_of s)))
-      given))))
-    where
-      answer : (found : Bool) → next_race_of (cond found (Nex.Found census.tally.race) Nex.Nothing) ≡ gives (cond found (some census.tally.race) none)
-      answer true = refl
-      answer false = refl
+      (key : Key) (n : Census)
+      → Counted s (Some key) n
+      → next_race_of (Ok n.tally.least) ≡ next_above s (key_of key.witness key.first key.second)
+  unfolding next_above race_above race_key
+  next-as key n k = rw ok (ap gives k.tally.least)
 
-module _ (s : List ℕ) (cause : Cause) {place : ℕ} (e : check_of s ≡ refuses (number_of cause) place) where
-  pub judge-refused : refuses (number_of cause) place ≡ judged_of s
+module _ (s : List ℕ) {number place : ℕ} (e : check_of s ≡ refuses number place) where
+  judge-refused : refuses number place ≡ judged_of s
   unfolding judged_of
   judge-refused = rw e
 
-  pub next-refused : (key : List ℕ) → refuses (number_of cause) place ≡ next_above s key
+  next-refused : (key : List ℕ) → refuses number place ≡ next_above s key
   unfolding next_above
   next-refused key = rw e
 
--- the answer with the area afterwards
-module _ {A : Type 0} (work : List ℕ) (answer : Answer A) where
-  pub small-area : length work < 16384 → over_work work answer ≡ record { answer = refuses 13 0; buffer = work }
+-- the answer with the work area afterwards
+module _ {A : Type 0} (s work : List ℕ) (key : Rust.Option Key) (answer : Answer A) {after : List ℕ} where
+  small-area : after ≡ work → length work < 16384 → over_work work answer ≡ record { answer = refuses 13 0; buffer = after }
   unfolding over_work
-  small-area h = rw (lt-ltb (length work) 16384 h)
+  small-area e h = rw (lt-ltb (length work) 16384 h, e)
 
-  pub large-area :
-      {a : Answer A} (before : List ℕ) {after : List ℕ}
+  large-area :
+      {a : Answer A}
       → 16384 ≤ length work
       → a ≡ answer
-      → length before ≡ length work
-      → after ≡ replicate (length before) 0
+      → after ≡ replicate (length work) 0
       → over_work work answer ≡ record { answer = a; buffer = after }
   unfolding over_work
-  large-area {a} before {after} h e l c =
-      rw (le-ltb (length work) 16384 h)
-      (λ i. record { answer = sym e i; buffer = sym (c ∙ ap (λ (n : ℕ). replicate n 0) l) i })
+  large-area h e c = rw (le-ltb (length work) 16384 h) (λ i. record { answer = sym e i; buffer = sym c i })
 
-pub judge-small : (b v : List ℕ) → length v < 16384 → judge_of b v ≡ record { answer = refuses 13 0; buffer = v }
-unfolding judge_of
-judge-small b v h = small-area v (judged_of b) h
+  over-given :
+      {n : Census} {a : A}
+      → CensusOver s key work (Ok n) after
+      → (Accepted s → Counted s key n → gives a ≡ answer)
+      → over_work work answer ≡ record { answer = gives a; buffer = after }
+  over-given {n} {a} t given = go (dec_lt (length work) 16384)
+    where
+      go : Dec (length work < 16384) → over_work work answer ≡ record { answer = gives a; buffer = after }
+      go (yes h) = absurd (let e = (t.small h).0 in let z : ◌≡◌ {A = ℕ} 0 1 = cc in omega arith)
+      go (no h) = let l : 16384 ≤ length work = omega arith in let c = t.large l in large-area l (given c.0.0 c.0.1) c.1
 
-pub judge-large :
-    (b v : List ℕ) {a : Answer Judgement} (before : List ℕ) {after : List ℕ}
-    → 16384 ≤ length v
-    → a ≡ judged_of b
-    → length before ≡ length v
-    → after ≡ replicate (length before) 0
-    → judge_of b v ≡ record { answer = a; buffer = after }
-unfolding judge_of
-judge-large b v before h e l c = large-area v (judged_of b) before h e l c
+  over-refused :
+      {r : Refusal}
+      → CensusOver s key work (Err r) after
+      → (check_of s ≡ refuses (number_of r.cause) r.place → refuses (number_of r.cause) r.place ≡ answer)
+      → over_work work answer ≡ record { answer = refuses (number_of r.cause) r.place; buffer = after }
+  over-refused {r} t turned = go (dec_lt (length work) 16384)
+    where
+      go : Dec (length work < 16384) → over_work work answer ≡ record { answer = refuses (number_of r.cause) r.place; buffer = after }
+      go (yes h) =
+          let c = t.small h in
+          let e : ◌≡◌ {A = Answer Census} (refuses (number_of r.cause) r.place) (refuses 13 0) = c.0 in
+          let number : number_of r.cause ≡ 13 = cc in
+          let place : r.place ≡ 0 = cc in
+          rw (number, place) (small-area c.1 h)
+      go (no h) = let l : 16384 ≤ length work = omega arith in let c = t.large l in large-area l (turned c.0) c.1
 
-pub next_small :
-    (b : List ℕ) (w : ℕ) (f s : Name) (v : List ℕ) → length v < 16384 → next_of b w f s v ≡ record { answer = refuses 13 0; buffer = v }
-unfolding next_of
-next_small b w f s v h = small-area v (next_above b (key_of w f s)) h
+module _ (s work : List ℕ) {after : List ℕ} where
+  pub judge-given :
+      {n : Census} {j : Judgement}
+      → CensusOver s None work (Ok n) after
+      → j ≡ record { chunks = n.chunks; segments = n.segments; accesses = n.accesses; races = n.tally.count; least = verdict_in n.tally }
+      → judge_of s work ≡ record { answer = gives j; buffer = after }
+  unfolding judge_of
+  judge-given {n} t e = over-given s work None (judged_of s) t (λ ok k. judged-as s ok n k e)
 
-pub next-large :
-    (b : List ℕ) (w : ℕ) (f s : Name) (v : List ℕ) {a : Answer (Option Race)} (before : List ℕ) {after : List ℕ}
-    → 16384 ≤ length v
-    → a ≡ next_above b (key_of w f s)
-    → length before ≡ length v
-    → after ≡ replicate (length before) 0
-    → next_of b w f s v ≡ record { answer = a; buffer = after }
-unfolding next_of
-next-large b w f s v before h e l c = large-area v (next_above b (key_of w f s)) before h e l c
+  pub judge-refusal :
+      {r : Refusal} → CensusOver s None work (Err r) after → judge_of s work ≡ record { answer = refuses (number_of r.cause) r.place; buffer = after }
+  unfolding judge_of
+  judge-refusal t = over-refused s work None (judged_of s) t (λ e. judge-refused s e)
 
--- a tally that found a race, and one that did not
-module _ (t : Tally) where
-  pub verdict-least : t.found ≡ true → Ver.Least t.race ≡ verdict_in t
-  verdict-least h = rw h
+  pub next-given :
+      (w : ℕ) (f g : Name) {n : Census}
+      → CensusOver s (Some (record { witness = w; first = f; second = g })) work (Ok n) after
+      → next_of s w f g work ≡ record { answer = next_race_of (Ok n.tally.least); buffer = after }
+  unfolding next_of
+  next-given w f g {n} t =
+      over-given s work (Some (record { witness = w; first = f; second = g })) (next_above s (key_of w f g)) t
+      (λ ok k. next-as s ok (record { witness = w; first = f; second = g }) n k)
 
-  pub verdict-none : t.found ≡ false → Ver.RaceFree ≡ verdict_in t
-  verdict-none h = rw h
-
-  pub next-found : t.found ≡ true → Nex.Found t.race ≡ next_in t
-  next-found h = rw h
-
-  pub next-nothing : t.found ≡ false → Nex.Nothing ≡ next_in t
-  next-nothing h = rw h
-
--- the loop that clears the area
-pub cleared :
-    (d l : List ℕ) (i : ℕ) → i ≤ length d → length l ≡ length d → length l ≤ i → l ≡ replicate i 0 ++ drop i d → l ≡ replicate (length d) 0
-cleared d l i h k past e =
-    let q : i ≡ length d = omega arith in
-    e ∙ ap (λ (n : ℕ). replicate n 0 ++ drop n d) q ∙ ap (λ (t : List ℕ). replicate (length d) 0 ++ t) (drop-length d) ∙ append-nil (replicate (length d) 0)
+  pub next-refusal :
+      (w : ℕ) (f g : Name) {r : Refusal}
+      → CensusOver s (Some (record { witness = w; first = f; second = g })) work (Err r) after
+      → next_of s w f g work ≡ record { answer = refuses (number_of r.cause) r.place; buffer = after }
+  unfolding next_of
+  next-refusal w f g t =
+      over-refused s work (Some (record { witness = w; first = f; second = g })) (next_above s (key_of w f g)) t
+      (λ e. next-refused s e (key_of w f g))
 
 -- demand 3 at the judge's answer
 pub promised :
-    (b v : List ℕ) (r : Judging) {after : List ℕ} → Bytes b → judge_of b v ≡ record { answer = judging_of r; buffer = after } → Promise b v r
+    (b v : List ℕ) (r : Result Judgement Refusal) {after : List ℕ}
+    → Bytes b
+    → judge_of b v ≡ record { answer = answer_of r; buffer = after }
+    → Promise b v r
 promised b v r {after} bytes e c w ok re large large' =
     let d = demand3 b c v w bytes ok re large large' in
     record { judged = d; answer = told r (sym (ap (λ (x : Lent Judgement). x.answer) e) ∙ d.answer) }
   where
-    told : (r : Judging) {j : Judgement} → judging_of r ≡ gives j → r ≡ Jud.Judged j
-    told (Jud.Judged i) {j} h = let q : i ≡ j = cc in ap Jud.Judged q
-    told (Jud.Refused place cause) h = absurd (let z : ◌≡◌ {A = ℕ} 0 1 = cc in omega arith)
+    told : (r : Result Judgement Refusal) {j : Judgement} → answer_of r ≡ gives j → r ≡ Ok j
+    told (Ok i) {j} h = let q : i ≡ j = cc in ap Ok q
+    told (Err refusal) h = absurd (let z : ◌≡◌ {A = ℕ} 0 1 = cc in omega arith)

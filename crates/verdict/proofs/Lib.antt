@@ -28,6 +28,7 @@ pub mod MatrixPaths
 pub mod EdgeWords
 pub mod EdgeCodes
 pub mod Regularity
+pub mod NameOrder
 pub mod PackedNames
 pub mod RowRaces
 pub mod EveryPair

@@ -1,20 +1,27 @@
 -- Climbing by links: what each step and each loop over the table of links gives.
-use Prim.Native.Nat.{ℕ, ◌+◌, ◌≤◌, ◌<◌}
+use Prim.Native.Nat.{ℕ, suc, ◌+◌, ◌≤◌, ◌<◌}
 use mathlib.Core.Path.{◌≡◌, refl, sym, ◌∙◌, ap, ap₂}
-use mathlib.Core.Bool.{Bool, true, false, not}
-use mathlib.Core.List.{List}
+use mathlib.Core.Logic.{◌⊎◌, inl, inr}
+use mathlib.Core.Bool.{Bool, true, false, cond, not}
+use mathlib.Core.List.{List, [], ◌∷◌}
 use mathlib.Core.Option.{some}
 use native.Mathlib.Omega.{arith}
-use lib.ListN.{length, get_or, set, length-set}
+use lib.ListN.{length, get_or, set, replicate, length-set, length-replicate}
+use lib.Dec.{eqb, ltb}
 use lib.Seq.{get_or-set_same, get_or-set_other}
 use borrow.Author.Count.{below_more}
+use borrow.Author.Tests.{ltb-false}
+use Rattle.std.specs.declared.option.Option as Rust
+use Rattle.std.specs.declared.option.Option.TheVariants.{None, Some}
+use Rattle.std.specs.Option.{unwrap_or}
 use Rattle.bundle.specs.Locks.{common_lock}
 use Rattle.bundle.specs.Check.{fork_of}
-use Rattle.bundle.specs.Index.{fork_row_at}
+use Rattle.bundle.specs.Index.{fork_row_at, index_of}
 use Rattle.bundle.specs.declared.index.Fork.{Fork}
-use Rattle.bundle.proofs.Tests.{false-is-true}
-use Rattle.bundle.proofs.Tables.{table-each}
+use Rattle.bundle.proofs.Tests.{false-is-true, decide}
+use Rattle.bundle.proofs.Tables.{table-each, table-length}
 use Rattle.order.proofs.Climbs.{fork-some, fork-team}
+use Rattle.bundle.specs.Index.{below}
 use Rattle.verdict.specs.Lineages.{Holder}
 use Rattle.verdict.specs.RaceLists.{common_counted}
 use Rattle.verdict.specs.Working.{access_row_at}
@@ -213,6 +220,33 @@ pub none-held-all :
 none-held-all forks regions i a b h e =
     record { none = table-each (λ (f : Fork). f.state.locks ≡ 0) (fork_row_at forks) regions (λ k l. h k (omega arith)) }
 
+-- an index is at most the length
+index-most : {A : Type 0} (p : A → Bool) (xs : List A) → index_of p xs ≤ length xs
+unfolding index_of
+index-most p [] = omega arith
+index-most p (x ∷ xs) = go (p x) (index-most p xs)
+  where
+    go : (b : Bool) → index_of p xs ≤ length xs → cond b 0 (suc (index_of p xs)) ≤ suc (length xs)
+    go true h = omega arith
+    go false h = omega arith
+
+-- a team's REGION that is looked for, or their count
+pub found-or-count :
+    (forks : List ℕ) (regions team : ℕ) (r : Rust.Option ℕ)
+    → r ≡ below regions (fork_for forks regions team)
+    → unwrap_or r regions ≡ fork_for forks regions team
+found-or-count forks regions team r e = ap (λ (o : Rust.Option ℕ). unwrap_or o regions) e ∙ go (decide (ltb at regions))
+  where
+    at : ℕ
+    at = fork_for forks regions team
+
+    few : at ≤ regions
+    few = omega (arith, index-most (λ (f : Fork). eqb f.team team) (forks_in forks regions), table-length (fork_row_at forks) regions)
+
+    go : (ltb at regions ≡ true) ⊎ (ltb at regions ≡ false) → unwrap_or (below regions at) regions ≡ at
+    go (inl h) = ap (λ (b : Bool). unwrap_or (cond b (Some at) None) regions) h
+    go (inr h) = ap (λ (b : Bool). unwrap_or (cond b (Some at) None) regions) h ∙ omega (arith, few, ltb-false at regions h)
+
 -- the loop over the accesses
 module _ (rows forks : List ℕ) (regions : ℕ) where
   pub links-none : (links : List ℕ) → AccessLinks rows forks links regions 0
@@ -297,11 +331,22 @@ all-linked p a f =
       regions_up = λ e. f.written;
     }
 
-pub not-linked :
+pub still-unlinked :
     {rows forks links : List ℕ} {regions n : ℕ} → Linkable rows n regions links → NoneHeld forks regions → Linked rows forks links regions n false
-not-linked p h =
+still-unlinked p h =
     record {
       long = p.long;
+      few = p.few_regions;
+      unheld = λ e. h;
+      accesses = false-is-true;
+      regions_up = false-is-true;
+    }
+
+pub not-linked :
+    {rows forks links : List ℕ} {regions n : ℕ} → Linkable rows n regions links → NoneHeld forks regions → Linked rows forks (replicate 1536 0) regions n false
+not-linked p h =
+    record {
+      long = length-replicate {A = ℕ} 1536 0;
       few = p.few_regions;
       unheld = λ e. h;
       accesses = false-is-true;

@@ -5,7 +5,7 @@ use mathlib.Core.Bool.{Bool, true, false, cond, not, ◌&&◌}
 use mathlib.Core.List.{List}
 use native.Mathlib.Omega.{arith}
 use lib.Dec.{ltb}
-use lib.ListN.{length, set}
+use lib.ListN.{set}
 use borrow.Author.Tests.{lt-ltb}
 use Rattle.bundle.specs.Commands.{range_ok, last_byte, operands_ok, in_range}
 use Rattle.bundle.specs.Locks.{holds}
@@ -95,28 +95,28 @@ kind-below Kind.AtomicWrite = omega arith
 
 -- what the arms ask
 module _ {p : Cursor} {c : Command} {ends opens nodes rows : List ℕ} (n : Notable p c ends opens nodes rows) where
-  pub member-room : {t m next : ℕ} {r : Cursor} → r ≡ entered p t m next → (r.segment < 512) × (length opens ≡ 512) × (length nodes ≡ 512)
-  member-room e = rw e (omega (arith, n.segment), n.room.open_table, n.room.node_table)
+  pub member-room : {t m next : ℕ} {r : Cursor} → r ≡ entered p t m next → r.segment < 512
+  member-room e = rw e (omega (arith, n.segment))
 
   crossing-room :
       {next : ℕ} {k : ChunkState} {r : Cursor}
       → on_crossing {A = ℕ} p.state 0 (λ b. 1) c ≡ 1
       → r ≡ advanced p k 1 0 next
-      → (r.segment < 512) × (length opens ≡ 512) × (length nodes ≡ 512)
-  crossing-room o e = rw e (omega (arith, n.segment), n.room.open_table, n.room.node_table)
+      → r.segment < 512
+  crossing-room o e = rw e (omega (arith, n.segment))
 
   pub region-room :
       {t z next : ℕ} {k : ChunkState} {r : Cursor}
       → c ≡ Com.Region t z
       → r ≡ advanced p k 1 0 next
-      → (r.segment < 512) × (length opens ≡ 512) × (length nodes ≡ 512)
+      → r.segment < 512
   region-room q = crossing-room (ap (on_crossing {A = ℕ} p.state 0 (λ b. 1)) q ∙ unfold on_crossing in refl)
 
   pub barrier-room :
       {next : ℕ} {k : ChunkState} {r : Cursor}
       → c ≡ Com.Barrier
       → r ≡ advanced p k 1 0 next
-      → (r.segment < 512) × (length opens ≡ 512) × (length nodes ≡ 512)
+      → r.segment < 512
   barrier-room q = crossing-room (ap (on_crossing {A = ℕ} p.state 0 (λ b. 1)) q ∙ unfold on_crossing in refl)
 
   access-below : {a : Access} → c ≡ Com.Access a → p.accesses < 1024

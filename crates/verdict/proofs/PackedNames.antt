@@ -8,9 +8,8 @@ use lib.Dec.{eqb, ltb}
 use borrow.Author.Tests.{ltb-true, ltb-false, eqb-true, eqb-false, lt-ltb, le-ltb, eq-eqb, ne_eqb}
 use Rattle.bundle.proofs.Tests.{decide}
 use Rattle.verdict.specs.Accesses.{lex_less, name_key, name_below, key_of}
-use Rattle.verdict.specs.Tallying.{packed, NameFits, PackedAs, packed_less, packed_key, KeyPackedAs, SideOf}
+use Rattle.verdict.specs.Tallying.{packed, NameFits, PackedAs, SideOf}
 use Rattle.verdict.specs.declared.race.Name.{Name}
-use Rattle.verdict.specs.declared.pairs.Packed.{Packed}
 
 module _ (t m n t' m' n' : ℕ) (rest : Bool) (hm : m < 256) (hn : n < 65536) (hm' : m' < 256) (hn' : n' < 65536) where
   abbrev one : ℕ
@@ -79,10 +78,18 @@ module _ (a b : Name) (fa : NameFits a) (fb : NameFits b) where
   unfolding name_below name_key lex_less
   packed-below = sym (names-lex false ∙ or-and-false (ltb (packed a) (packed b)) (eqb (packed a) (packed b)))
 
+-- the same at what the code gives
+pub name-order : {a b : Name} {m n : ℕ} → PackedAs a m → PackedAs b n → ltb m n ≡ name_below a b
+name-order {a} {b} p q = ap₂ ltb p.is q.is ∙ packed-below a b p.fits q.fits
+
+-- a number and two packed names one after another
+abbrev pub packed_less : ℕ → ℕ → ℕ → ℕ → ℕ → ℕ → Bool
+packed_less w a b v c d = ltb w v || eqb w v && (ltb a c || eqb a c && ltb b d)
+
 pub packed-key :
     (w v : ℕ) (a b c d : Name)
     → NameFits a → NameFits b → NameFits c → NameFits d
-    → packed_less (packed_key w a b) (packed_key v c d) ≡ lex_less (key_of w a b) (key_of v c d)
+    → packed_less w (packed a) (packed b) v (packed c) (packed d) ≡ lex_less (key_of w a b) (key_of v c d)
 unfolding key_of name_key lex_less
 packed-key w v a b c d fa fb fc fd =
     sym
@@ -90,27 +97,6 @@ packed-key w v a b c d fa fb fc fd =
     (names-lex a c fa fc _
     ∙ ap (λ (x : Bool). ltb (packed a) (packed c) || eqb (packed a) (packed c) && x)
     (names-lex b d fb fd false ∙ or-and-false (ltb (packed b) (packed d)) (eqb (packed b) (packed d)))))
-
--- the same at what the code gives
-pub name-order :
-    {a b : Name} {m n : ℕ} → PackedAs a m → PackedAs b n → ltb m n ≡ name_below a b
-name-order {a} {b} p q = ap₂ ltb p.is q.is ∙ packed-below a b p.fits q.fits
-
-pub key-packed :
-    {a b : Name} {m n : ℕ} (w : ℕ) → PackedAs a m → PackedAs b n → KeyPackedAs w a b (record { witness = w; first = m; second = n })
-key-packed w p q =
-    record { is = λ i. record { witness = w; first = p.is i; second = q.is i }; first_fits = p.fits; second_fits = q.fits }
-
-pub key-order :
-    {w v : ℕ} {a b c d : Name} {k l : Packed} {t : Bool}
-    → KeyPackedAs w a b k
-    → KeyPackedAs v c d l
-    → t ≡ packed_less k l
-    → t ≡ lex_less (key_of w a b) (key_of v c d)
-key-order {w} {v} {a} {b} {c} {d} p q e =
-    e
-    ∙ ap₂ packed_less p.is q.is
-    ∙ packed-key w v a b c d p.first_fits p.second_fits q.first_fits q.second_fits
 
 -- a name and a site as one number
 abbrev side : ℕ → ℕ → ℕ → ℕ → ℕ

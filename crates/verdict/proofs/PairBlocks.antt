@@ -11,6 +11,7 @@ use lib.Dec.{eqb}
 use lib.Pow.{shr-shr}
 use borrow.Author.Count.{below_more}
 use borrow.Author.Tests.{eqb-true, eq-eqb}
+use Rattle.std.specs.declared.option.Option as Rust
 use Rattle.bundle.specs.Locks.{common_lock}
 use Rattle.bundle.specs.declared.index.Fork.{Fork}
 use Rattle.bundle.proofs.Tests.{or-false, same_test, not-both, refuted, fails}
@@ -174,7 +175,7 @@ module _ {m rows : List ℕ} {one : AccessRow} {i first end j : ℕ} (f : RowsFi
   pub block_within : Within m one.segment (access_row_at rows j).segment
   block_within = record { whole = f.tables.whole; row = f.row.segment; column = (f.tables.fit j h).segment }
 
-module _ (m : List ℕ) (fs : List Fork) (rows : List ℕ) (key : Key) (one : AccessRow) where
+module _ (m : List ℕ) (fs : List Fork) (rows : List ℕ) (key : Rust.Option Key) (one : AccessRow) where
   -- rows that do not race change nothing
   rows-skipped :
       (t : Tally) (j k : ℕ)

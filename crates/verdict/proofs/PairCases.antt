@@ -9,17 +9,51 @@ use native.Mathlib.Omega.{arith}
 use native.Mathlib.Numerals.{add-one}
 use lib.Dec.{eqb, ltb, leb}
 use borrow.Author.Tests.{ltb-true, leb-true, eqb-true}
-use Rattle.bundle.proofs.Tests.{false-is-true, both, and_left, and_right, or_cases, is_false, refuted, cond-elim}
+use Rattle.bundle.proofs.Tests.{false-is-true, both, and_left, and_right, or_cases, is_false, cond-elim}
 use Rattle.bundle.proofs.Ranges.{range-parts, size-within}
+use Rattle.std.specs.declared.option.Option as Rust
+use Rattle.std.specs.declared.option.Option.TheVariants.{None, Some}
 use Rattle.order.specs.Ranges.{shared_byte}
-use Rattle.order.specs.Pairs.{InOrder, lowest_of}
-use Rattle.order.specs.declared.range.Lowest.{Lowest}
-use Rattle.order.specs.declared.range.Lowest.TheVariants as Lo
+use Rattle.order.specs.Pairs.{InOrder}
+use Rattle.bundle.specs.Lists.{option_of}
 use Rattle.order.proofs.SharedByte.{shared-some}
 use Rattle.order.proofs.PairBytes.{base-shared, touch-fits}
 use Rattle.verdict.specs.Accesses.{lex_less, name_key, name_below, key_of, race_key, race_below}
 use Rattle.verdict.specs.Working.{access_row_at}
-use Rattle.verdict.specs.Tallying.{row_range, row_name, rows_meet, rows_clash, row_element, race_from, race_between, race_at_byte, above_at, above_key, clash_race, pair_race, replaces, comes_later, name_in, SideOf, row_in, tally_in, counted_in, before_least, Adds, keeping, counting, add_race, add_pair, tally_row, tally_all, RowFits, TablesFit}
+use Rattle.verdict.specs.Tallying.{
+  row_range,
+  row_name,
+  rows_meet,
+  rows_clash,
+  row_element,
+  race_from,
+  race_between,
+  race_at_byte,
+  above_at,
+  above_key,
+  clash_race,
+  pair_race,
+  below_least,
+  replaces,
+  comes_later,
+  name_in,
+  SideOf,
+  row_in,
+  least_race,
+  tally_in,
+  counted_in,
+  before_least,
+  after_least,
+  Adds,
+  keeping,
+  counting,
+  add_race,
+  add_pair,
+  tally_row,
+  tally_all,
+  RowFits,
+  TablesFit,
+}
 use Rattle.verdict.specs.declared.race.Name.{Name}
 use Rattle.bundle.specs.declared.index.Fork.{Fork}
 use Rattle.verdict.specs.declared.race.Race.{Race}
@@ -30,7 +64,7 @@ use Rattle.verdict.specs.declared.pairs.Sum.{Sum}
 use Rattle.verdict.proofs.Lexical.{less-elim, less-head, less-tail, less-asymmetric}
 
 -- one more race
-module _ (key : Key) (t : Tally) (r : Race) {b : Bool} (e : b ≡ replaces key t r) where
+module _ (key : Rust.Option Key) (t : Tally) (r : Race) {b : Bool} (e : b ≡ replaces key t r) where
   pub race-kept : b ≡ true → keeping t r ≡ add_race key t r
   unfolding add_race
   race-kept h = sym (ap (λ (x : Bool). cond x (keeping t r) (counting t)) (sym e ∙ h))
@@ -62,13 +96,10 @@ pick_other true y p q e = refl
 pick_other false y p q e = both (and_left y (p && q) e) (and_right p q (and_right y (p && q) e))
 
 -- a race that comes after the least so far is only counted
-module _ (t : Tally) (one other : AccessRow) (w : ℕ) where
-  abbrev least : Race
-  least = t.race
-
-  after-least : (r : Race) → (ltb least.witness r.witness || eqb least.witness r.witness && name_below least.first r.first) ≡ true → race_below least r ≡ true
+module _ (least : Race) (one other : AccessRow) (w : ℕ) where
+  after-first : (r : Race) → (ltb least.witness r.witness || eqb least.witness r.witness && name_below least.first r.first) ≡ true → race_below least r ≡ true
   unfolding race_below race_key key_of
-  after-least r e =
+  after-first r e =
       let lw : ℕ = least.witness in
       let rw' : ℕ = r.witness in
       let lf : Name = least.first in
@@ -81,63 +112,72 @@ module _ (t : Tally) (one other : AccessRow) (w : ℕ) where
       (name-first lf rf (name_key least.second) (name_key r.second) (and_right (eqb lw rw') (name_below lf rf) h)))
       (or_cases (ltb lw rw') (eqb lw rw' && name_below lf rf) e)
 
-  later-below : comes_later t.found least.witness least.first (row_name one) (row_name other) w ≡ true → race_below least (race_between one other w) ≡ true
+  later-below : comes_later least.witness least.first (row_name one) (row_name other) w ≡ true → race_below least (race_between one other w) ≡ true
   unfolding comes_later race_between
-  later-below e =
+  later-below h =
       let above : Bool = ltb least.witness w in
       let same : Bool = eqb least.witness w in
       let one-above : Bool = name_below least.first (row_name one) in
       let other-above : Bool = name_below least.first (row_name other) in
-      let h : (above || same && (one-above && other-above)) ≡ true = and_right t.found (above || same && (one-above && other-above)) e in
       cond-elim (λ (r : Race). race_below least r ≡ true) (name_below (row_name one) (row_name other)) (race_from one other w) (race_from other one w)
-      (λ i. after-least (race_from one other w) (pick-one above same one-above other-above h))
-      (λ i. after-least (race_from other one w) (pick_other above same one-above other-above h))
+      (λ i. after-first (race_from one other w) (pick-one above same one-above other-above h))
+      (λ i. after-first (race_from other one w) (pick_other above same one-above other-above h))
 
-  later-found : comes_later t.found least.witness least.first (row_name one) (row_name other) w ≡ true → t.found ≡ true
-  unfolding comes_later
-  later-found e = and_left _ _ e
-
-  not-replaced : (key : Key) → comes_later t.found least.witness least.first (row_name one) (row_name other) w ≡ true → replaces key t (race_between one other w) ≡ false
+  not-replaced :
+      (key : Rust.Option Key) (t : Tally)
+      → t.least ≡ Some least
+      → comes_later least.witness least.first (row_name one) (row_name other) w ≡ true
+      → replaces key t (race_between one other w) ≡ false
   unfolding race_below
-  not-replaced key e =
+  not-replaced key t f e =
       let r : Race = race_between one other w in
       is_false (replaces key t r)
       (λ q.
-      ⊎_elim (λ (h : not t.found ≡ true). refuted (later-found e) h)
-      (λ (h : race_below r least ≡ true). less-asymmetric (race_key least) (race_key r) (later-below e) h)
-      (or_cases (not t.found) (race_below r least) (and_right (above_key key r) (not t.found || race_below r least) q)))
+      less-asymmetric (race_key least) (race_key r) (later-below e)
+      (ap (λ (o : Rust.Option Race). below_least o r) (sym f) ∙ and_right (above_key key r) (below_least t.least r) q))
 
   pub later-counted :
-      (key : Key) {b : Bool} → b ≡ comes_later t.found least.witness least.first (row_name one) (row_name other) w → b ≡ true → counting t ≡ add_race key t (race_between one other w)
-  later-counted key p h = race-counted key t (race_between one other w) (sym (not-replaced key (sym p ∙ h))) refl
+      (key : Rust.Option Key) (t : Tally)
+      → t.least ≡ Some least
+      → comes_later least.witness least.first (row_name one) (row_name other) w ≡ true
+      → counting t ≡ add_race key t (race_between one other w)
+  later-counted key t f h = race-counted key t (race_between one other w) (sym (not-replaced key t f h)) refl
 
 -- the code's test for a race that comes later
 pub later-told :
-    (one other : AccessRow) (found : Bool) (witness w : ℕ) {first l a b : Name} {p q : Bool}
-    → l ≡ first
+    (one other : AccessRow) (s : Sum) (w : ℕ) {first a b : Name} {p q : Bool}
+    → first ≡ name_in s.least.first
     → a ≡ row_name one
-    → p ≡ name_below l a
+    → p ≡ name_below first a
     → b ≡ row_name other
-    → q ≡ name_below l b
-    → (found && (ltb witness w || eqb witness w && (p && q))) ≡ comes_later found witness first (row_name one) (row_name other) w
+    → q ≡ name_below first b
+    → (s.found && (ltb s.least.witness w || eqb s.least.witness w && (p && q))) ≡ after_least s (row_name one) (row_name other) w
 unfolding comes_later
-later-told one other found witness w d f h g i =
-    ap₂ (λ (x y : Bool). found && (ltb witness w || eqb witness w && (x && y)))
+later-told one other s w d f h g i =
+    ap₂ (λ (x y : Bool). s.found && (ltb s.least.witness w || eqb s.least.witness w && (x && y)))
     (h ∙ ap₂ name_below d f)
     (i ∙ ap₂ name_below d g)
 
--- a race added to a tally in five numbers
-module _ (key : Key) (sum : Sum) (one other : AccessRow) (i j w : ℕ) where
+-- a race added to a tally in few numbers
+module _ (key : Rust.Option Key) (sum : Sum) (one other : AccessRow) (i j w : ℕ) where
   -- the lower name first
   module _ {a b : Name} (p : a ≡ row_name one) (q : b ≡ row_name other) where
+    before :
+        (found : Bool) (race : Race)
+        → (not found || race_below (race_from one other w) race) ≡ below_least (cond found (Some race) None) (race_from one other w)
+    before true race = refl
+    before false race = refl
+
     replaced : (rows : List ℕ) → (above_at key w a b && before_least sum w a b) ≡ replaces key (tally_in rows sum) (race_from one other w)
-    unfolding above_key race_below race_key
-    replaced rows = ap₂ (λ (x y : Name). above_at key w x y && before_least sum w x y) p q
+    unfolding race_below race_key
+    replaced rows =
+        ap₂ (λ (x y : Name). above_at key w x y && before_least sum w x y) p q
+        ∙ ap (λ (x : Bool). above_at key w (row_name one) (row_name other) && x) (before sum.found (least_race rows sum.least))
 
     module _ {t : Bool} (e : t ≡ (above_at key w a b && before_least sum w a b)) where
       pub sum_kept :
           i < 1024 → j < 1024 → t ≡ true → {c d : ℕ} → SideOf a i c → SideOf b j d
-          → Adds key one i other j (some (race_from one other w)) sum (record { count = sum.count + 1; found = true; witness = w; first = c; second = d })
+          → Adds key one i other j (some (race_from one other w)) sum (record { count = sum.count + 1; found = true; least = record { witness = w; first = c; second = d } })
       unfolding add_pair
       sum_kept hi hj h {c} {d} s u =
           record {
@@ -149,7 +189,7 @@ module _ (key : Key) (sum : Sum) (one other : AccessRow) (i j w : ℕ) where
 
           kept-race :
               (rows : List ℕ) → one ≡ access_row_at rows i → other ≡ access_row_at rows j
-              → tally_in rows (record { count = sum.count + 1; found = true; witness = w; first = c; second = d })
+              → tally_in rows (record { count = sum.count + 1; found = true; least = record { witness = w; first = c; second = d } })
               ≡ keeping (tally_in rows sum) (race_from one other w)
           kept-race rows o v =
               let row : row_in rows c ≡ one = ap (access_row_at rows) (at c i hi s.rest_in) ∙ sym o in
@@ -159,9 +199,9 @@ module _ (key : Key) (sum : Sum) (one other : AccessRow) (i j w : ℕ) where
               λ k.
               record {
                 count = sum.count + 1;
-                found = true;
-                race =
-                    record {
+                least =
+                    Some
+                    (record {
                       witness = w;
                       first = name k;
                       first_site = (row k).site;
@@ -169,7 +209,7 @@ module _ (key : Key) (sum : Sum) (one other : AccessRow) (i j w : ℕ) where
                       second = name' k;
                       second_site = (row' k).site;
                       second_element = row_element (row' k) w;
-                    };
+                    });
               }
 
       pub sum-counted : t ≡ false → {after : Sum} → after ≡ counted_in sum → Adds key one i other j (some (race_from one other w)) sum after
@@ -198,14 +238,20 @@ module _ (key : Key) (sum : Sum) (one other : AccessRow) (i j w : ℕ) where
 
   pub later-summed :
       {t : Bool}
-      → t ≡ comes_later sum.found sum.witness (name_in sum.first) (row_name one) (row_name other) w
+      → t ≡ after_least sum (row_name one) (row_name other) w
       → t ≡ true
       → {after : Sum}
       → after ≡ counted_in sum
       → Adds key one i other j (some (race_between one other w)) sum after
   unfolding add_pair
   later-summed p h f =
-      record { added = λ rows o v. ap (tally_in rows) f ∙ later-counted (tally_in rows sum) one other w key p h }
+      let e : (sum.found && comes_later sum.least.witness (name_in sum.least.first) (row_name one) (row_name other) w) ≡ true = sym p ∙ h in
+      record {
+        added = λ rows o v.
+            ap (tally_in rows) f
+            ∙ later-counted (least_race rows sum.least) one other w key (tally_in rows sum)
+            (ap (λ (b : Bool). cond b (Some (least_race rows sum.least)) None) (and_left _ _ e)) (and_right _ _ e);
+      }
 
 -- the lowest shared byte of two rows
 module _ (one other : AccessRow) (fits : RowFits one) (fits' : RowFits other) where
@@ -233,30 +279,30 @@ module _ (one other : AccessRow) (fits : RowFits one) (fits' : RowFits other) wh
       let in-it = ltb-true other.base (one.base + one.size) (and_right x y (sym e ∙ h)) in
       base-shared (row_range one) (row_range other) (ordered up) (omega arith)
 
-module _ (one other : AccessRow) (l : Lowest) (s : lowest_of l ≡ shared_byte (row_range one) (row_range other)) where
-  pub byte_fits : RowFits one → {w : ℕ} → l ≡ Lo.Byte w → w < 4294967296
+module _ (one other : AccessRow) (l : Rust.Option ℕ) (s : option_of l ≡ shared_byte (row_range one) (row_range other)) where
+  pub byte_fits : RowFits one → {w : ℕ} → l ≡ Some w → w < 4294967296
   byte_fits fits {w} h =
-      touch-fits (row_range one) w fits.range (shared-some (row_range one) (row_range other) w (sym s ∙ ap lowest_of h)).one
+      touch-fits (row_range one) w fits.range (shared-some (row_range one) (row_range other) w (sym s ∙ ap option_of h)).one
 
   -- two rows that clash
-  module _ (key : Key) (i j : ℕ) (sum : Sum) where
-    clashing : {k : Lowest} → l ≡ k → race_at_byte one other (lowest_of k) ≡ race_at_byte one other (shared_byte (row_range one) (row_range other))
-    clashing h = ap (race_at_byte one other) (sym (ap lowest_of h) ∙ s)
+  module _ (key : Rust.Option Key) (i j : ℕ) (sum : Sum) where
+    clashing : {k : Rust.Option ℕ} → l ≡ k → race_at_byte one other (option_of k) ≡ race_at_byte one other (shared_byte (row_range one) (row_range other))
+    clashing h = ap (race_at_byte one other) (sym (ap option_of h) ∙ s)
 
     pub clash-added :
         {w : ℕ} {after : Sum}
-        → l ≡ Lo.Byte w
+        → l ≡ Some w
         → Adds key one i other j (some (race_between one other w)) sum after
         → Adds key one i other j (race_at_byte one other (shared_byte (row_range one) (row_range other))) sum after
     clash-added {after = after} h a = subst (λ (o : Option Race). Adds key one i other j o sum after) (clashing h) a
 
-    pub clash-apart : l ≡ Lo.Nothing → Adds key one i other j (race_at_byte one other (shared_byte (row_range one) (row_range other))) sum sum
+    pub clash-apart : l ≡ None → Adds key one i other j (race_at_byte one other (shared_byte (row_range one) (row_range other))) sum sum
     unfolding add_pair
     clash-apart h =
         subst (λ (o : Option Race). Adds key one i other j o sum sum) (clashing h) (record { added = λ rows p q. refl })
 
 -- a row and the j-th
-module _ (m : List ℕ) (fs : List Fork) (rows : List ℕ) (one : AccessRow) (j : ℕ) (key : Key) (t : Tally) {c : Bool}
+module _ (m : List ℕ) (fs : List Fork) (rows : List ℕ) (one : AccessRow) (j : ℕ) (key : Rust.Option Key) (t : Tally) {c : Bool}
     (e : c ≡ (rows_meet one (access_row_at rows j) && rows_clash m fs one (access_row_at rows j))) where
   abbrev shared : AccessRow → Option Race
   shared other = race_at_byte one other (shared_byte (row_range one) (row_range other))
@@ -284,7 +330,7 @@ module _ (m : List ℕ) (fs : List Fork) (rows : List ℕ) (one : AccessRow) (j 
       ∙ sym (ap (add_pair key t) (one-test ∙ ap (λ (x : Bool). cond x (shared (access_row_at rows j)) none) h))
 
 -- the counts
-race_count : (key : Key) (t : Tally) (r : Race) → (add_race key t r).count ≡ t.count + 1
+race_count : (key : Rust.Option Key) (t : Tally) (r : Race) → (add_race key t r).count ≡ t.count + 1
 unfolding add_race
 race_count key t r = go (replaces key t r)
   where
@@ -292,7 +338,7 @@ race_count key t r = go (replaces key t r)
     go true = refl
     go false = refl
 
-pub pair-count : (key : Key) (t : Tally) (o : Option Race) → (add_pair key t o).count ≤ t.count + 1
+pub pair-count : (key : Rust.Option Key) (t : Tally) (o : Option Race) → (add_pair key t o).count ≤ t.count + 1
 unfolding add_pair
 pair-count key t none = omega arith
 pair-count key t (some r) = omega (arith, race_count key t r)
@@ -302,7 +348,7 @@ pub fewer-rows : {m rows : List ℕ} {n k : ℕ} → TablesFit m rows n → k �
 fewer-rows g h =
     record { whole = g.whole; rows_whole = g.rows_whole; few = omega (arith, g.few); fit = λ j l. g.fit j (omega arith) }
 
-module _ (m : List ℕ) (fs : List Fork) (rows : List ℕ) (key : Key) where
+module _ (m : List ℕ) (fs : List Fork) (rows : List ℕ) (key : Rust.Option Key) where
   pub row_count : (one : AccessRow) (t : Tally) (j : ℕ) → (tally_row m fs rows key one t j).count ≤ t.count + j
   unfolding tally_row
   row_count one t zero = omega arith

@@ -383,6 +383,3 @@ pub not-refused :
     → read_at s p.at ≡ refuses number place
     → A
 not-refused {s} {p = p} number place f h e = absurd (onward-read s p.at number place f.onwards h e)
-
-pub lengths-kept : {s : List ℕ} {n : ℕ} {p : Cursor} {ends opens nodes rows : List ℕ} → Filling s n p ends opens nodes rows → Room ends opens nodes rows × (length rows ≡ n)
-lengths-kept f = (f.holds.room, f.holds.long)

@@ -2,7 +2,7 @@
 use Prim.Native.Nat.{ℕ, zero, suc, ◌+◌, ◌≤◌}
 use mathlib.Core.Path.{◌≡◌, refl, sym, ◌∙◌, ap, subst}
 use mathlib.Core.Logic.{⊎_elim}
-use mathlib.Core.Bool.{Bool, true, false, cond, not, ◌&&◌, ◌||◌}
+use mathlib.Core.Bool.{Bool, true, false, cond, ◌&&◌}
 use mathlib.Core.List.Memᴰ
 use mathlib.Core.List.Permᴰ
 use mathlib.Core.List.{
@@ -20,7 +20,9 @@ use mathlib.Core.Option.{Option, none, some}
 use native.Mathlib.Omega.{arith}
 use lib.ListN.{length, take, get_elem?, length-append}
 use lib.Seq.{take-length}
-use Rattle.bundle.specs.Lists.{first}
+use Rattle.std.specs.declared.option.Option as Rust
+use Rattle.std.specs.declared.option.Option.TheVariants.{None, Some}
+use Rattle.bundle.specs.Lists.{first, option_of}
 use Rattle.bundle.specs.Walk.{Segment, forks_of}
 use Rattle.bundle.specs.declared.index.Fork.{Fork}
 use Rattle.bundle.specs.Chunks.{Chunk}
@@ -33,7 +35,7 @@ use Rattle.verdict.specs.Accesses.{NamedAccess, name_key, name_below, race_below
 use Rattle.verdict.specs.RaceLists.{clashes, race_of, races_among, races_of}
 use Rattle.verdict.specs.Matrix.{PathBits}
 use Rattle.verdict.specs.Working.{access_row_at, AccessTable}
-use Rattle.verdict.specs.Tallying.{above_key, replaces, keeping, counting, add_race, add_pair, pair_race, tally_in, no_sum, tally_row, tally_all}
+use Rattle.verdict.specs.Tallying.{above_key, below_least, replaces, keeping, counting, add_race, add_pair, pair_race, tally_in, no_sum, tally_row, tally_all}
 use Rattle.verdict.specs.Demand.{Ascending}
 use Rattle.verdict.specs.Census.{Tallies}
 use Rattle.verdict.specs.declared.race.Race.{Race}
@@ -48,14 +50,14 @@ use Rattle.verdict.proofs.RowRaces.{listed, pair-races}
 use Rattle.verdict.proofs.EveryPair.{both_ways, one_more, both-more, take_more}
 
 -- a race that was kept is one that passes, and none that passes is below it; else none passes
-abbrev pub Least : (Race → Bool) → List Race → Bool → Race → Type 0
-Least p rs true r = Memᴰ r rs × (p r ≡ true) × ((q : Race) → Memᴰ q rs → p q ≡ true → race_below q r ≡ false)
-Least p rs false r = (q : Race) → Memᴰ q rs → p q ≡ true → ⊥
+abbrev pub Least : (Race → Bool) → List Race → Rust.Option Race → Type 0
+Least p rs (Some r) = Memᴰ r rs × (p r ≡ true) × ((q : Race) → Memᴰ q rs → p q ≡ true → race_below q r ≡ false)
+Least p rs None = (q : Race) → Memᴰ q rs → p q ≡ true → ⊥
 
 -- the races of a list are counted, in whatever order
-pub record Tallied (key : Key) (rs : List Race) (t : Tally) : Type 0 where
+pub record Tallied (key : Rust.Option Key) (rs : List Race) (t : Tally) : Type 0 where
   pub counted : t.count ≡ length rs
-  pub kept : Least (above_key key) rs t.found t.race
+  pub kept : Least (above_key key) rs t.least
 
 module _ (p : Race → Bool) (rs : List Race) (r : Race) where
   in-old : {q : Race} → Memᴰ q rs → Memᴰ q (rs ++ (r ∷ []))
@@ -71,16 +73,16 @@ module _ (p : Race → Bool) (rs : List Race) (r : Race) where
 
   -- one more race: it takes the place of the least, or it does not
   least_more :
-      (found : Bool) (best : Race) (t : Bool)
-      → (p r && (not found || race_below r best)) ≡ t
-      → Least p rs found best
-      → Least p (rs ++ (r ∷ [])) (cond t true found) (cond t r best)
-  least_more false best true e k = (
+      (best : Rust.Option Race) (t : Bool)
+      → (p r && below_least best r) ≡ t
+      → Least p rs best
+      → Least p (rs ++ (r ∷ [])) (cond t (Some r) best)
+  least_more None true e k = (
     in-new,
     and_left (p r) true e,
     λ q m h. ⊎_elim (λ l. absurd (k q l h)) not-below-self (Memᴰ.append_cases rs m),
   )
-  least_more true best true e k = (
+  least_more (Some best) true e k = (
     in-new,
     and_left (p r) (race_below r best) e,
     λ q m h.
@@ -89,12 +91,12 @@ module _ (p : Race → Bool) (rs : List Race) (r : Race) where
         not-below-self
         (Memᴰ.append_cases rs m),
   )
-  least_more false best false e k =
+  least_more None false e k =
       λ q m h. ⊎_elim (λ l. k q l h) (λ l. never q (Memᴰ.eq_of_singleton l) h) (Memᴰ.append_cases rs m)
     where
       never : (q : Race) → q ≡ r → p q ≡ true → ⊥
       never q o h = not-both (both (rw o at h) refl) e
-  least_more true best false e k = (
+  least_more (Some best) false e k = (
     in-old k.0,
     k.1,
     λ q m h.
@@ -107,28 +109,28 @@ module _ (p : Race → Bool) (rs : List Race) (r : Race) where
       later : (q : Race) → q ≡ r → p q ≡ true → race_below q best ≡ false
       later q o h = is_false (race_below q best) (λ s. not-both (both (rw o at h) (rw o at s)) e)
 
-module _ (key : Key) where
+module _ (key : Rust.Option Key) where
   pub tallied-none : (rows : List ℕ) → Tallied key [] (tally_in rows no_sum)
   tallied-none rows = record { counted = refl; kept = λ q m h. Memᴰ.not-nil m }
 
-  least-perm : {rs qs : List Race} (found : Bool) (r : Race) → Permᴰ rs qs → Least (above_key key) rs found r → Least (above_key key) qs found r
-  least-perm true r d k = (perm-mem d k.0, k.1, λ q m h. k.2 q (perm-mem (Permᴰ.symm d) m) h)
-  least-perm false r d k = λ q m h. k q (perm-mem (Permᴰ.symm d) m) h
+  least-perm : {rs qs : List Race} (least : Rust.Option Race) → Permᴰ rs qs → Least (above_key key) rs least → Least (above_key key) qs least
+  least-perm (Some r) d k = (perm-mem d k.0, k.1, λ q m h. k.2 q (perm-mem (Permᴰ.symm d) m) h)
+  least-perm None d k = λ q m h. k q (perm-mem (Permᴰ.symm d) m) h
 
   pub tallied-perm : {rs qs : List Race} {t : Tally} → Permᴰ rs qs → Tallied key rs t → Tallied key qs t
-  tallied-perm {t = t} d k = record { counted = k.counted ∙ perm-length d; kept = least-perm t.found t.race d k.kept }
+  tallied-perm {t = t} d k = record { counted = k.counted ∙ perm-length d; kept = least-perm t.least d k.kept }
 
   tallied-add : {rs : List Race} (t : Tally) (r : Race) → Tallied key rs t → Tallied key (rs ++ (r ∷ [])) (add_race key t r)
   unfolding add_race
   tallied-add {rs} t r k =
-      go (replaces key t r) (least_more (above_key key) rs r t.found t.race (replaces key t r) refl k.kept)
+      go (replaces key t r) (least_more (above_key key) rs r t.least (replaces key t r) refl k.kept)
     where
       more : t.count + 1 ≡ length (rs ++ (r ∷ []))
       more = omega (arith, k.counted, length-append rs (r ∷ []))
 
       go :
           (b : Bool)
-          → Least (above_key key) (rs ++ (r ∷ [])) (cond b true t.found) (cond b r t.race)
+          → Least (above_key key) (rs ++ (r ∷ [])) (cond b (Some r) t.least)
           → Tallied key (rs ++ (r ∷ []))
           (cond b (keeping t r) (counting t))
       go true l = record { counted = more; kept = l }
@@ -140,30 +142,30 @@ module _ (key : Key) where
   tallied-pair t (some r) k = tallied-add t r k
 
   -- the first of the races in order is the one that was kept
-  least_first : {rs : List Race} → Ascending rs → (p : Race → Bool) (found : Bool) (r : Race) → Least p rs found r → cond found (some r) none ≡ first p rs
-  least_first Ascending.none p true r k = absurd (Memᴰ.not-nil k.0)
-  least_first Ascending.none p false r k = refl
-  least_first (Ascending.more {r = x} {rs = xs} lower d) p found r k = go found (p x) refl k (λ k'. least_first d p found r k')
+  least_first : {rs : List Race} → Ascending rs → (p : Race → Bool) (least : Rust.Option Race) → Least p rs least → option_of least ≡ first p rs
+  least_first Ascending.none p (Some r) k = absurd (Memᴰ.not-nil k.0)
+  least_first Ascending.none p None k = refl
+  least_first (Ascending.more {r = x} {rs = xs} lower d) p least k = go least (p x) refl k (λ k'. least_first d p least k')
     where
       go :
-          (found : Bool) (t : Bool)
+          (least : Rust.Option Race) (t : Bool)
           → p x ≡ t
-          → Least p (x ∷ xs) found r
-          → (Least p xs found r → cond found (some r) none ≡ first p xs)
-          → cond found (some r) none ≡ cond t (some x) (first p xs)
-      go true true e l ih =
+          → Least p (x ∷ xs) least
+          → (Least p xs least → option_of least ≡ first p xs)
+          → option_of least ≡ cond t (some x) (first p xs)
+      go (Some r) true e l ih =
           ⊎_elim (λ (o : r ≡ x). ap some o) (λ m. not-both (lower r m) (l.2 x (Memᴰ.head refl) e)) (Memᴰ.cases_cons l.0)
-      go true false e l ih =
+      go (Some r) false e l ih =
           ih (
             ⊎_elim (λ (o : r ≡ x). not-both (rw o at l.1) e) (λ m. m) (Memᴰ.cases_cons l.0),
             l.1,
             λ q m h. l.2 q (Memᴰ.tail m) h,
           )
-      go false true e l ih = absurd (l x (Memᴰ.head refl) e)
-      go false false e l ih = ih (λ q m h. l q (Memᴰ.tail m) h)
+      go None true e l ih = absurd (l x (Memᴰ.head refl) e)
+      go None false e l ih = ih (λ q m h. l q (Memᴰ.tail m) h)
 
   pub tallies : {rs : List Race} {t : Tally} → Ascending rs → Tallied key rs t → Tallies rs key t
-  tallies {t = t} d k = record { race_count = k.counted; least = least_first d (above_key key) t.found t.race k.kept }
+  tallies {t = t} d k = record { race_count = k.counted; least = least_first d (above_key key) t.least k.kept }
 
 -- an access does not race with itself
 no_self : (ss : List Segment) (fs : List Fork) (x : NamedAccess) → race_of (closure_of ss) fs x x ≡ []
@@ -174,7 +176,7 @@ no_self ss fs x = rw (is_false _ (less-irreflexive (name_key x.name)))
 module _
     {ss : List Segment} {matrix : List ℕ} (paths : PathBits ss matrix) (fs : List Fork)
     {xs : List NamedAccess} {rows : List ℕ} (table : AccessTable ss xs rows)
-    (distinct : Distinct (map access_key xs)) (key : Key) where
+    (distinct : Distinct (map access_key xs)) (key : Rust.Option Key) where
   row-tallied :
       (i : ℕ) {x : NamedAccess} (t : Tally) {rs : List Race}
       → get_elem? xs i ≡ some x
@@ -234,7 +236,7 @@ pub bundle-tallied :
     → Distinct (map member_key cs)
     → PathBits (segments_of cs) matrix
     → AccessTable (segments_of cs) (accesses_of cs) rows
-    → (key : Key)
+    → (key : Rust.Option Key)
     → Tallies (races_of cs) key (tally_all matrix (forks_of cs) rows key (length (accesses_of cs)))
 unfolding races_of
 bundle-tallied cs members paths table key =

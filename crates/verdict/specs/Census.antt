@@ -1,8 +1,14 @@
 -- Inner: what the judge's parts give: the tables in the work area, and the counts of an accepted bundle.
-use Rattle.std.specs.Prelude.{ℕ, ◌≤◌, ◌≡◌, cond, List, length, take, drop}
-use Rattle.std.proofs.Math.Option.{Option, none, some}
-use Rattle.bundle.specs.Lists.{first}
+use Rattle.std.specs.Prelude.{ℕ, ◌<◌, ◌≤◌, ◌≡◌, List, length, take, drop, replicate}
+use Rattle.std.proofs.Math.Option.{Option}
+use Rattle.std.specs.declared.option.Option as Rust
+use Rattle.bundle.specs.Lists.{first, option_of}
+use Rattle.std.specs.declared.result.Result.{Result}
+use Rattle.std.specs.declared.result.Result.TheVariants.{Ok, Err}
+use Rattle.bundle.specs.Answer.{refuses, number_of, answer_of}
+use Rattle.bundle.specs.Check.{check_of, Accepted}
 use Rattle.bundle.specs.Chunks.{chunks_of}
+use Rattle.bundle.specs.declared.refusal.Refusal.{Refusal}
 use Rattle.bundle.specs.Walk.{forks_of}
 use Rattle.verdict.specs.Graph.{segments_of}
 use Rattle.verdict.specs.Accesses.{accesses_of}
@@ -13,10 +19,6 @@ use Rattle.verdict.specs.Linking.{forks_in}
 use Rattle.verdict.specs.Tallying.{above_key}
 use Rattle.verdict.specs.Edges.{Reached}
 use Rattle.verdict.specs.declared.race.Race.{Race}
-use Rattle.verdict.specs.declared.race.Verdict.{Verdict}
-use Rattle.verdict.specs.declared.race.Verdict.TheVariants as Ver
-use Rattle.verdict.specs.declared.race.Next.{Next}
-use Rattle.verdict.specs.declared.race.Next.TheVariants as Nex
 use Rattle.verdict.specs.declared.pairs.Key.{Key}
 use Rattle.verdict.specs.declared.pairs.Tally.{Tally}
 use Rattle.verdict.specs.declared.judge.Census.{Census}
@@ -49,22 +51,30 @@ pub record AreaFilled (s area : List ℕ) (segments accesses : ℕ) : Type 0 whe
 
 -- the least race that was kept
 abbrev pub least_of : Tally → Option Race
-least_of t = cond t.found (some t.race) none
+least_of t = option_of t.least
 
 -- the races of a list are counted, and the first of them above the key is kept
-pub record Tallies (races : List Race) (key : Key) (t : Tally) : Type 0 where
+pub record Tallies (races : List Race) (key : Rust.Option Key) (t : Tally) : Type 0 where
   pub race_count : t.count ≡ length races
   pub least : least_of t ≡ first (above_key key) races
 
 -- the counts of a bundle
-pub record Counted (s : List ℕ) (key : Key) (n : Census) : Type 0 where
+pub record Counted (s : List ℕ) (key : Rust.Option Key) (n : Census) : Type 0 where
+  pub chunk_count : n.chunks ≡ length (chunks_of s)
   pub segment_count : n.segments ≡ length (segments_of (chunks_of s))
   pub access_count : n.accesses ≡ length (accesses_of (chunks_of s))
   pub tally : Tallies (races_of (chunks_of s)) key n.tally
 
--- the verdict, and the next race, of a tally
-abbrev pub verdict_in : Tally → Verdict
-verdict_in t = cond t.found (Ver.Least t.race) Ver.RaceFree
+-- the counts of an accepted bundle, or why it is refused
+abbrev pub CountedAs : List ℕ → Rust.Option Key → Result Census Refusal → Type 0
+CountedAs s key (Ok n) = Accepted s × Counted s key n
+CountedAs s key (Err r) = check_of s ≡ refuses (number_of r.cause) r.place
 
-abbrev pub next_in : Tally → Next
-next_in t = cond t.found (Nex.Found t.race) Nex.Nothing
+-- the same over a work area: one under 16,384 words is refused and stays as it is, another is 0 afterwards
+pub record CensusOver (s : List ℕ) (key : Rust.Option Key) (work : List ℕ) (r : Result Census Refusal) (after : List ℕ) : Type 0 where
+  pub small : length work < 16384 → (answer_of r ≡ refuses 13 0) × (after ≡ work)
+  pub large : 16384 ≤ length work → CountedAs s key r × (after ≡ replicate (length work) 0)
+
+-- the least race of a tally: the verdict, and the next race above a key
+abbrev pub verdict_in : Tally → Rust.Option Race
+verdict_in t = t.least

@@ -10,7 +10,7 @@ use Rattle.verdict.specs.Accesses.{accesses_of, race_below}
 use Rattle.verdict.specs.Races.{IsRace}
 use Rattle.verdict.specs.Judge.{judge_of}
 use Rattle.verdict.specs.declared.race.Race.{Race}
-use Rattle.verdict.specs.declared.race.Verdict.TheVariants as Ver
+use Rattle.std.specs.declared.option.Option.TheVariants.{Some, None}
 use Rattle.verdict.specs.declared.race.Judgement.{Judgement}
 
 -- each race stands before all that follow it
@@ -21,11 +21,11 @@ pub data Ascending : List Race → Type 0 where
 -- what a judgement says of a bundle
 pub record Exact (b : List ℕ) (j : Judgement) : Type 0 where
   -- "race-free exactly when the bundle has no race"
-  pub race_free : (j.verdict ≡ Ver.RaceFree) ↔ ((r : Race) → IsRace (chunks_of b) r → ⊥)
+  pub race_free : (j.least ≡ None) ↔ ((r : Race) → IsRace (chunks_of b) r → ⊥)
   -- "Otherwise the answer gives one of the bundle's races with its lowest shared byte, and every other race of the bundle comes later"
-  pub a_race : (r : Race) → j.verdict ≡ Ver.Least r → IsRace (chunks_of b) r
+  pub a_race : (r : Race) → j.least ≡ Some r → IsRace (chunks_of b) r
   pub the_least :
-      (r : Race) → j.verdict ≡ Ver.Least r → (q : Race) → IsRace (chunks_of b) q → (q ≡ r) ⊎ (race_below r q ≡ true)
+      (r : Race) → j.least ≡ Some r → (q : Race) → IsRace (chunks_of b) q → (q ≡ r) ⊎ (race_below r q ≡ true)
   -- "the race count is the number of the bundle's races": the length of the list that holds each of them once, in order
   pub races : List Race
   pub ascending : Ascending races

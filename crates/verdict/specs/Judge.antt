@@ -1,8 +1,8 @@
 -- Judging a bundle, and the next race.
 use Rattle.std.specs.Prelude.{ℕ, cond, List, [], ◌∷◌, length, replicate, ltb}
-use Rattle.std.proofs.Math.Option.{Option, none, some}
+use Rattle.std.proofs.Math.Option.{Option}
 use Rattle.bundle.specs.Answer.{Answer, gives, refuses, when_given, number_of}
-use Rattle.bundle.specs.Lists.{first}
+use Rattle.bundle.specs.Lists.{first, option_of}
 use Rattle.bundle.specs.Commands.{Lent}
 use Rattle.bundle.specs.Chunks.{Chunk, chunks_of}
 use Rattle.bundle.specs.Check.{check_of}
@@ -11,18 +11,17 @@ use Rattle.verdict.specs.Accesses.{accesses_of, lex_less, key_of, race_key}
 use Rattle.verdict.specs.RaceLists.{races_of}
 use Rattle.verdict.specs.declared.race.Name.{Name}
 use Rattle.verdict.specs.declared.race.Race.{Race}
-use Rattle.verdict.specs.declared.race.Verdict.{Verdict}
-use Rattle.verdict.specs.declared.race.Verdict.TheVariants as Ver
+use Rattle.std.specs.declared.option.Option as Rust
+use Rattle.std.specs.declared.option.Option.TheVariants.{Some, None}
+use Rattle.std.specs.declared.result.Result.{Result}
+use Rattle.std.specs.declared.result.Result.TheVariants.{Ok, Err}
+use Rattle.bundle.specs.declared.refusal.Refusal.{Refusal}
 use Rattle.verdict.specs.declared.race.Judgement.{Judgement}
-use Rattle.verdict.specs.declared.race.Judging.{Judging}
-use Rattle.verdict.specs.declared.race.Judging.TheVariants as Jud
-use Rattle.verdict.specs.declared.race.Next.{Next}
-use Rattle.verdict.specs.declared.race.Next.TheVariants as Nex
 
 -- "the least race or race-free"
-unfoldable pub verdict_of : List Race → Verdict
-verdict_of [] = Ver.RaceFree
-verdict_of (r ∷ rs) = Ver.Least r
+unfoldable pub verdict_of : List Race → Rust.Option Race
+verdict_of [] = None
+verdict_of (r ∷ rs) = Some r
 
 -- "Judging gives the counts of the bundle's chunks, segments, accesses and races, each race counted once, and the least race or race-free"
 unfoldable pub judgement_of : List Chunk → Judgement
@@ -33,7 +32,7 @@ judgement_of cs =
       segments = length (segments_of cs);
       accesses = length (accesses_of cs);
       races = length races;
-      verdict = verdict_of races;
+      least = verdict_of races;
     }
 
 -- "Next race takes a witness and two names, real or not, and gives the least race above them, or none"
@@ -62,12 +61,7 @@ next_above s key = when_given (check_of s) (λ u. gives (race_above key (races_o
 unfoldable pub next_of : List ℕ → ℕ → Name → Name → List ℕ → Lent (Option Race)
 next_of s witness first second work = over_work work (next_above s (key_of witness first second))
 
--- what the code's answers say
-abbrev pub judging_of : Judging → Answer Judgement
-judging_of (Jud.Judged j) = gives j
-judging_of (Jud.Refused place cause) = refuses (number_of cause) place
-
-abbrev pub next_race_of : Next → Answer (Option Race)
-next_race_of (Nex.Found r) = gives (some r)
-next_race_of Nex.Nothing = gives none
-next_race_of (Nex.Refused place cause) = refuses (number_of cause) place
+-- what the code's answer to the next race says
+abbrev pub next_race_of : Result (Rust.Option Race) Refusal → Answer (Option Race)
+next_race_of (Ok race) = gives (option_of race)
+next_race_of (Err r) = refuses (number_of r.cause) r.place

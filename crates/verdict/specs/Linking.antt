@@ -1,7 +1,10 @@
 -- Inner: the table by which two accesses climb to the team where their lineages part.
-use Rattle.std.specs.Prelude.{ℕ, ◌+◌, ◌≤◌, ◌<◌, ◌≡◌, Bool, true, false, length, get_or, eqb}
+use Rattle.std.specs.Prelude.{ℕ, ◌+◌, ◌≤◌, ◌<◌, ◌≡◌, Bool, true, false, length, get_or, eqb, replicate}
 use mathlib.Core.List.{List, Memᴰ}
 use Rattle.std.specs.Int.Bits.{bit_or}
+use Rattle.std.specs.Borrow.{Bor}
+use Rattle.std.specs.declared.option.Option as Rust
+use Rattle.std.specs.declared.option.Option.TheVariants.{None, Some}
 use Rattle.bundle.specs.Index.{fork_row_at, table, index_of}
 use Rattle.bundle.specs.declared.index.Fork.{Fork}
 use Rattle.verdict.specs.Lineages.{Holder}
@@ -48,6 +51,15 @@ pub record Linkable (rows : List ℕ) (n regions : ℕ) (links : List ℕ) : Typ
   pub whole : 8192 ≤ length rows
   pub few_regions : regions ≤ 512
   pub long : length links ≡ 1536
+
+-- the links where a lock is held at a REGION; else no link is read, and any words stand for them
+abbrev pub links_in : Rust.Option (Bor (List ℕ)) → List ℕ
+links_in None = replicate 1536 0
+links_in (Some links) = links.now
+
+abbrev pub held_in : Rust.Option (Bor (List ℕ)) → Bool
+held_in None = false
+held_in (Some links) = true
 
 -- where a lock is held at a REGION the links are there
 pub record Linked (rows forks links : List ℕ) (regions n : ℕ) (held : Bool) : Type 0 where

@@ -2,9 +2,10 @@
 use Rattle.std.specs.Prelude.{ℕ, false, List, [], ◌∷◌, ◌++◌, length, take, replicate}
 use Rattle.std.proofs.Math.Option.{Option, none, some}
 use Rattle.bundle.specs.Answer.{Answer, gives, refuses}
-use Rattle.bundle.specs.Commands.{Taken, read_at}
+use Rattle.bundle.specs.Commands.{read_at}
 use Rattle.bundle.specs.declared.command.AccessKind.TheVariants as Kind
 use Rattle.bundle.specs.declared.command.Range.{Range}
+use Rattle.bundle.specs.declared.command.Taken.{Taken}
 use Rattle.bundle.specs.declared.command.Command.TheVariants as Com
 use Rattle.order.specs.Labels.{label_of, compare_of}
 use Rattle.order.specs.Ranges.{shared_of}
@@ -14,8 +15,9 @@ use Rattle.order.specs.declared.label.Label.{Label}
 use Rattle.order.specs.declared.label.Order.{Order}
 use Rattle.order.specs.declared.label.Order.TheVariants as Ord
 use Rattle.verdict.specs.Judge.{judged_of}
-use Rattle.verdict.specs.declared.race.Verdict.{Verdict}
-use Rattle.verdict.specs.declared.race.Verdict.TheVariants as Ver
+use Rattle.std.specs.declared.option.Option as Rust
+use Rattle.std.specs.declared.option.Option.TheVariants.{Some, None}
+use Rattle.verdict.specs.declared.race.Race.{Race}
 use Rattle.verdict.specs.declared.race.Judgement.{Judgement}
 
 -- what an operation is asked, and what it answers
@@ -66,10 +68,10 @@ member1_later =
 unfoldable pub E : List ℕ
 E = root ++ member0 ++ member1
 
-unfoldable pub counts : ℕ → ℕ → ℕ → ℕ → Verdict → Reply
+unfoldable pub counts : ℕ → ℕ → ℕ → ℕ → Rust.Option Race → Reply
 counts chunks segments accesses races verdict =
     judged
-    (gives (record { chunks = chunks; segments = segments; accesses = accesses; races = races; verdict = verdict }))
+    (gives (record { chunks = chunks; segments = segments; accesses = accesses; races = races; least = verdict }))
 
 unfoldable pub range : ℕ → ℕ → ℕ → ℕ → Range
 range base stride count size = record { base = base; stride = stride; count = count; size = size }
@@ -102,7 +104,7 @@ table =
     -- P1 to P3
     row (judging E)
     (counts 3 6 2 1
-    (Ver.Least
+    (Some
     (record {
       witness = 0x100a;
       first = record { team = 1; member = 0; number = 0 };
@@ -112,7 +114,7 @@ table =
       second_site = 20;
       second_element = 0;
     })))
-    ∷ row (judging (root ++ member0 ++ member1_later)) (counts 3 6 2 0 Ver.RaceFree)
+    ∷ row (judging (root ++ member0 ++ member1_later)) (counts 3 6 2 0 None)
     ∷ row (judging []) (judged (refuses 10 0))
     -- P4, P5
     ∷ row (labelling E 0 0 1) (labelled (gives (triple 1 1 0 ∷ [])))

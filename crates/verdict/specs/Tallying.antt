@@ -1,6 +1,8 @@
 -- Inner: what the loops over all pairs of accesses compute, from the rows of the accesses and the bits of the matrix.
 use Rattle.std.specs.Prelude.{ℕ, zero, suc, ◌+◌, ◌*◌, ◌/◌, ◌%◌, ◌^◌, ◌≤◌, ◌<◌, ◌≡◌, Bool, true, false, cond, not, ◌&&◌, ◌||◌, List, length, eqb, ltb, leb}
 use Rattle.std.proofs.Math.Option.{Option, none, some}
+use Rattle.std.specs.declared.option.Option as Rust
+use Rattle.std.specs.declared.option.Option.TheVariants.{None, Some}
 use Rattle.bundle.specs.Lists.{from_option}
 use Rattle.bundle.specs.Locks.{common_lock}
 use Rattle.bundle.specs.Commands.{range_ok}
@@ -8,7 +10,7 @@ use Rattle.bundle.specs.declared.command.Range.{Range}
 use Rattle.bundle.specs.declared.index.Fork.{Fork}
 use Rattle.order.specs.Ranges.{shared_byte}
 use Rattle.order.specs.Pairs.{element_by}
-use Rattle.verdict.specs.Accesses.{lex_less, key_of, race_key, name_below, race_below}
+use Rattle.verdict.specs.Accesses.{lex_less, key_of, name_below, race_below}
 use Rattle.verdict.specs.Lineages.{Holder}
 use Rattle.verdict.specs.RaceLists.{common_counted}
 use Rattle.verdict.specs.Matrix.{bit_at, Within, TestWord}
@@ -18,7 +20,7 @@ use Rattle.verdict.specs.declared.race.Name.{Name}
 use Rattle.verdict.specs.declared.race.Race.{Race}
 use Rattle.verdict.specs.declared.rows.AccessRow.{AccessRow}
 use Rattle.verdict.specs.declared.pairs.Key.{Key}
-use Rattle.verdict.specs.declared.pairs.Packed.{Packed}
+use Rattle.verdict.specs.declared.pairs.Least.{Least}
 use Rattle.verdict.specs.declared.pairs.Tally.{Tally}
 use Rattle.verdict.specs.declared.pairs.Sum.{Sum}
 
@@ -35,21 +37,6 @@ pub record NameFits (n : Name) : Type 0 where
 pub record PackedAs (n : Name) (number : ℕ) : Type 0 where
   pub is : number ≡ packed n
   pub fits : NameFits n
-
--- the order of keys, with packed names
-abbrev pub packed_less : Packed → Packed → Bool
-packed_less a b =
-    ltb a.witness b.witness
-    || eqb a.witness b.witness
-    && (ltb a.first b.first || eqb a.first b.first && ltb a.second b.second)
-
-abbrev pub packed_key : ℕ → Name → Name → Packed
-packed_key witness first second = record { witness = witness; first = packed first; second = packed second }
-
-pub record KeyPackedAs (witness : ℕ) (first second : Name) (key : Packed) : Type 0 where
-  pub is : key ≡ packed_key witness first second
-  pub first_fits : NameFits first
-  pub second_fits : NameFits second
 
 -- the range and the name of a row
 abbrev pub row_range : AccessRow → Range
@@ -127,41 +114,45 @@ clash_race matrix fs one other =
 unfoldable pub pair_race : List ℕ → List Fork → AccessRow → AccessRow → Option Race
 pair_race matrix fs one other = cond (rows_meet one other) (clash_race matrix fs one other) none
 
--- whether a race, or that of a witness and two names, is above the key; all are where none is given
-abbrev pub above_at : Key → ℕ → Name → Name → Bool
-above_at key witness first second =
-    not key.given || lex_less (key_of key.witness key.first key.second) (key_of witness first second)
+-- whether the race of a witness and two names is above the key; all are where none is given
+abbrev pub above_at : Rust.Option Key → ℕ → Name → Name → Bool
+above_at None witness first second = true
+above_at (Some k) witness first second = lex_less (key_of k.witness k.first k.second) (key_of witness first second)
 
-unfoldable pub above_key : Key → Race → Bool
-above_key key r = not key.given || lex_less (key_of key.witness key.first key.second) (race_key r)
+abbrev pub above_key : Rust.Option Key → Race → Bool
+above_key key r = above_at key r.witness r.first r.second
 
--- whether a race takes the place of the least so far
-abbrev pub replaces : Key → Tally → Race → Bool
-replaces key t r = above_key key r && (not t.found || race_below r t.race)
+-- whether a race comes before the least so far, if there is one, and takes its place
+abbrev pub below_least : Rust.Option Race → Race → Bool
+below_least None r = true
+below_least (Some least) r = race_below r least
 
--- whether the race of two accesses comes after the least so far, if one was found: it does where the witness is above the least's, or is the
--- same and both names are above the least's first
-unfoldable pub comes_later : Bool → ℕ → Name → Name → Name → ℕ → Bool
-comes_later found least first one other witness =
-    found && (ltb least witness || eqb least witness && (name_below first one && name_below first other))
+abbrev pub replaces : Rust.Option Key → Tally → Race → Bool
+replaces key t r = above_key key r && below_least t.least r
+
+-- whether the race of two accesses comes after the least so far, of which the witness and the first name are given: it does where the
+-- witness is above the least's, or is the same and both names are above the least's first
+unfoldable pub comes_later : ℕ → Name → Name → Name → ℕ → Bool
+comes_later least first one other witness =
+    ltb least witness || eqb least witness && (name_below first one && name_below first other)
 
 -- one more race counted, and kept or not
 abbrev pub keeping : Tally → Race → Tally
-keeping t r = record { count = t.count + 1; found = true; race = r }
+keeping t r = record { count = t.count + 1; least = Some r }
 
 abbrev pub counting : Tally → Tally
-counting t = record { count = t.count + 1; found = t.found; race = t.race }
+counting t = record { count = t.count + 1; least = t.least }
 
 -- the least above the key is kept
-unfoldable pub add_race : Key → Tally → Race → Tally
+unfoldable pub add_race : Rust.Option Key → Tally → Race → Tally
 add_race key t r = cond (replaces key t r) (keeping t r) (counting t)
 
-unfoldable pub add_pair : Key → Tally → Option Race → Tally
+unfoldable pub add_pair : Rust.Option Key → Tally → Option Race → Tally
 add_pair key t none = t
 add_pair key t (some r) = add_race key t r
 
 -- an access with the first j
-unfoldable pub tally_row : List ℕ → List Fork → List ℕ → Key → AccessRow → Tally → ℕ → Tally
+unfoldable pub tally_row : List ℕ → List Fork → List ℕ → Rust.Option Key → AccessRow → Tally → ℕ → Tally
 tally_row matrix fs rows key one t zero = t
 tally_row matrix fs rows key one t (suc j) =
     add_pair key (tally_row matrix fs rows key one t j) (pair_race matrix fs one (access_row_at rows j))
@@ -174,36 +165,42 @@ pub record SideOf (name : Name) (rest side : ℕ) : Type 0 where
   pub name_in : name_in side ≡ name
   pub rest_in : side % 65536 ≡ rest
 
--- the tally that stands in five numbers: of each access of its race the name and the place of its row
+-- what the three numbers of a least race stand for: of each access the name and the place of its row
 abbrev pub row_in : List ℕ → ℕ → AccessRow
 row_in rows side = access_row_at rows (side % 1024)
 
-abbrev pub race_in_sum : List ℕ → Sum → Race
-race_in_sum rows s =
+abbrev pub least_race : List ℕ → Least → Race
+least_race rows l =
     record {
-      witness = s.witness;
-      first = name_in s.first;
-      first_site = (row_in rows s.first).site;
-      first_element = row_element (row_in rows s.first) s.witness;
-      second = name_in s.second;
-      second_site = (row_in rows s.second).site;
-      second_element = row_element (row_in rows s.second) s.witness;
+      witness = l.witness;
+      first = name_in l.first;
+      first_site = (row_in rows l.first).site;
+      first_element = row_element (row_in rows l.first) l.witness;
+      second = name_in l.second;
+      second_site = (row_in rows l.second).site;
+      second_element = row_element (row_in rows l.second) l.witness;
     }
 
 abbrev pub tally_in : List ℕ → Sum → Tally
-tally_in rows s = record { count = s.count; found = s.found; race = race_in_sum rows s }
+tally_in rows s = record { count = s.count; least = cond s.found (Some (least_race rows s.least)) None }
+
+abbrev pub least_key : Least → Key
+least_key l = record { witness = l.witness; first = name_in l.first; second = name_in l.second }
 
 -- one more race, counted and not kept
 abbrev pub counted_in : Sum → Sum
-counted_in s = record { count = s.count + 1; found = s.found; witness = s.witness; first = s.first; second = s.second }
+counted_in s = record { count = s.count + 1; found = s.found; least = s.least }
 
--- whether a race comes before the least so far, if one was found
+-- whether a race comes before the least so far, if there is one; and whether that of two accesses comes after it
 abbrev pub before_least : Sum → ℕ → Name → Name → Bool
 before_least s witness first second =
-    not s.found || lex_less (key_of witness first second) (key_of s.witness (name_in s.first) (name_in s.second))
+    not s.found || lex_less (key_of witness first second) (key_of s.least.witness (name_in s.least.first) (name_in s.least.second))
+
+abbrev pub after_least : Sum → Name → Name → ℕ → Bool
+after_least s one other witness = s.found && comes_later s.least.witness (name_in s.least.first) one other witness
 
 -- the race of the i-th and the j-th access, or none, is added
-pub record Adds (key : Key) (one : AccessRow) (i : ℕ) (other : AccessRow) (j : ℕ) (race : Option Race) (before after : Sum) : Type 0 where
+pub record Adds (key : Rust.Option Key) (one : AccessRow) (i : ℕ) (other : AccessRow) (j : ℕ) (race : Option Race) (before after : Sum) : Type 0 where
   pub added :
       (rows : List ℕ)
       → one ≡ access_row_at rows i
@@ -212,10 +209,10 @@ pub record Adds (key : Key) (one : AccessRow) (i : ℕ) (other : AccessRow) (j :
 
 -- nothing counted yet
 abbrev pub no_sum : Sum
-no_sum = record { count = 0; found = false; witness = 0; first = 0; second = 0 }
+no_sum = record { count = 0; found = false; least = record { witness = 0; first = 0; second = 0 } }
 
 -- each of the first n accesses with those before it
-unfoldable pub tally_all : List ℕ → List Fork → List ℕ → Key → ℕ → Tally
+unfoldable pub tally_all : List ℕ → List Fork → List ℕ → Rust.Option Key → ℕ → Tally
 tally_all matrix fs rows key zero = tally_in rows no_sum
 tally_all matrix fs rows key (suc i) = tally_row matrix fs rows key (access_row_at rows i) (tally_all matrix fs rows key i) i
 
@@ -275,5 +272,5 @@ pub record ClashWord (matrix : List ℕ) (fs : List Fork) (rows : List ℕ) (one
       ≡ (rows_meet one (access_row_at rows (first + k)) && rows_clash matrix fs one (access_row_at rows (first + k)))
 
 -- an access with those before `first`, and after it with those before `end`
-pub record BlockTallied (matrix : List ℕ) (fs : List Fork) (rows : List ℕ) (key : Key) (one : AccessRow) (first end : ℕ) (before after : Tally) : Type 0 where
+pub record BlockTallied (matrix : List ℕ) (fs : List Fork) (rows : List ℕ) (key : Rust.Option Key) (one : AccessRow) (first end : ℕ) (before after : Tally) : Type 0 where
   pub more : (t : Tally) → before ≡ tally_row matrix fs rows key one t first → after ≡ tally_row matrix fs rows key one t end

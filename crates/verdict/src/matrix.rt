@@ -1,4 +1,5 @@
 // Which nodes of a graph reach which: 512 rows of 512 bits in 8,192 words, 16 words a row.
+// Stays words and a count, not a struct: it would hold the words by `&mut`, and each contract would have to say that it holds them still.
 ghost use Rattle.std.specs.Prelude.{◌≡◌, ◌<◌};
 ghost use Rattle.verdict.specs.Matrix.{
   bit_at,
@@ -14,6 +15,7 @@ ghost use Rattle.verdict.specs.Matrix.{
 };
 
 // The bit in row i and column j.
+#[tactic(auto, unfolding(crate::specs::Matrix::bit_at))]
 pub fn bit(matrix: &[u32], i: usize, j: usize) -> bool
     requires { Within matrix.now i j }
     ensures { result ≡ bit_at matrix.now i j }
@@ -26,7 +28,7 @@ pub fn set_bit(matrix: &mut [u32], i: usize, j: usize)
     ensures { BitSet i j matrix.old matrix.new }
 {
     let place = 16 * i + j / 32;
-    matrix[place] = matrix[place] | (1 << (j % 32));
+    matrix[place] |= 1 << (j % 32);
 }
 
 // Every node reaches itself.
@@ -34,10 +36,8 @@ fn set_diagonal(matrix: &mut [u32], n: usize)
     requires { Square matrix.old n }
     ensures { DiagonalSet n matrix.old matrix.new }
 {
-    let mut i = 0;
-    while i < n {
+    for i in 0..n {
         set_bit(matrix, i, i);
-        i += 1;
     }
 }
 
@@ -46,10 +46,8 @@ fn join_row(matrix: &mut [u32], i: usize, k: usize)
     requires { Within matrix.old i k }
     ensures { RowJoined i k matrix.old matrix.new }
 {
-    let mut word = 0;
-    while word < 16 {
-        matrix[16 * i + word] = matrix[16 * i + word] | matrix[16 * k + word];
-        word += 1;
+    for word in 0..16 {
+        matrix[16 * i + word] |= matrix[16 * k + word];
     }
 }
 
@@ -67,10 +65,8 @@ fn pass(matrix: &mut [u32], n: usize, k: usize)
     requires { Square matrix.old n × (k < n) }
     ensures { Passed n k matrix.old matrix.new }
 {
-    let mut i = 0;
-    while i < n {
+    for i in 0..n {
         relax(matrix, i, k);
-        i += 1;
     }
 }
 
@@ -78,10 +74,8 @@ fn stages(matrix: &mut [u32], n: usize)
     requires { Square matrix.old n }
     ensures { Staged n matrix.old matrix.new }
 {
-    let mut k = 0;
-    while k < n {
+    for k in 0..n {
         pass(matrix, n, k);
-        k += 1;
     }
 }
 

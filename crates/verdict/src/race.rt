@@ -1,8 +1,7 @@
-// Races, judgements and the answers that carry them.
-use bundle::refusal::Cause;
+// Races and judgements.
 
-// An access is named by team, member and its number in the chunk from 0.
-#[derive(Clone, Copy)]
+// An access is named by team, member and its number in the chunk from 0, and names are compared in this order.
+#[derive(Clone, Copy, PartialEq, Eq, PartialOrd, Ord)]
 pub struct Name {
     pub team: u16,
     pub member: u8,
@@ -21,34 +20,12 @@ pub struct Race {
     pub second_element: u32,
 }
 
-#[derive(Clone, Copy)]
-pub enum Verdict {
-    RaceFree,
-    // The least race.
-    Least(Race),
-}
-
-// The counts of the bundle's chunks, segments, accesses and races, and the verdict.
+// The counts of the bundle's chunks, segments, accesses and races, and the least race, which a race-free bundle lacks.
 #[derive(Clone, Copy)]
 pub struct Judgement {
     pub chunks: u32,
     pub segments: u32,
     pub accesses: u32,
     pub races: u32,
-    pub verdict: Verdict,
-}
-
-// What judging a bundle gives.
-#[derive(Clone, Copy)]
-pub enum Judging {
-    Judged(Judgement),
-    Refused { place: usize, cause: Cause },
-}
-
-// What the next race above a key is.
-#[derive(Clone, Copy)]
-pub enum Next {
-    Found(Race),
-    Nothing,
-    Refused { place: usize, cause: Cause },
+    pub least: Option<Race>,
 }

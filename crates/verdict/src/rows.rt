@@ -5,7 +5,7 @@ ghost use Rattle.bundle.specs.Index.{Added};
 ghost use Rattle.verdict.specs.Working.{access_row_at, RowIn, Slim};
 
 // An access: its range and last byte, its name and site, the place of its segment among all, its kind (1 added where it writes, 2 where
-// it is atomic) and the locks that it holds.
+// it is atomic) and the locks that it holds. The kind stays a number: the loops over pairs test its bits in the packed words.
 #[derive(Clone, Copy)]
 pub struct AccessRow {
     pub base: u32,
@@ -31,6 +31,7 @@ pub fn word_at(words: &[u32], i: usize) -> u32
 }
 
 // The row of the i-th access.
+#[tactic(auto, unfolding(crate::specs::Working::access_row_at))]
 pub fn access_at(rows: &[u32], i: u32) -> AccessRow
     requires { RowIn rows.now i }
     ensures { result ≡ access_row_at rows.now i }

@@ -1,19 +1,18 @@
 -- `verdict::fill::kind_code` meets its contract. Assumes nothing.
+use Prim.Native.Nat.{◌%◌}
+use mathlib.Core.Path.{◌≡◌, refl}
+use Rattle.bundle.specs.Commands.{kind_byte}
+use Rattle.bundle.specs.declared.command.AccessKind.{AccessKind}
+use Rattle.bundle.specs.declared.command.AccessKind.TheVariants as Kind
 use Rattle.verdict.specs.Working.{kind_code}
 use Rattle.verdict.proofs.fill.kind_code.Goals as goal
 
-pub returns-in-Read : goal.returns-in-Read
-unfolding kind_code
-returns-in-Read c = rw c.in-Read.is
+low-bits : (k : AccessKind) → kind_byte k % 16 ≡ kind_code k
+unfolding kind_byte kind_code
+low-bits Kind.Read = refl
+low-bits Kind.Write = refl
+low-bits Kind.AtomicRead = refl
+low-bits Kind.AtomicWrite = refl
 
-pub returns-in-Write : goal.returns-in-Write
-unfolding kind_code
-returns-in-Write c = rw c.in-Write.is
-
-pub returns-in-AtomicRead : goal.returns-in-AtomicRead
-unfolding kind_code
-returns-in-AtomicRead c = rw c.in-AtomicRead.is
-
-pub returns-in-AtomicWrite : goal.returns-in-AtomicWrite
-unfolding kind_code
-returns-in-AtomicWrite c = rw c.in-AtomicWrite.is
+pub returns : goal.returns
+returns c = rw c.from.ensures (low-bits c.args.kind)

@@ -2,7 +2,7 @@
 use native.Mathlib.Omega.{arith}
 use mathlib.Core.Path.{refl}
 use Rattle.bundle.specs.Commands.{last_byte}
-use Rattle.verdict.proofs.NotedCases.{counted-some, sized-some, steps-below, start-below, last-below}
+use Rattle.verdict.proofs.NotedCases.{counted-some, sized-some, start-below, last-below}
 use Rattle.verdict.proofs.fill.last_byte.Goals as goal
 
 pub overflow_sub-steps : goal.overflow_sub-steps
@@ -10,9 +10,6 @@ overflow_sub-steps c = counted-some _ c.requires
 
 pub overflow_sub-size : goal.overflow_sub-size
 overflow_sub-size c = sized-some _ c.requires
-
-pub overflow_mul-result : goal.overflow_mul-result
-overflow_mul-result c = omega (arith, steps-below c.args.range c.requires)
 
 pub overflow_add-result : goal.overflow_add-result
 overflow_add-result c = omega (arith, start-below c.args.range c.requires)

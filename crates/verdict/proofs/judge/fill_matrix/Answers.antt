@@ -11,10 +11,6 @@ pub reach-requires : goal.reach-requires
 reach-requires c =
     (c.requires.0, matrix-long c.args.area.now c.requires.1)
 
-pub shape_of-area : goal.shape_of-area
-shape_of-area c =
-    (matrix-filled c.args.area.now c.requires.1 _ c.reach.ensures).len
-
 pub returns : goal.returns
 returns c =
     matrix-filled c.args.area.now c.requires.1 _ c.reach.ensures

@@ -19,4 +19,4 @@ returns-then-team_at-team c =
     c.if-team_at-team.true c.word_at.ensures
 
 pub returns : goal.returns
-returns c = c.fork_of.ensures ∙ ap (fork_for _ _) c.team_at-team.ensures
+returns c = c.link_to.ensures ∙ ap (fork_for _ _) c.team_at-team.ensures

@@ -4,11 +4,11 @@ use Rattle.verdict.proofs.pairs.add_clash.Goals as goal
 
 pub overflow_cast-byte : goal.overflow_cast-byte
 overflow_cast-byte c =
-    record { fits = byte_fits c.args.one c.args.other _ c.lowest.ensures c.requires.0 c.in-Byte.is }
+    record { fits = byte_fits c.args.one.row c.args.other.row _ c.lowest.ensures c.requires.0 c.in-Some.is }
 
-pub returns-in-Byte : goal.returns-in-Byte
-returns-in-Byte c =
-    clash-added _ _ _ c.lowest.ensures _ _ _ _ c.in-Byte.is c.add_at.ensures
+pub returns-in-Some : goal.returns-in-Some
+returns-in-Some c =
+    clash-added _ _ _ c.lowest.ensures _ _ _ _ c.in-Some.is c.add_at.ensures
 
-pub returns-in-Nothing : goal.returns-in-Nothing
-returns-in-Nothing c = clash-apart _ _ _ c.lowest.ensures _ _ _ _ c.in-Nothing.is
+pub returns-in-None : goal.returns-in-None
+returns-in-None c = clash-apart _ _ _ c.lowest.ensures _ _ _ _ c.in-None.is

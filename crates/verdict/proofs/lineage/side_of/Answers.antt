@@ -1,5 +1,0 @@
--- `verdict::lineage::side_of` meets its contract. Assumes nothing.
-use Rattle.verdict.proofs.lineage.side_of.Goals as goal
-
-pub returns : goal.returns
-returns c = rw c.word_at.ensures
