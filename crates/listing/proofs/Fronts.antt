@@ -50,8 +50,5 @@ module _ (f : ℕ → ℕ) where
       table-more-yet words (set now (2 * i) v) (2 * i + 1) w h (table-more-yet words now (2 * i) v (omega arith) e p) q
       ∙ ap (λ (k : ℕ). table f k ++ drop k words) twice
 
-  pub table-all : (words : List ℕ) (i n : ℕ) → i ≤ n → n ≤ i → {now : List ℕ} → now ≡ table f i ++ drop i words → now ≡ table f n ++ drop n words
-  table-all words i n a b e = let q : i ≡ n = omega arith in e ∙ ap (λ (k : ℕ). table f k ++ drop k words) q
-
   pub table-over-length : (words : List ℕ) (n : ℕ) → n ≤ length words → length (table f n ++ drop n words) ≡ length words
   table-over-length words n h = omega (arith, length-append (table f n) (drop n words), table-length f n, length-drop n words)

@@ -9,15 +9,17 @@ use lib.Dec.{leb}
 use lib.ListN.{length, get_or, take, drop, replicate}
 use lib.Seq.{get_or-drop, take_at, drop_at}
 use borrow.Author.Tests.{lt-ltb, le-ltb, leb-true}
+use Rattle.std.specs.declared.result.Result.{Result}
+use Rattle.std.specs.declared.result.Result.TheVariants.{Ok}
 use Rattle.sorting.specs.Order.{sorted}
 use Rattle.sorting.proofs.Insertion.{sorted-length}
-use Rattle.bundle.specs.Answer.{Answer, gives, refuses, number_of}
+use Rattle.bundle.specs.Answer.{Answer, gives, refuses}
 use Rattle.bundle.specs.Chunks.{Chunk, chunks_of}
 use Rattle.bundle.specs.Check.{check_of, Accepted}
 use Rattle.bundle.specs.Walk.{forks_of}
 use Rattle.bundle.specs.Index.{table, Indexed}
 use Rattle.bundle.specs.declared.index.Fork.{Fork}
-use Rattle.bundle.specs.declared.refusal.Cause.{Cause}
+use Rattle.bundle.specs.declared.refusal.Refusal.{Refusal}
 use Rattle.bundle.proofs.Tests.{and_left, and_right, false-is-true}
 use Rattle.bundle.proofs.Tables.{table-length}
 use Rattle.bundle.proofs.Reorder.{distinct-members}
@@ -183,17 +185,17 @@ module _ (s : List ℕ) {n m : ℕ} {chunks forks : List ℕ} (x : Indexed s n m
       (work names numbers spare : List ℕ) (f : Found) {names' numbers' spare' : List ℕ} {r : Listed}
       → Kept s f names numbers spare names' numbers' spare'
       → r ≡ listed_in n f
-      → outcome_of r work names' numbers' spare' ≡ listed_of s work names numbers spare
+      → outcome_of (Ok r) work names' numbers' spare' ≡ listed_of s work names numbers spare
   unfolding listed_of all_races totals_of
   listed-as work names numbers spare f {names'} {numbers'} {spare'} {r} k e =
       let totals : Totals = record { chunks = n; segments = f.segments; accesses = f.accesses; races = f.races } in
       let counts : totals ≡ totals_of (chunks_of s) =
       λ i. record { chunks = chunk_count s n m chunks forks x i; segments = k.segment_count i; accesses = k.access_count i; races = k.race_count i }
       in
-      let answer : report_of r ≡ gives (fits_in (chunks_of s) names numbers spare, totals_of (chunks_of s)) =
-      ap report_of e ∙ report totals f.whole ∙ ap₂ (λ (b : Bool) (t : Totals). given b t) k.test counts
+      let answer : report_of (Ok r) ≡ gives (fits_in (chunks_of s) names numbers spare, totals_of (chunks_of s)) =
+      ap (λ (l : Listed). report_of (Ok l)) e ∙ report totals f.whole ∙ ap₂ (λ (b : Bool) (t : Totals). given b t) k.test counts
       in
-      let all : outcome_of r work names' numbers' spare' ≡ all_races (chunks_of s) work names numbers spare =
+      let all : outcome_of (Ok r) work names' numbers' spare' ≡ all_races (chunks_of s) work names numbers spare =
       λ i.
       record {
         answer = answer i;
@@ -213,7 +215,7 @@ module _ (s : List ℕ) {n m : ℕ} {chunks forks : List ℕ} (x : Indexed s n m
       given : Bool → Totals → Answer (Bool × Totals)
       given b t = gives (b, t)
 
-      report : (t : Totals) (b : Bool) → report_of (cond b (Lis.Whole t) (Lis.TooMany t)) ≡ given b t
+      report : (t : Totals) (b : Bool) → report_of (Ok (cond b (Lis.Whole t) (Lis.TooMany t))) ≡ given b t
       report t true = refl
       report t false = refl
 
@@ -221,25 +223,25 @@ module _ (s : List ℕ) {n m : ℕ} {chunks forks : List ℕ} (x : Indexed s n m
       (names numbers spare : List ℕ) (f : Found) {names' numbers' spare' : List ℕ} {r : Listed}
       → Kept s f names numbers spare names' numbers' spare'
       → r ≡ listed_in n f
-      → Readable s r names' numbers'
-  listed-readable names numbers spare f {names'} {numbers'} k e = subst (λ (x : Listed). Readable s x names' numbers') (sym e) (go f.whole refl)
+      → Readable s (Ok r) names' numbers'
+  listed-readable names numbers spare f {names'} {numbers'} k e = subst (λ (x : Listed). Readable s (Ok x) names' numbers') (sym e) (go f.whole refl)
     where
       totals : Totals
       totals = record { chunks = n; segments = f.segments; accesses = f.accesses; races = f.races }
 
-      go : (b : Bool) → f.whole ≡ b → Readable s (cond b (Lis.Whole totals) (Lis.TooMany totals)) names' numbers'
+      go : (b : Bool) → f.whole ≡ b → Readable s (Ok (cond b (Lis.Whole totals) (Lis.TooMany totals))) names' numbers'
       go true h = k.read_back h
       go false h = tt
 
-module _ (s : List ℕ) (cause : Cause) {place : ℕ} (e : check_of s ≡ refuses (number_of cause) place) where
+module _ (s : List ℕ) {number place : ℕ} (e : check_of s ≡ refuses number place) where
   pub listing-refused :
-      (work names numbers spare : List ℕ) → refused_with (number_of cause) place work names numbers spare ≡ listed_of s work names numbers spare
+      (work names numbers spare : List ℕ) → refused_with number place work names numbers spare ≡ listed_of s work names numbers spare
   unfolding listed_of
   listing-refused work names numbers spare =
       sym
       (ap
       (λ (c : Answer (Unit {0})).
-      whichever c (λ u. all_races (chunks_of s) work names numbers spare) (λ number p. refused_with number p work names numbers spare))
+      whichever c (λ u. all_races (chunks_of s) work names numbers spare) (λ n p. refused_with n p work names numbers spare))
       e)
 
 pub listing-small :
@@ -266,7 +268,7 @@ listed-work s work other names numbers spare = go (check_of s)
     go (refuses number place) = refl
 
 pub listing-large :
-    (s work names numbers spare : List ℕ) (r : Listed) (used : List ℕ) {work' names' numbers' spare' : List ℕ}
+    (s work names numbers spare : List ℕ) (r : Result Listed Refusal) (used : List ℕ) {work' names' numbers' spare' : List ℕ}
     → 16384 ≤ length work
     → outcome_of r work names' numbers' spare' ≡ listed_of s work names numbers spare
     → length used ≡ length work

@@ -11,9 +11,9 @@ use lib.ListN.{length, set, drop, length-append}
 use lib.Seq.{sets, length-sets, sets-eq, set_out}
 use Rattle.bundle.specs.declared.index.Fork.{Fork}
 use Rattle.order.specs.Ranges.{shared_byte}
-use Rattle.order.specs.Pairs.{lowest_of}
-use Rattle.order.specs.declared.range.Lowest.{Lowest}
-use Rattle.order.specs.declared.range.Lowest.TheVariants as Lo
+use Rattle.std.specs.declared.option.Option as Rust
+use Rattle.std.specs.declared.option.Option.TheVariants.{Some, None}
+use Rattle.bundle.specs.Lists.{option_of}
 use Rattle.verdict.specs.Working.{access_row_at}
 use Rattle.verdict.specs.Tallying.{row_range, unordered}
 use Rattle.verdict.specs.declared.rows.AccessRow.{AccessRow}
@@ -57,17 +57,17 @@ pushed_front {xs} {before} p h =
     p.words ∙ sets-eq xs before 0 (omega arith) ∙ ap (λ (k : ℕ). xs ++ drop k before) q
 
 -- the race of two accesses by the answer of the lowest byte
-module _ (i j : ℕ) {l : Lowest} {o : Option ℕ} (e : lowest_of l ≡ o) where
+module _ (i j : ℕ) {l : Rust.Option ℕ} {o : Option ℕ} (e : option_of l ≡ o) where
   pub byte-pushed :
       {w number : ℕ} {before : List ℕ} {count : ℕ} {after : List ℕ} {total : ℕ}
-      → l ≡ Lo.Byte w
+      → l ≡ Some w
       → number ≡ number_for w i j
       → Pushes (number ∷ []) before count after total
       → Pushes (byte_numbers i j o) before count after total
-  byte-pushed {w} h q p = rw (sym e ∙ ap lowest_of h, ← q) p
+  byte-pushed {w} h q p = rw (sym e ∙ ap option_of h, ← q) p
 
-  pub byte-none : {before : List ℕ} {count : ℕ} → l ≡ Lo.Nothing → Pushes (byte_numbers i j o) before count before count
-  byte-none {before} {count} h = rw (sym e ∙ ap lowest_of h) (pushes-none before count)
+  pub byte-none : {before : List ℕ} {count : ℕ} → l ≡ None → Pushes (byte_numbers i j o) before count before count
+  byte-none {before} {count} h = rw (sym e ∙ ap option_of h) (pushes-none before count)
 
 -- the same behind the tests
 module _ (m : List ℕ) (one other : AccessRow) (left i j : ℕ) {t : Bool}

@@ -23,7 +23,7 @@ use Rattle.verdict.specs.Races.{NamedAccess, name_key, name_below, race_key, rac
 use Rattle.verdict.specs.Demand.{Ascending}
 use Rattle.verdict.specs.Matrix.{PathBits}
 use Rattle.verdict.specs.Working.{access_row_at, AccessTable}
-use Rattle.verdict.specs.Tallying.{packed, NameFits, packed_less, packed_key, row_name, row_range, rows_meet, rows_clash, race_from, race_between, race_at_byte, clash_race, pair_race}
+use Rattle.verdict.specs.Tallying.{packed, NameFits, row_name, row_range, rows_meet, rows_clash, race_from, race_between, race_at_byte, clash_race, pair_race}
 use Rattle.verdict.specs.declared.race.Race.{Race}
 use Rattle.verdict.specs.declared.rows.AccessRow.{AccessRow}
 use Rattle.verdict.proofs.Lexical.{name_key-tells}
@@ -31,7 +31,7 @@ use Rattle.verdict.proofs.AccessNames.{access_key}
 use Rattle.verdict.proofs.ListPlaces.{at_mem}
 use Rattle.verdict.proofs.RaceList.{race_of-elim, clash-elim}
 use Rattle.verdict.proofs.RowRaces.{listed, pair-races}
-use Rattle.verdict.proofs.PackedNames.{packed-key}
+use Rattle.verdict.proofs.PackedNames.{packed_less, packed-key}
 use Rattle.listing.specs.Listing.{number_for}
 use Rattle.listing.specs.Ranking.{order_of, Copied}
 use Rattle.listing.specs.Pushing.{race_byte}
@@ -207,7 +207,7 @@ module _
   rows-below :
       (w i j v k l : ℕ) → i < n → j < n → k < n → l < n
       → (w < v) ⊎ ((w ≡ v) × ((i < k) ⊎ ((i ≡ k) × (j < l))))
-      → packed_less (packed_key w (row_name (row i)) (row_name (row j))) (packed_key v (row_name (row k)) (row_name (row l))) ≡ true
+      → packed_less w (name_number i) (name_number j) v (name_number k) (name_number l) ≡ true
   rows-below w i j v k l a b c d (inl h) = or-one _ (lt-ltb w v h)
   rows-below w i j v k l a b c d (inr (e, inl h)) =
       or-other (ltb w v) (both (eq-eqb w v e) (or-one _ (lt-ltb (name_number i) (name_number k) (names-up i k h c))))

@@ -1,11 +1,14 @@
 -- All races of a bundle, in their order, as numbers.
 use Rattle.std.specs.Prelude.{ℕ, ◌+◌, ◌*◌, ◌/◌, ◌%◌, ◌≡◌, Bool, true, false, cond, ◌&&◌, List, [], ◌∷◌, ◌++◌, map, eqb, ltb, leb, length, get_or, take, drop, replicate}
+use Rattle.std.specs.declared.result.Result.{Result}
+use Rattle.std.specs.declared.result.Result.TheVariants.{Ok, Err}
 use Rattle.sorting.specs.Order.{sorted}
 use Rattle.sorting.specs.Searching.{index_of}
 use Rattle.bundle.specs.Answer.{Answer, gives, refuses, number_of}
 use Rattle.bundle.specs.Lists.{concat_map}
 use Rattle.bundle.specs.Chunks.{Chunk, chunks_of}
 use Rattle.bundle.specs.Check.{check_of}
+use Rattle.bundle.specs.declared.refusal.Refusal.{Refusal}
 use Rattle.order.specs.Pairs.{element_from}
 use Rattle.verdict.specs.Graph.{segments_of}
 use Rattle.verdict.specs.Races.{NamedAccess, accesses_of, races_of}
@@ -144,12 +147,12 @@ listing_of s work names numbers spare =
     (listed_of s (zeros work) names numbers spare)
 
 -- what the code's answer says: whether all races stand in the lent memory, and the counts
-abbrev pub report_of : Listed → Answer (Bool × Totals)
-report_of (Lis.Whole t) = gives (true, t)
-report_of (Lis.TooMany t) = gives (false, t)
-report_of (Lis.Refused place cause) = refuses (number_of cause) place
+abbrev pub report_of : Result Listed Refusal → Answer (Bool × Totals)
+report_of (Ok (Lis.Whole t)) = gives (true, t)
+report_of (Ok (Lis.TooMany t)) = gives (false, t)
+report_of (Err r) = refuses (number_of r.cause) r.place
 
-abbrev pub outcome_of : Listed → List ℕ → List ℕ → List ℕ → List ℕ → Outcome
+abbrev pub outcome_of : Result Listed Refusal → List ℕ → List ℕ → List ℕ → List ℕ → Outcome
 outcome_of r work names numbers spare =
     record { answer = report_of r; work = work; names = names; numbers = numbers; spare = spare }
 
@@ -158,7 +161,7 @@ abbrev pub races_in : Totals → List ℕ → List ℕ → List Race
 races_in t names numbers = map (race_in names) (take t.races numbers)
 
 -- a whole listing reads as the bundle's races, in their order
-abbrev pub Readable : List ℕ → Listed → List ℕ → List ℕ → Type 0
-Readable s (Lis.Whole t) names numbers = races_in t names numbers ≡ races_of (chunks_of s)
-Readable s (Lis.TooMany t) names numbers = Unit {0}
-Readable s (Lis.Refused place cause) names numbers = Unit {0}
+abbrev pub Readable : List ℕ → Result Listed Refusal → List ℕ → List ℕ → Type 0
+Readable s (Ok (Lis.Whole t)) names numbers = races_in t names numbers ≡ races_of (chunks_of s)
+Readable s (Ok (Lis.TooMany t)) names numbers = Unit {0}
+Readable s (Err r) names numbers = Unit {0}

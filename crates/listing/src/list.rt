@@ -11,9 +11,10 @@ ghost use Rattle.listing.specs.Settling.{AllPut, Settled, Kept, listed_in};
 
 use crate::names::{by_name, put_names};
 use crate::pairs::push_all;
-use bundle::check::{Indexing, index_bundle};
+use bundle::check::index_bundle;
+use bundle::index::Forks;
 use bundle::limits::{CHUNK_WORDS, FORK_WORDS};
-use bundle::refusal::Cause;
+use bundle::refusal::{Cause, Refusal};
 use sorting::sort::sort;
 use verdict::judge::{MATRIX_WORDS, WORK_WORDS, clear, fill_area};
 
@@ -35,10 +36,10 @@ pub enum Listed {
     Whole(Totals),
     // The lent memory does not suffice, and nothing stands in it.
     TooMany(Totals),
-    Refused { place: usize, cause: Cause },
 }
 
-// What stands in the lent memory: so many segments, accesses and races, and whether all of them.
+// What stands in the lent memory: so many segments, accesses and races, and whether all of them. Stays a flag: the numbers are those of the bundle in
+// either case.
 #[derive(Clone, Copy)]
 pub struct Found {
     pub segments: u32,
@@ -47,30 +48,21 @@ pub struct Found {
     pub whole: bool,
 }
 
-// Every word is 0 afterwards.
-fn clear_words(words: &mut [u64])
-    ensures { words.new ≡ replicate (length words.old) 0 }
-{
-    let mut i = 0;
-    while i < words.len() {
-        words[i] = 0;
-        i += 1;
-    }
-}
-
+// Stays with five numbers: what is needed and what is there, once each.
 fn fits(words: usize, races: usize, names: usize, numbers: usize, spare: usize) -> bool
     ensures { result ≡ (leb words names && (leb races numbers && leb (races / 2) spare)) }
 {
     (words <= names) & ((races <= numbers) & (races / 2 <= spare))
 }
 
-// Nothing stands in the lent memory.
+// Nothing stands in the lent memory. Stays three parameters, here and below: of a struct of three `&mut` a contract says
+// `lent.exit.1.0.now` in place of `numbers.new`.
 fn clear_all(names: &mut [u64], numbers: &mut [u64], spare: &mut [u64])
     ensures { (names.new ≡ zeros names.old) × (numbers.new ≡ zeros numbers.old) × (spare.new ≡ zeros spare.old) }
 {
-    clear_words(names);
-    clear_words(numbers);
-    clear_words(spare);
+    names.fill(0);
+    numbers.fill(0);
+    spare.fill(0);
 }
 
 // Puts the names into the lent memory, and the first numbers into their order.
@@ -87,7 +79,7 @@ fn put_all(
 {
     put_names(rows, accesses, names);
     sort(&mut numbers[..races], spare);
-    clear_words(spare);
+    spare.fill(0);
 }
 
 // Puts the names into the lent memory and the numbers of the races into their order, where there is room; else all of it is 0.
@@ -125,38 +117,30 @@ fn order_area(area: &[u32], n: u32, rows: &mut [u32])
 }
 
 // The numbers of the races in a filled area.
-fn push_area(
-    area: &[u32],
-    rows: &[u32],
-    n: u32,
-    forks: &[u64],
-    regions: u32,
-    numbers: &mut [u64],
-) -> usize
-    requires { TablesFit (matrix_part area.now) rows.now n × LineagesFit rows.now forks.now regions n × (16384 ≤ length area.now) }
-    ensures { Pushes (all_numbers (matrix_part area.now) (forks_in forks.now regions) rows.now n n) numbers.old 0 numbers.new result }
+fn push_area(area: &[u32], rows: &[u32], n: u32, forks: Forks<'_>, numbers: &mut [u64]) -> usize
+    requires { TablesFit (matrix_part area.now) rows.now n × LineagesFit rows.now forks.words.now forks.count n × (16384 ≤ length area.now) }
+    ensures { Pushes (all_numbers (matrix_part area.now) (forks_in forks.entry.words.now forks.entry.count) rows.now n n) numbers.old 0 numbers.new result }
 {
-    push_all(&area[..MATRIX_WORDS], rows, n, forks, regions, numbers)
+    push_all(&area[..MATRIX_WORDS], rows, n, forks, numbers)
 }
 
 // Lists the races of an accepted bundle with these REGIONs.
 fn list_accepted(
     bytes: &[u8],
-    forks: &[u64],
-    regions: u32,
+    forks: Forks<'_>,
     area: &mut [u32],
     names: &mut [u64],
     numbers: &mut [u64],
     spare: &mut [u64],
 ) -> Found
-    requires { Accepted bytes.now × RegionsOf bytes.now forks.now regions × (16384 ≤ length area.old) }
+    requires { Accepted bytes.now × RegionsOf bytes.now forks.words.now forks.count × (16384 ≤ length area.old) }
     ensures { Kept bytes.now result names.old numbers.old spare.old names.new numbers.new spare.new × (length area.new ≡ length area.old) }
 {
     let counts = fill_area(bytes, area);
     let accesses = counts.accesses;
     let mut rows = [0u32; 8192];
     order_area(area, accesses, &mut rows);
-    let races = push_area(area, &rows, accesses, forks, regions, numbers);
+    let races = push_area(area, &rows, accesses, forks, numbers);
     let whole = settle(&rows, accesses, races, names, numbers, spare);
     Found {
         segments: counts.segments,
@@ -188,22 +172,19 @@ fn list_in(
     names: &mut [u64],
     numbers: &mut [u64],
     spare: &mut [u64],
-) -> Listed
+) -> Result<Listed, Refusal>
     requires { 16384 ≤ length area.old }
     ensures { (outcome_of result area.old names.new numbers.new spare.new ≡ listed_of bytes.now area.old names.old numbers.old spare.old) × (length area.new ≡ length area.old) × Readable bytes.now result names.new numbers.new }
 {
     let mut chunks = [0u64; CHUNK_WORDS];
     let mut forks = [0u64; FORK_WORDS];
-    match index_bundle(bytes, &mut chunks, &mut forks) {
-        Indexing::Accepted {
-            chunks: count,
-            forks: regions,
-        } => listed_of(
-            count,
-            list_accepted(bytes, &forks, regions, area, names, numbers, spare),
-        ),
-        Indexing::Refused { place, cause } => Listed::Refused { place, cause },
-    }
+    let counts = index_bundle(bytes, &mut chunks, &mut forks)?;
+    let forks = Forks {
+        words: &forks,
+        count: counts.forks,
+    };
+    let found = list_accepted(bytes, forks, area, names, numbers, spare);
+    Ok(listed_of(counts.chunks, found))
 }
 
 // Lists all races of a bundle. `numbers` has a number for each race, in their order; `names` two words for each access, by which `race_in` reads
@@ -215,15 +196,15 @@ pub fn list_races(
     names: &mut [u64],
     numbers: &mut [u64],
     spare: &mut [u64],
-) -> Listed
+) -> Result<Listed, Refusal>
     ensures spare_value { listing_of bytes.now work.old names.old numbers.old spare.old ≡ outcome_of result work.new names.new numbers.new spare.new }
     ensures readable { Readable bytes.now result names.new numbers.new }
 {
     if work.len() < WORK_WORDS {
-        return Listed::Refused {
+        return Err(Refusal {
             place: 0,
             cause: Cause::WorkAreaTooSmall,
-        };
+        });
     }
     let listed = list_in(bytes, work, names, numbers, spare);
     clear(work);

@@ -1,4 +1,5 @@
 // The accesses of a bundle in the order of their names.
+// Stays a table and a count: the pairs go over the front of the same table by other counts, and would need a view for each.
 ghost use Rattle.std.specs.Prelude.{◌≡◌, ◌++◌, ◌+◌, ◌*◌, ◌≤◌, ◌<◌, length, drop, set};
 ghost use Rattle.bundle.specs.Index.{table};
 ghost use Rattle.verdict.specs.Tallying.{packed, row_name};
@@ -7,15 +8,22 @@ ghost use Rattle.listing.specs.Ranking.{RowsIn, name_word, order_of, Copied, sid
 use sorting::sort::sort;
 use verdict::rows::{AccessRow, access_at, add_access};
 
-// An access's name and its place in the table as one number: in the order of these numbers the names are in order.
-fn name_word(row: AccessRow, place: u32) -> u64
-    requires { place < 1024 }
-    ensures { result ≡ packed (row_name row) * 1024 + place }
+// An access's name as one number: in the order of these numbers the names are in order.
+fn packed_name(row: AccessRow) -> u64
+    ensures { result ≡ packed (row_name row) }
 {
     let team = row.team as u64;
     let member = row.member as u64;
     let number = row.number as u64;
-    (team * 16777216 + member * 65536 + number) * 1024 + place as u64
+    team * 16777216 + member * 65536 + number
+}
+
+// An access's name and its place in the table as one number.
+fn name_word(row: AccessRow, place: u32) -> u64
+    requires { place < 1024 }
+    ensures { result ≡ packed (row_name row) * 1024 + place }
+{
+    packed_name(row) * 1024 + place as u64
 }
 
 // The words of the first n accesses.
@@ -23,10 +31,8 @@ fn fill_words(rows: &[u32], n: u32, words: &mut [u64])
     requires { RowsIn rows.now n × (n ≤ length words.old) }
     ensures { words.new ≡ table (name_word rows.now) n ++ drop n words.old }
 {
-    let mut i = 0;
-    while i < n {
+    for i in 0..n {
         words[i as usize] = name_word(access_at(rows, i), i);
-        i += 1;
     }
 }
 
@@ -46,11 +52,9 @@ fn copy_rows(rows: &[u32], words: &[u64], n: u32, ordered: &mut [u32])
     requires { RowsIn rows.now n × RowsIn ordered.old n × (n ≤ length words.now) }
     ensures { Copied rows.now words.now n ordered.old ordered.new }
 {
-    let mut i = 0;
-    while i < n {
+    for i in 0..n {
         let place = (words[i as usize] % 1024) as u32;
         add_access(ordered, i, access_at(rows, place));
-        i += 1;
     }
 }
 
@@ -68,11 +72,7 @@ pub fn by_name(rows: &[u32], n: u32, ordered: &mut [u32])
 fn side_of(row: AccessRow) -> u64
     ensures { result ≡ side_of_row row }
 {
-    let team = row.team as u64;
-    let member = row.member as u64;
-    let number = row.number as u64;
-    let size = row.size as u64;
-    (team * 16777216 + member * 65536 + number) * 16777216 + size * 65536 + row.stride as u64
+    packed_name(row) * 16777216 + row.size as u64 * 65536 + row.stride as u64
 }
 
 // The base of its range and its site as one number.
@@ -97,9 +97,7 @@ pub fn put_names(rows: &[u32], n: u32, names: &mut [u64])
     requires { RowsIn rows.now n × (2 * n ≤ length names.old) }
     ensures { names.new ≡ table (word_of rows.now) (2 * n) ++ drop (2 * n) names.old }
 {
-    let mut i = 0;
-    while i < n {
+    for i in 0..n {
         put_access(names, i, access_at(rows, i));
-        i += 1;
     }
 }

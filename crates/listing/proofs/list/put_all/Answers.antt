@@ -1,5 +1,7 @@
 -- `listing::list::put_all` meets its contract. Assumes nothing.
-use mathlib.Core.Path.{sym}
+use mathlib.Core.Path.{◌≡◌, sym}
+use borrow.Author.Rules.{rules}
+use lib.ListN.{length, replicate}
 use lib.Seq.{length-take-le}
 use Rattle.listing.proofs.SettleLaws.{all-put}
 use Rattle.listing.proofs.list.put_all.Goals as goal
@@ -16,4 +18,5 @@ slice_bounds-sort-end-2 c = sym (length-take-le _ _ c.requires.2)
 pub returns : goal.returns
 returns c =
     let pre = c.requires in
-    all-put _ _ _ _ _ _ pre.2 pre.3 c.put_names.ensures c.sort.ensures c.spare-1.given c.clear_words.ensures
+    let cleared : c.fill.new.self ≡ replicate (length c.sort.new.spare) 0 = search rules in
+    all-put _ _ _ _ _ _ pre.2 pre.3 c.put_names.ensures c.sort.ensures c.spare-1.given cleared

@@ -4,8 +4,8 @@ use lib.ListN.{length-replicate}
 use Rattle.verdict.proofs.LinkLaws.{all-around}
 use Rattle.listing.proofs.pairs.push_all.Goals as goal
 
-pub link-held-requires : goal.link-held-requires
-link-held-requires c =
+pub linked-links-requires : goal.linked-links-requires
+linked-links-requires c =
     let pre = c.requires in
     record {
       few = pre.0.few;
@@ -15,4 +15,4 @@ link-held-requires c =
     }
 
 pub push_rows-requires : goal.push_rows-requires
-push_rows-requires c = let pre = c.requires in (pre.0, all-around pre.1 c.link-held.ensures)
+push_rows-requires c = let pre = c.requires in (pre.0, all-around pre.1 c.linked-links.ensures)
