@@ -1,17 +1,16 @@
 -- How long the lines are, by the widths of the numbers that they show. Assumes nothing.
-use mathlib.Core.Path.{◌≡◌, refl, sym, subst}
+use mathlib.Core.Path.{◌≡◌, refl}
 use mathlib.Core.List.{List, ◌++◌}
 use Prim.Native.Nat.{ℕ, ◌+◌, ◌≤◌, ◌<◌}
 use Prim.Native.String.{String}
 use native.Mathlib.Omega.{arith}
-use lib.ListN.{length, take, length-append}
+use lib.ListN.{length, length-append}
 use Rattle.verdict.specs.declared.race.Name.{Name}
 use Rattle.verdict.specs.declared.race.Race.{Race}
 use Rattle.text.specs.Digits.{ascii, decimal, hexadecimal, width_of}
 use Rattle.text.specs.Lines.{line_end, name_text, counts_line, race_line, pairs_line}
-use Rattle.text.specs.Inner.{Extended, access_text}
-use Rattle.text.proofs.Widths.{two, width-most}
-use Rattle.text.proofs.Reading.{length_digits}
+use Rattle.text.specs.Inner.{access_text}
+use Rattle.text.proofs.Widths.{length_digits, two, width-most}
 
 -- at most so many bytes
 pub record Within (k : ℕ) (xs : List ℕ) : Type 0 where
@@ -35,6 +34,10 @@ short n h = record { most = omega (arith, length_digits 10 (width_of 10 n) n, wi
 
 pub long : (n : ℕ) → n < 4294967296 → Within 10 (decimal n)
 long n h = record { most = omega (arith, length_digits 10 (width_of 10 n) n, width-most 10 two 9 n (omega arith)) }
+
+-- a number of 64 bits
+pub longest : (n : ℕ) → n < 18446744073709551616 → Within 20 (decimal n)
+longest n h = record { most = omega (arith, length_digits 10 (width_of 10 n) n, width-most 10 two 19 n (omega arith)) }
 
 witness : (n : ℕ) → Within 8 (hexadecimal n)
 witness n = record { most = omega (arith, length_digits 16 8 n) }
@@ -82,11 +85,3 @@ counts-length chunks segments accesses c s a =
 pub pairs-length : (n : ℕ) → n < 4294967296 → Within 17 (pairs_line n)
 unfolding pairs_line
 pairs-length n h = word "pairs " 6 refl then long n h then end
-
--- a number of 32 bits in an array of its own
-module _ {s t : List ℕ} {r most n : ℕ} (e : Extended s t 0 r most (decimal n)) (few : n < 4294967296) where
-  pub piece-text : take r t ≡ decimal n
-  piece-text = e.text
-
-  pub piece-short : length (take r t) ≤ 10
-  piece-short = subst (λ (xs : List ℕ). length xs ≤ 10) (sym piece-text) (long n few).most

@@ -1,140 +1,52 @@
--- Making a line: digits and words behind its first bytes. Assumes nothing.
+-- Making a line: digits written into their room, and of five digits those that count. Assumes nothing.
 use mathlib.Core.Path.{◌≡◌, refl, sym, ap, ap₂, ◌∙◌}
-use mathlib.Core.List.{List, [], ◌∷◌, ◌++◌, append_assoc, append-nil}
+use mathlib.Core.List.{List, ◌∷◌, ◌++◌}
 use Prim.Native.Nat.{ℕ, zero, suc, ◌+◌, ◌-◌, ◌*◌, ◌/◌, ◌%◌, ◌^◌, ◌≤◌, ◌<◌}
-use native.Mathlib.Nat.{suc-add, add-suc, add-zero, sub-zero, sub_self, div-one, div-div-eq-div-mul, mul-div-mul_right, pow-zero, pow-suc}
-use native.Mathlib.Numerals.{add-one, unary_clauses}
+use native.Mathlib.Nat.{suc-add, sub-zero, sub_self, div-one, div-div-eq-div-mul, mul-div-mul_right, pow-zero, pow-suc}
 use native.Mathlib.Omega.{arith}
 use lib.Pow.{pow-add}
-use lib.ListN.{length, take, drop, get_or, set, length-set, length-append}
-use lib.Seq.{take-suc, take-suc-set, take-set-lt, take-append-add, take_at, take-take, take-length, take-paste, paste, length-paste, set_at, append_snoc, length-take-le, sets, sets-eq, length-sets}
-use Rattle.bundle.specs.Commands.{written}
+use lib.ListN.{length, take, drop, set, length-set}
+use lib.Seq.{drop-length, take-take, take-append-add, length-take-le}
+use borrow.Rule.Slice.PartMut.{put_mid}
+use Rattle.std.proofs.lemmas.Slice.{take-put_mid}
+use Rattle.std.proofs.lemmas.List.{drop-set}
 use Rattle.text.specs.Digits.{digit_byte, digits, decimal}
-use Rattle.text.specs.Inner.{Extended, Width}
+use Rattle.text.specs.Inner.{Width}
 use Rattle.text.proofs.Widths.{positive}
 
--- one piece, and another behind it
-pub extended_then : {s t u : List ℕ} {at m n j k : ℕ} {xs ys : List ℕ} → Extended s t at m j xs → Extended t u m n k ys
-    → Extended s u at n (j + k) (xs ++ ys)
-extended_then {s} {at = at} {xs = xs} {ys = ys} p q =
-    record {
-      text = q.text ∙ ap (λ (l : List ℕ). l ++ ys) p.text ∙ append_assoc (take at s) xs ys;
-      long = omega arith;
-      kept = q.kept ∙ p.kept;
-    }
-
--- the same bytes, said otherwise
-pub extended-as : {s t : List ℕ} {at n j : ℕ} {xs ys : List ℕ} (k : ℕ) → j ≤ k → xs ≡ ys → Extended s t at n j xs → Extended s t at n k ys
-extended-as {s} {at = at} k h e p = record { text = p.text ∙ ap (λ (l : List ℕ). take at s ++ l) e; long = omega arith; kept = p.kept }
-
--- fewer bytes than their limit says
-pub extended-short : {s t : List ℕ} {at n j : ℕ} {xs : List ℕ} (k : ℕ) → at ≤ length s → n ≤ length t → length xs ≤ k → Extended s t at n j xs → Extended s t at n k xs
-extended-short {s} {t} {at} {n} {xs = xs} k h l e p =
-    record {
-      text = p.text;
-      long = omega (arith, length-take-le n t l, ap length p.text, length-append (take at s) xs, length-take-le at s h);
-      kept = p.kept;
-    }
-
--- one byte
-pub byte_more : (s : List ℕ) (at b : ℕ) → at < length s → Extended s (set s at b) at (at + 1) 1 (b ∷ [])
-byte_more s at b h = record { text = rw (add-one at) (take-suc-set s at b h); long = omega arith; kept = length-set s at b }
-
--- a word
-pub word-written : (s word : List ℕ) {t : List ℕ} (at : ℕ) → at + length word ≤ length s → t ≡ written s at word → Extended s t at (at + length word) (length word) word
-unfolding written
-word-written s word at room e =
-    let whole = take-length word in
-    let pasted : written s at word ≡ paste s at word (length word) = ap (λ (l : List ℕ). take at s ++ l ++ drop (at + length word) s) (sym whole) in
-    record {
-      text = rw (e, pasted) (take-paste s at word (length word) (omega arith) (omega arith) ∙ ap (λ (l : List ℕ). take at s ++ l) whole);
-      long = omega arith;
-      kept = ap length (e ∙ pasted) ∙ length-paste s at word (length word) room (omega arith);
-    }
-
 -- digits written from the last to the first: those from place `i` on are there
-pub record Filled (s t : List ℕ) (base width n at i rest : ℕ) : Type 0 where
-  pub low : i ≤ width
-  pub same : length t ≡ length s
-  pub left : rest ≡ n / base ^ (width - i)
-  pub done : take (at + width) t ≡ take (at + i) s ++ digits base (width - i) n
+pub record Filled (room : List ℕ) (base number i rest : ℕ) : Type 0 where
+  pub left : rest ≡ number / base ^ (length room - i)
+  pub done : drop i room ≡ digits base (length room - i) number
 
-pub filled_none : (s : List ℕ) (base width n at : ℕ) → Filled s s base width n at width n
+pub filled_none : (room : List ℕ) (base number : ℕ) → Filled room base number (length room) number
 unfolding digits
-filled_none s base width n at =
+filled_none room base number =
     record {
-      low = omega arith;
-      same = refl;
-      left = rw (sub_self width, pow-zero base) (sym (div-one n));
-      done = rw (sub_self width) (sym (append-nil (take (at + width) s)));
+      left = rw (sub_self (length room), pow-zero base) (sym (div-one number));
+      done = rw (sub_self (length room)) (drop-length room);
     }
 
-fill-back : (s t : List ℕ) (at e d : ℕ) (ds : List ℕ) → at < e → at < length s → take e t ≡ take (suc at) s ++ ds
-    → take e (set t at d) ≡ take at s ++ d ∷ ds
-fill-back s t at e d ds h room done =
-    take-set-lt e t at d h
-    ∙ ap (λ (l : List ℕ). set l at d) (done ∙ ap (λ (l : List ℕ). l ++ ds) (take-suc s at 0 room) ∙ append_snoc (take at s) (get_or s at 0) ds)
-    ∙ set_at (take at s) (get_or s at 0) ds d at (length-take-le at s (omega arith))
-
-filled-step : (s t : List ℕ) (base k n at j rest d : ℕ) → at + (suc j + k) ≤ length s → rest ≡ n / base ^ k → d ≡ digit_byte (rest % base)
-    → take (at + (suc j + k)) t ≡ take (at + suc j) s ++ digits base k n
-    → take (at + (suc j + k)) (set t (at + j) d) ≡ take (at + j) s ++ digits base (suc k) n
+pub filled_more : {room : List ℕ} {base number i rest : ℕ} (d : ℕ) → 0 < i → i ≤ length room → Filled room base number i rest → d ≡ digit_byte (rest % base)
+    → Filled (set room (i - 1) d) base number (i - 1) (rest / base)
 unfolding digits
-filled-step s t base k n at j rest d room left e done =
-    fill-back s t (at + j) (at + (suc j + k)) d (digits base k n) (omega arith) (omega arith)
-    (done ∙ rw (add-suc at j))
-    ∙ ap (λ (x : ℕ). take (at + j) s ++ x ∷ digits base k n) (e ∙ ap (λ (x : ℕ). digit_byte (x % base)) left)
-
-pub filled_more : {s t : List ℕ} {base width n at i rest : ℕ} (d : ℕ) → at + width ≤ length s → 0 < i → Filled s t base width n at i rest
-    → d ≡ digit_byte (rest % base) → Filled s (set t (at + (i - 1)) d) base width n at (i - 1) (rest / base)
-filled_more {s} {t} {base} {width} {n} {at} {i} {rest} d room h f e =
-    let k : width - (i - 1) ≡ suc (width - i) = omega arith in
-    let w : suc (i - 1) + (width - i) ≡ width = omega arith in
-    let one : suc (i - 1) ≡ i = omega arith in
+filled_more {room} {base} {number} {i} {rest} d some h f e =
+    let k : length (set room (i - 1) d) - (i - 1) ≡ suc (length room - i) = omega (arith, length-set room (i - 1) d) in
+    let one : i - 1 + 1 ≡ i = omega arith in
     record {
-      low = omega arith;
-      same = length-set t (at + (i - 1)) d ∙ f.same;
       left =
           ap (λ (x : ℕ). x / base) f.left
-          ∙ div-div-eq-div-mul n (base ^ (width - i)) base
-          ∙ rw (k, pow-suc base (width - i));
+          ∙ div-div-eq-div-mul number (base ^ (length room - i)) base
+          ∙ rw (k, pow-suc base (length room - i));
       done =
-          let step = filled-step s t base (width - i) n at (i - 1) rest d (rw w room) f.left e (rw (w, one) f.done) in
-          rw k (rw w at step);
+          drop-set room (i - 1) d (omega arith)
+          ∙ rw (one, k) (ap₂ (λ (x : ℕ) (l : List ℕ). x ∷ l) (e ∙ ap (λ (x : ℕ). digit_byte (x % base)) f.left) f.done);
     }
 
-pub filled-all : {s t : List ℕ} {base width n at rest : ℕ} (i : ℕ) → i ≤ 0 → Filled s t base width n at i rest
-    → Extended s t at (at + width) width (digits base width n)
-filled-all {s} {base = base} {width} {n} {at} i h f =
+pub filled-all : {room : List ℕ} {base number rest n : ℕ} (i : ℕ) → i ≤ 0 → length room ≡ n → Filled room base number i rest → room ≡ digits base n number
+filled-all {room} i h e f =
     let none : i ≡ 0 = omega arith in
-    record {
-      text = f.done ∙ rw (none, add-zero at, sub-zero width);
-      long = omega arith;
-      kept = f.same;
-    }
-
-pub decimal-all : {s t : List ℕ} {at n w : ℕ} → Width n w 20 → Extended s t at (at + w) w (digits 10 w n) → Extended s t at (at + w) 20 (decimal n)
-decimal-all {n = n} width e = extended-as 20 width.small (ap (λ (k : ℕ). digits 10 k n) width.exact) e
-
--- five digits at once
-five-sets : (s : List ℕ) (at a b c d e : ℕ) → set (set (set (set (set s at a) (at + 1) b) (at + 2) c) (at + 3) d) (at + 4) e ≡ sets s at (a ∷ b ∷ c ∷ d ∷ e ∷ [])
-five-sets s at a b c d e = simp unary_clauses
-
-pub five-more : (s : List ℕ) (at a b c d e n : ℕ) → at + 5 ≤ length s → a ≡ digit_byte (n / 10000 % 10) → b ≡ digit_byte (n / 1000 % 10)
-    → c ≡ digit_byte (n / 100 % 10) → d ≡ digit_byte (n / 10 % 10) → e ≡ digit_byte (n % 10)
-    → Extended s (set (set (set (set (set s at a) (at + 1) b) (at + 2) c) (at + 3) d) (at + 4) e) at (at + 5) 5 (digits 10 5 n)
-unfolding digits
-five-more s at a b c d e n room ea eb ec ed ee =
-    rw (five-sets s at a b c d e)
-    record {
-      text =
-          ap (take (at + 5)) (sets-eq (a ∷ b ∷ c ∷ d ∷ e ∷ []) s at room)
-          ∙ take_at (take at s ++ (a ∷ b ∷ c ∷ d ∷ e ∷ [])) (drop (at + 5) s) (at + 5)
-          (simp (length-append, length-take-le at s (omega arith)))
-          ∙ rw (ea, eb, ec, ed, ee, div-one n);
-      long = omega arith;
-      kept = length-sets s at (a ∷ b ∷ c ∷ d ∷ e ∷ []);
-    }
+    rw (← e) (rw (none, sub-zero (length room)) at f.done)
 
 -- digits of a number at a larger width: the first ones, once zeros are put behind it
 pub digits-shifted : (base w j n : ℕ) → 0 < base ^ j → take w (digits base (w + j) (n * base ^ j)) ≡ digits base w n
@@ -147,19 +59,16 @@ digits-shifted base (suc w) j n h =
     (digits-shifted base w j n h))
 
 -- a number written at five digits, once zeros are put behind it: the first ones are its own
-pub short-all : {s t : List ℕ} {at : ℕ} (n w r : ℕ) → at ≤ length s → Width n w 5 → r ≡ 10 ^ (5 - w) → Extended s t at (at + 5) 5 (digits 10 5 (n * r))
-    → Extended s t at (at + w) 5 (decimal n)
-short-all {s} {t} {at} n w r room width e five =
+pub short-digits : (n w r : ℕ) → Width n w 5 → r ≡ 10 ^ (5 - w) → take w (digits 10 5 (n * r)) ≡ decimal n
+short-digits n w r width e =
     let whole : w + (5 - w) ≡ 5 = omega arith in
-    let prefix : length (take at s) ≡ at = length-take-le at s room in
-    record {
-      text =
-          sym (take-take (at + w) (at + 5) t (omega arith))
-          ∙ ap (take (at + w)) five.text
-          ∙ ap (λ (k : ℕ). take (k + w) (take at s ++ digits 10 5 (n * r))) (sym prefix)
-          ∙ take-append-add (take at s) (digits 10 5 (n * r)) w
-          ∙ ap (λ (l : List ℕ). take at s ++ l)
-          (rw (e, ← width.exact) (rw whole at (digits-shifted 10 w (5 - w) n (positive (5 - w)))));
-      long = omega arith;
-      kept = five.kept;
-    }
+    rw (e, ← width.exact) (rw whole at (digits-shifted 10 w (5 - w) n (positive (5 - w))))
+
+-- the first bytes of some that were copied behind the first ones of a line
+pub front-pushed : (s xs ys : List ℕ) (at size : ℕ) → at + length xs ≤ length s → size ≤ length xs → ys ≡ xs
+    → take (at + size) (put_mid at (at + length xs - at) s ys) ≡ take at s ++ take size xs
+front-pushed s xs ys at size room few e =
+    sym (take-take (at + size) (at + length xs) (put_mid at (at + length xs - at) s ys) (omega arith))
+    ∙ ap (take (at + size)) (take-put_mid at (at + length xs - at) s ys (at + length xs) (omega (arith, ap length e)) (omega arith) ∙ ap (λ (l : List ℕ). take at s ++ l) e)
+    ∙ ap (λ (k : ℕ). take (k + size) (take at s ++ xs)) (sym (length-take-le at s (omega arith)))
+    ∙ take-append-add (take at s) xs size

@@ -16,7 +16,7 @@ use Rattle.verdict.specs.declared.race.Race.{Race}
 use Rattle.verdict.proofs.RaceElements.{with_elements}
 use Rattle.text.specs.Digits.{ascii, digit_byte, digits, width_of, decimal, hexadecimal}
 use Rattle.text.specs.Lines.{line_end, name_text, race_line}
-use Rattle.text.proofs.Widths.{width_some, width_fits, width-least, two}
+use Rattle.text.proofs.Widths.{length_digits, width_some, width_fits, width-least, two}
 use Rattle.text.proofs.LineEnds.{From, digits_from}
 
 -- a digit's value, by its byte
@@ -35,11 +35,6 @@ digit_value d h = go (dec_lt d 10)
 pub number_in : ℕ → List ℕ → ℕ
 number_in base [] = 0
 number_in base (byte ∷ bytes) = value_of byte * base ^ length bytes + number_in base bytes
-
-pub length_digits : (base k n : ℕ) → length (digits base k n) ≡ k
-unfolding digits
-length_digits base zero n = refl
-length_digits base (suc k) n = ap suc (length_digits base k n)
 
 module _ (base : ℕ) (low : 2 ≤ base) (high : base ≤ 16) where
   power-some : (k : ℕ) → 0 < base ^ k

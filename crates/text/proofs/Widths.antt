@@ -9,10 +9,16 @@ use native.Mathlib.Decide.{dec_lt}
 use native.Mathlib.Omega.{arith}
 use borrow.Author.Tests.{lt-ltb, le-ltb, lt-leb, le-leb}
 use lib.Dec.{leb}
-use lib.ListN.{get_or}
+use lib.ListN.{length, get_or}
 use mir.Val.{bool_byte}
-use Rattle.text.specs.Digits.{width_within, width_of}
+use Rattle.text.specs.Digits.{digits, width_within, width_of}
 use Rattle.text.specs.Inner.{Width}
+
+-- digits are as many as their width says
+pub length_digits : (base k n : ℕ) → length (digits base k n) ≡ k
+unfolding digits
+length_digits base zero n = refl
+length_digits base (suc k) n = ap suc (length_digits base k n)
 
 module _ (base : ℕ) (two : 2 ≤ base) where
   smaller : (n : ℕ) → base ≤ n → n / base < n

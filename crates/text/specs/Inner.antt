@@ -1,14 +1,8 @@
--- What the inner functions of making a line promise.
-use Rattle.std.specs.Prelude.{◌≡◌, ℕ, ◌+◌, ◌≤◌, List, ◌++◌, length, take}
+-- What the inner functions of making a line promise: how wide a number is, and the text of an access.
+use Rattle.std.specs.Prelude.{◌≡◌, ℕ, ◌≤◌, List, ◌++◌}
 use Rattle.verdict.specs.declared.race.Name.{Name}
 use Rattle.text.specs.Digits.{ascii, decimal, width_of}
 use Rattle.text.specs.Lines.{name_text}
-
--- bytes, at most so many as `most` says, behind the first ones of a line; what stands after them does not count, and the array keeps its length
-pub record Extended (before after : List ℕ) (at next most : ℕ) (bytes : List ℕ) : Type 0 where
-  pub text : take next after ≡ take at before ++ bytes
-  pub long : next ≤ at + most
-  pub kept : length after ≡ length before
 
 -- how many digits a number has in decimal, at most so many as `most` says
 pub record Width (number r most : ℕ) : Type 0 where

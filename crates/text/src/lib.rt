@@ -2,6 +2,7 @@
 #![tactic(auto)]
 
 mod digits;
+pub mod line;
 pub mod lines;
-pub mod pieces;
+mod pieces;
 pub mod sides;

@@ -1,7 +1,0 @@
--- `text::pieces::put_part` meets its contract. Assumes nothing.
-use Rattle.text.proofs.Making.{extended_then, byte_more}
-use borrow.Author.Rules.{rules}
-use Rattle.text.proofs.pieces.put_part.Goals as goal
-
-pub returns : goal.returns
-returns c = extended_then (byte_more _ _ _ (search rules)) c.put_short.ensures
