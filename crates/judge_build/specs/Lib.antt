@@ -1,3 +1,2 @@
 -- What the program judge_build reads.
 pub mod Kind
-pub mod Reading

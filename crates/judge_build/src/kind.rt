@@ -13,14 +13,14 @@ pub const PATH_MAX: usize = 4096;
 
 const LAST: usize = PATH_MAX - 1;
 
-// Whether what was asked, where it was answered so and gave this mode, is a regular file.
-fn means_regular(status: i32, mode: u32) -> bool
-    ensures { result ≡ is_regular status mode }
+// Whether what was asked, where it was answered and gave this mode, is a regular file.
+fn means_regular(mode: Option<u32>) -> bool
+    ensures { result ≡ is_regular mode }
 {
-    if status < 0 {
-        return false;
+    match mode {
+        Some(mode) => mode / 4096 % 16 == 8,
+        None => false,
     }
-    mode / 4096 % 16 == 8
 }
 
 // The text of a path, up to its first 0 byte, where it is text.
@@ -33,17 +33,14 @@ pub fn text_of(path: &[u8; PATH_MAX]) -> Option<&str>
     }
 }
 
-// Whether a path is of a regular file, or of a link to one. Std has paths of text alone: of what is named by other bytes it cannot be asked.
-fn is_regular_at<R: Files>(rt: &R, path: &[u8; PATH_MAX]) -> bool
+// The mode of the file of a path, or of what a link of that path leads to. Std has paths of text alone: of what is named by other bytes it
+// cannot be asked.
+fn mode_at<R: Files>(rt: &R, path: &[u8; PATH_MAX]) -> Option<u32>
     requires { IsEnded path.now }
 {
-    let Some(text) = text_of(path) else {
-        return means_regular(-1, 0);
-    };
-    match fs::metadata(rt, text) {
-        Ok(found) => means_regular(0, found.mode()),
-        Err(_) => means_regular(-1, 0),
-    }
+    let text = text_of(path)?;
+    let found = fs::metadata(rt, text).ok()?;
+    Some(found.mode())
 }
 
 // A name as a path: its bytes, and then zeros. A longer one than a path may be is taken for an empty one: neither is the name of a file.
@@ -63,5 +60,5 @@ pub fn path_of(name: &[u8]) -> [u8; PATH_MAX]
 // Whether a name is of a regular file, or of a link to one.
 pub fn is_regular<R: Files>(rt: &R, name: &[u8]) -> bool {
     let path = path_of(name);
-    is_regular_at(rt, &path)
+    means_regular(mode_at(rt, &path))
 }

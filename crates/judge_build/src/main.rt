@@ -6,30 +6,33 @@ mod file;
 mod kind;
 mod names;
 
-use file::{Going, print_line};
+use file::print_line;
 use names::{judge_arguments, judge_input};
 use telling::arguments::has_argument;
 use tray::line::put_build;
 use tray::tell::Told;
+use tray::word::Word;
 
-// The build's line, if all lines before it were written.
-fn finish<P: Print>(to: &P, going: Going) {
-    if !going.on {
-        return;
-    }
-    let word = going.word;
+// The build's line.
+fn finish<P: Print>(to: &P, word: Word) {
     let mut line = [0u8; 256];
     let told = Told {
         word,
         line: put_build(word, &mut line, 0),
     };
-    print_line(to, told, &line);
+    let _ = print_line(to, told, &line);
+}
+
+// The word of the build whose files are named, if all of their lines were written.
+fn judge_all(rt: &HostRuntime) -> Option<Word> {
+    if has_argument(rt, 1) {
+        return judge_arguments(rt);
+    }
+    judge_input(rt)
 }
 
 fn main(rt: HostRuntime) {
-    if has_argument(&rt, 1) {
-        finish(&rt, judge_arguments(&rt));
-        return;
+    if let Some(word) = judge_all(&rt) {
+        finish(&rt, word);
     }
-    finish(&rt, judge_input(&rt));
 }

@@ -11,11 +11,11 @@ use lib.Dec.{leb}
 use lib.ListN.{length, get_or, take, drop, length-append, length-drop, drop_of_length-le}
 use lib.Seq.{drop-cons, append_snoc, take_at, drop-append-add, drop-drop}
 use Rattle.bundle.specs.Lists.{back_to_back}
-use Rattle.bundle.specs.Answer.{Answer, gives, refuses}
-use Rattle.bundle.specs.Commands.{Lent, written, putting_of}
-use Rattle.bundle.specs.declared.command.Putting.{Putting}
-use Rattle.bundle.specs.declared.command.Putting.TheVariants as Put
-use Rattle.bundle.specs.declared.refusal.Cause.{Cause}
+use Rattle.std.specs.declared.result.Result.{Result}
+use Rattle.std.specs.declared.result.Result.TheVariants.{Ok, Err}
+use Rattle.bundle.specs.Answer.{Answer, gives, refuses, answer_of}
+use Rattle.bundle.specs.Commands.{Lent, written}
+use Rattle.bundle.specs.declared.refusal.Refusal.{Refusal}
 use Rattle.text.specs.Lines.{printed_at}
 use Rattle.listing.specs.Listing.{over}
 use Rattle.listing.specs.declared.list.Totals.{Totals}
@@ -36,15 +36,15 @@ put-parts line s at = go (leb (length line) (length s - at)) refl
     go true e = record { next = rw e; bytes = rw e }
     go false e = record { next = rw e; bytes = rw e }
 
-module _ {line s t : List ℕ} {at : ℕ} (r : Putting) (e : printed_at line s at ≡ record { answer = putting_of r; buffer = t }) where
-  pub put-next-of : PutNext line s at (end_of at (putting_of r)) t
+module _ {line s t : List ℕ} {at : ℕ} (r : Result ℕ Refusal) (e : printed_at line s at ≡ record { answer = answer_of r; buffer = t }) where
+  pub put-next-of : PutNext line s at (end_of at (answer_of r)) t
   put-next-of = subst (λ (x : Lent ℕ). PutNext line s at (end_of at x.answer) x.buffer) e (put-parts line s at)
 
-  pub next-written : {next : ℕ} → r ≡ Put.Written next → PutNext line s at next t
-  next-written q = subst (λ (x : Putting). PutNext line s at (end_of at (putting_of x)) t) q put-next-of
+  pub next-written : {next : ℕ} → r ≡ Ok next → PutNext line s at next t
+  next-written q = subst (λ (x : Result ℕ Refusal). PutNext line s at (end_of at (answer_of x)) t) q put-next-of
 
-  pub next-refused : {place : ℕ} {cause : Cause} → r ≡ Put.Refused place cause → PutNext line s at at t
-  next-refused q = subst (λ (x : Putting). PutNext line s at (end_of at (putting_of x)) t) q put-next-of
+  pub next-refused : {refusal : Refusal} → r ≡ Err refusal → PutNext line s at at t
+  next-refused q = subst (λ (x : Result ℕ Refusal). PutNext line s at (end_of at (answer_of x)) t) q put-next-of
 
 -- a page by its first line
 pub page-more : (room : ℕ) (line : List ℕ) (lines : List (List ℕ)) → leb (length line) room ≡ true → page_of room (line ∷ lines) ≡ line ∷ page_of (room - length line) lines

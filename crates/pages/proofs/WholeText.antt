@@ -12,17 +12,11 @@ use lib.Seq.{drop-cons, drop-drop}
 use Rattle.bundle.specs.Lists.{back_to_back}
 use Rattle.bundle.specs.Chunks.{chunks_of}
 use Rattle.bundle.specs.Check.{Accepted}
-use Rattle.bundle.specs.Commands.{written, putting_of}
-use Rattle.bundle.specs.declared.command.Putting.{Putting}
-use Rattle.bundle.specs.declared.command.Putting.TheVariants as Put
 use Rattle.verdict.specs.Races.{races_of}
-use Rattle.text.specs.Lines.{printed_at}
-use Rattle.text.proofs.Making.{word-written}
 use Rattle.listing.specs.Listing.{races_in, totals_of, over}
 use Rattle.pages.specs.declared.fill.Page.{Page}
 use Rattle.pages.specs.Listings.{listing_text, lines_of, lines_in, page_of, Filled, page_from}
-use Rattle.pages.specs.Inner.{PutNext}
-use Rattle.pages.proofs.Paging.{page-more, page-none, page-over, back-append, over-length, next-written}
+use Rattle.pages.proofs.Paging.{page-more, page-none, page-over, back-append, over-length}
 use Rattle.pages.proofs.Lengths.{line-within}
 use Rattle.pages.proofs.Counts.{counts-small}
 
@@ -47,22 +41,6 @@ filled-fits lines from s t r e =
     let size : length b ≡ r.size = ap (λ (f : Filled). f.page.size) e in
     let long : length (over b s) ≡ length t = ap (λ (f : Filled). length f.buffer) e in
     omega (arith, room, size, long, over-length b s room)
-
-pub put-fits : {line s t : List ℕ} {r : ℕ} → PutNext line s 0 r t → r ≤ length t
-put-fits {line} {s} {t} {r} put = go (leb (length line) (length s - 0)) refl
-  where
-    go : (b : Bool) → leb (length line) (length s - 0) ≡ b → r ≤ length t
-    go true e =
-        let room : length line ≤ length s - 0 = leb-true (length line) (length s - 0) e in
-        let bytes : t ≡ written s 0 line = put.bytes ∙ rw e in
-        let next : r ≡ 0 + length line = put.next ∙ rw e in
-        omega (arith, next, room, (word-written s line 0 (omega (arith, room)) bytes).kept)
-    go false e =
-        let next : r ≡ 0 = put.next ∙ rw e in
-        omega (arith, next)
-
-pub written-fits : (line s : List ℕ) {t : List ℕ} (r : Putting) {size : ℕ} → printed_at line s 0 ≡ record { answer = putting_of r; buffer = t } → r ≡ Put.Written size → size ≤ length t
-written-fits line s r e q = put-fits (next-written r e q)
 
 -- a page is the first lines, and the others follow
 pub page-first : (lines : List (List ℕ)) (room : ℕ) → lines ≡ page_of room lines ++ drop (length (page_of room lines)) lines

@@ -1,8 +1,7 @@
 -- What the inner functions of filling a page promise.
-use Rattle.std.specs.Prelude.{◌≡◌, cond, List, ℕ, ◌+◌, ◌-◌, ◌*◌, ◌/◌, ◌%◌, ◌<◌, leb, length, get_or}
+use Rattle.std.specs.Prelude.{◌≡◌, cond, List, [], ℕ, ◌+◌, ◌-◌, ◌*◌, ◌<◌, leb, length, get_or}
 use Rattle.bundle.specs.Commands.{written}
 use Rattle.text.specs.Inner.{access_text}
-use Rattle.text.specs.Sides.{side_text, sides_line}
 use Rattle.listing.specs.Listing.{name_of, site_of}
 
 -- a line put at a position where it fits there; else nothing changes
@@ -14,11 +13,6 @@ pub record PutNext (line before : List ℕ) (at r : ℕ) (after : List ℕ) : Ty
 abbrev pub text_of : List ℕ → ℕ → List ℕ
 text_of names i = access_text (name_of (get_or names (2 * i) 0)) (site_of (get_or names (2 * i + 1) 0))
 
--- a table that holds the texts of the first accesses
-pub record Sides (names : List ℕ) (count : ℕ) (sides : List ℕ) : Type 0 where
-  pub long : length sides ≡ 32768
-  pub texts : (i : ℕ) → i < count → side_text sides i ≡ text_of names i
-
--- the line of a race's number by the table
-abbrev pub number_line : ℕ → List ℕ → List ℕ
-number_line number sides = sides_line (number / 1048576 % 4294967296) sides (number / 1024 % 1024) (number % 1024)
+-- the texts of the first accesses
+abbrev pub AreTexts : List ℕ → List (List ℕ) → Type 0
+AreTexts names texts = (i : ℕ) → i < length texts → get_or texts i [] ≡ text_of names i

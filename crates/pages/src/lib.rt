@@ -2,5 +2,5 @@
 #![tactic(auto)]
 
 pub mod fill;
-mod line;
+pub mod line;
 mod sides;

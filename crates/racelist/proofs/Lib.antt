@@ -1,2 +1,1 @@
--- Lemmas that the program's proofs cite.
-pub mod Areas
+-- The program has no laws of its own.

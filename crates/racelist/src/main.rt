@@ -1,43 +1,55 @@
 // Prints the listing of the bundle on standard input: the counts, each race, and the last line; or the refusal.
 #![tactic(auto)]
 
+ghost use Rattle.std.specs.Prelude.{◌≤◌};
+
 mod print;
 
 use listing::list::{Listed, MOST_NAME_WORDS, list_races};
-use print::{print_few, print_many, print_refused};
+use pages::line::Listing;
+use print::print_lines;
 use telling::input::read_full;
+use telling::refusals::print_refused;
 use verdict::judge::WORK_WORDS;
 
-// Lists with room for the races of any bundle, so that there are never too many. It stands apart from its caller, so that a small bundle
-// does not pay for 6 MB of stack.
+// Lists in arrays of these sizes, of which the last is a page's; the answer is whether there was room for the races. It stands apart from
+// its caller, so that a small bundle does not pay for 6 MB of stack.
 #[inline(never)]
-fn list_many<P: Print>(to: &P, bytes: &[u8]) {
+fn list_in<const NUMBERS: usize, const SPARE: usize, const PAGE: usize, P: Print>(
+    to: &P,
+    bytes: &[u8],
+) -> bool
+    requires { (NUMBERS ≤ 523776) × (SPARE ≤ 523776) × (PAGE ≤ 524288) }
+{
     let mut work = [0u32; WORK_WORDS];
     let mut names = [0u64; MOST_NAME_WORDS];
-    let mut numbers = [0u64; 523776];
-    let mut spare = [0u64; 261888];
+    let mut numbers = [0u64; NUMBERS];
+    let mut spare = [0u64; SPARE];
     match list_races(bytes, &mut work, &mut names, &mut numbers, &mut spare) {
-        Listed::Whole(totals) => print_many(to, totals, &names, &numbers),
-        Listed::TooMany(_) => {}
-        Listed::Refused { place, cause } => print_refused(to, place, cause),
+        Ok(Listed::Whole(totals)) => {
+            let listing = Listing {
+                totals,
+                names: &names,
+                numbers: &numbers,
+            };
+            print_lines::<PAGE, P>(to, listing);
+            true
+        }
+        Ok(Listed::TooMany(_)) => false,
+        Err(refusal) => {
+            print_refused(to, refusal);
+            true
+        }
     }
 }
 
-// Lists with room for as many races as a short bundle can have: in 1,568 bytes there are at most 130 accesses, and so 8,385 pairs.
+// In 1,568 bytes there are at most 130 accesses, and so 8,385 pairs: a short bundle is listed with room for as many races, and a longer one
+// with room for those of any bundle, so that there are never too many. Then the pages are larger, since each makes the texts of the accesses once.
 fn list<P: Print>(to: &P, bytes: &[u8]) {
-    if 1568 < bytes.len() {
-        list_many(to, bytes);
+    if bytes.len() <= 1568 && list_in::<8448, 4224, 65536, P>(to, bytes) {
         return;
     }
-    let mut work = [0u32; WORK_WORDS];
-    let mut names = [0u64; MOST_NAME_WORDS];
-    let mut numbers = [0u64; 8448];
-    let mut spare = [0u64; 4224];
-    match list_races(bytes, &mut work, &mut names, &mut numbers, &mut spare) {
-        Listed::Whole(totals) => print_few(to, totals, &names, &numbers),
-        Listed::TooMany(_) => list_many(to, bytes),
-        Listed::Refused { place, cause } => print_refused(to, place, cause),
-    }
+    let _ = list_in::<523776, 261888, 524288, P>(to, bytes);
 }
 
 // One byte more than a bundle may have is read, so that a longer input is refused as too long.

@@ -2,7 +2,7 @@
 use mathlib.Core.Path.{◌≡◌, refl}
 use mathlib.Core.List.{[], ◌∷◌, ◌++◌, map}
 use Rattle.bundle.specs.Answer.{gives, refuses}
-use Rattle.verdict.specs.declared.race.Verdict.TheVariants as Ver
+use Rattle.std.specs.declared.option.Option.TheVariants.{Some, None}
 use Rattle.text.specs.Digits.{ascii, digit_byte, digits, width_within, width_of}
 use Rattle.text.specs.Lines.{counts_line, name_text, race_line, pairs_line, refused_line}
 use Rattle.text.proofs.Examples.{race_of_e}
@@ -19,13 +19,13 @@ words = refl
 
 -- of E, P2 and P3
 pub line-of-E :
-    bundle_line (gives (record { chunks = 3; segments = 6; accesses = 2; races = 1; verdict = Ver.Least race_of_e }))
+    bundle_line (gives (record { chunks = 3; segments = 6; accesses = 2; races = 1; least = Some race_of_e }))
     ≡ ascii "race chunks 3 segments 6 accesses 2 race 0000100a 1.0.0 10 1.1.0 20 pairs 1\n"
 unfolding bundle_line verdict_line counts_line name_text race_line pairs_line digit_byte digits width_within width_of
 line-of-E = refl
 
 pub line-of-P2 :
-    bundle_line (gives (record { chunks = 3; segments = 6; accesses = 2; races = 0; verdict = Ver.RaceFree }))
+    bundle_line (gives (record { chunks = 3; segments = 6; accesses = 2; races = 0; least = None }))
     ≡ ascii "race-free chunks 3 segments 6 accesses 2\n"
 unfolding bundle_line verdict_line counts_line digit_byte digits width_within width_of
 line-of-P2 = refl

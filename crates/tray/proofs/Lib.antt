@@ -1,7 +1,6 @@
 -- Laws over the definitions.
 pub mod WordLaws
 pub mod LineLaws
-pub mod Sizes
 pub mod Adding
 pub mod TellLaws
 pub mod Cutting

@@ -9,8 +9,9 @@ use lib.Seq.{take_at}
 use Rattle.bundle.specs.Answer.{Answer, gives, refuses}
 use Rattle.bundle.specs.Lists.{all}
 use Rattle.bundle.proofs.Tests.{both, and_left, and_right}
-use Rattle.verdict.specs.declared.race.Verdict.{Verdict}
-use Rattle.verdict.specs.declared.race.Verdict.TheVariants as Ver
+use Rattle.std.specs.declared.option.Option.{Option}
+use Rattle.std.specs.declared.option.Option.TheVariants.{Some, None}
+use Rattle.verdict.specs.declared.race.Race.{Race}
 use Rattle.verdict.specs.declared.race.Judgement.{Judgement}
 use Rattle.text.specs.Digits.{ascii}
 use Rattle.text.specs.Lines.{line_end, counts_line, race_line}
@@ -42,10 +43,10 @@ line-body {line} l =
 spaced-from : {line : List ℕ} → IsLine line → From 0x20 (spaced line)
 spaced-from l = rw (line-body l) (from-both l.body (ascii " ") l.clean refl)
 
-pub verdict-ends : (j : Judgement) (v : Verdict) → IsLine (verdict_line j v)
+pub verdict-ends : (j : Judgement) (v : Option Race) → IsLine (verdict_line j v)
 unfolding verdict_line
-verdict-ends j Ver.RaceFree = line-behind (ascii "race-free ") refl (counts-ends j.chunks j.segments j.accesses)
-verdict-ends j (Ver.Least r) =
+verdict-ends j None = line-behind (ascii "race-free ") refl (counts-ends j.chunks j.segments j.accesses)
+verdict-ends j (Some r) =
     let c = counts_line j.chunks j.segments j.accesses in
     line-behind (ascii "race " ++ spaced c ++ spaced (race_line r))
     (from-both (ascii "race " ++ spaced c) (spaced (race_line r))
@@ -55,7 +56,7 @@ verdict-ends j (Ver.Least r) =
 
 pub bundle-ends : (a : Answer Judgement) → IsLine (bundle_line a)
 unfolding bundle_line
-bundle-ends (gives j) = verdict-ends j j.verdict
+bundle-ends (gives j) = verdict-ends j j.least
 bundle-ends (refuses n p) = refused-ends n p
 
 pub unreadable-ends : IsLine unreadable_line

@@ -73,11 +73,9 @@ word_more before (o ∷ os) =
 pub word-all : (os : List Outcome) → after_all Wor.Missing os ≡ word_of os
 word-all os = ap (λ (w : Word). after_all w os) (sym word_none) ∙ word_more [] os
 
--- the same at the answers of the code, where the outcome is known
-pub settled : {word r : Word} {outcome o : Outcome} → outcome ≡ o → r ≡ after_outcome word o → (r ≡ after_outcome word outcome) × Onward word outcome r
-settled {word} {r} {outcome} q e =
-    let is : r ≡ after_outcome word outcome = e ∙ ap (after_outcome word) (sym q) in
-    (is, λ os w. is ∙ ap (λ (x : Word). after_outcome x outcome) w ∙ sym (word_after os outcome))
+-- the same at the word of the code
+pub onward : (word : Word) (outcome : Outcome) {r : Word} → r ≡ after_outcome word outcome → Onward word outcome r
+onward word outcome e os w = e ∙ ap (λ (x : Word). after_outcome x outcome) w ∙ sym (word_after os outcome)
 
 -- each word is that of some bundles, so that nothing is left open
 pub some-bundles : (word : Word) → (os : List Outcome) × (word ≡ word_of os)

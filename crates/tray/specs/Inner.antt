@@ -1,8 +1,8 @@
--- What the inner functions of making a line promise each other.
-use Rattle.std.specs.Prelude.{ℕ}
+-- What was put at a buffer's start.
+use Rattle.std.specs.Prelude.{ℕ, ◌≤◌}
 use Rattle.bundle.specs.Answer.{Answer, gives, refuses}
 
--- the position after what was put, or the place of the refusal
-abbrev pub next_of : Answer ℕ → ℕ
-next_of (gives next) = next
-next_of (refuses n p) = p
+-- it ends within so many bytes; a refusal puts nothing
+abbrev pub PutWithin : Answer ℕ → ℕ → Type 0
+PutWithin (gives next) room = next ≤ room
+PutWithin (refuses n p) room = Unit {0}

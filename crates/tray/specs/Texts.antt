@@ -2,8 +2,9 @@
 -- `race` line is racelist's lines of the bundle with its least race alone, joined by single spaces: counts, least race, number of races."
 use Rattle.std.specs.Prelude.{ℕ, ◌-◌, List, ◌++◌, length, take}
 use Rattle.bundle.specs.Answer.{Answer, gives, refuses}
-use Rattle.verdict.specs.declared.race.Verdict.{Verdict}
-use Rattle.verdict.specs.declared.race.Verdict.TheVariants as Ver
+use Rattle.std.specs.declared.option.Option.{Option}
+use Rattle.std.specs.declared.option.Option.TheVariants.{Some, None}
+use Rattle.verdict.specs.declared.race.Race.{Race}
 use Rattle.verdict.specs.declared.race.Judgement.{Judgement}
 use Rattle.text.specs.Digits.{ascii}
 use Rattle.text.specs.Lines.{line_end, counts_line, race_line, pairs_line, refused_line}
@@ -15,14 +16,14 @@ abbrev pub spaced : List ℕ → List ℕ
 spaced line = take (length line - 1) line ++ ascii " "
 
 -- `race chunks C segments S accesses A race W T.M.K SITE T.M.K SITE pairs N`, `race-free chunks C segments S accesses A`
-unfoldable pub verdict_line : Judgement → Verdict → List ℕ
-verdict_line j Ver.RaceFree = ascii "race-free " ++ counts_line j.chunks j.segments j.accesses
-verdict_line j (Ver.Least r) =
+unfoldable pub verdict_line : Judgement → Option Race → List ℕ
+verdict_line j None = ascii "race-free " ++ counts_line j.chunks j.segments j.accesses
+verdict_line j (Some r) =
     ascii "race " ++ spaced (counts_line j.chunks j.segments j.accesses) ++ spaced (race_line r) ++ pairs_line j.races
 
 -- the line of a bundle that was read
 unfoldable pub bundle_line : Answer Judgement → List ℕ
-bundle_line (gives j) = verdict_line j j.verdict
+bundle_line (gives j) = verdict_line j j.least
 bundle_line (refuses n p) = refused_line n p
 
 -- "`refused unreadable`: the file could not be opened or read"

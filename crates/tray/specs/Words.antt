@@ -2,11 +2,12 @@
 -- not be read; else `missing` if there is none", else `race-free`.
 use Rattle.std.specs.Prelude.{ℕ, ◌≡◌, Bool, true, false, cond, List, [], ◌∷◌, ◌++◌, map}
 use Rattle.std.proofs.Math.Option.{Option, none, some}
+use Rattle.std.specs.declared.option.Option as Rust
+use Rattle.std.specs.declared.option.Option.TheVariants.{Some, None}
 use Rattle.bundle.specs.Answer.{Answer, gives, refuses}
 use Rattle.bundle.specs.Lists.{any}
 use Rattle.verdict.specs.Judge.{judged_of}
-use Rattle.verdict.specs.declared.race.Verdict.{Verdict}
-use Rattle.verdict.specs.declared.race.Verdict.TheVariants as Ver
+use Rattle.verdict.specs.declared.race.Race.{Race}
 use Rattle.verdict.specs.declared.race.Judgement.{Judgement}
 use Rattle.tray.specs.declared.word.Outcome.{Outcome}
 use Rattle.tray.specs.declared.word.Outcome.TheVariants as Out
@@ -14,12 +15,12 @@ use Rattle.tray.specs.declared.word.Word.{Word}
 use Rattle.tray.specs.declared.word.Word.TheVariants as Wor
 
 -- the outcome of a bundle that was read
-abbrev pub verdict_outcome : Verdict → Outcome
-verdict_outcome Ver.RaceFree = Out.RaceFree
-verdict_outcome (Ver.Least r) = Out.Race
+abbrev pub verdict_outcome : Rust.Option Race → Outcome
+verdict_outcome None = Out.RaceFree
+verdict_outcome (Some r) = Out.Race
 
 abbrev pub outcome_of : Answer Judgement → Outcome
-outcome_of (gives j) = verdict_outcome j.verdict
+outcome_of (gives j) = verdict_outcome j.least
 outcome_of (refuses n p) = Out.Refused
 
 abbrev pub is_race : Outcome → Bool
@@ -38,6 +39,12 @@ word_of os =
     cond (any is_race os) Wor.Race
     (cond (any is_refused os) Wor.Refused
     (elim os [ [] ↦ Wor.Missing | o ∷ more ↦ Wor.RaceFree ]))
+
+-- the word of a build that has one bundle
+abbrev pub word_for : Outcome → Word
+word_for Out.Race = Wor.Race
+word_for Out.RaceFree = Wor.RaceFree
+word_for Out.Refused = Wor.Refused
 
 -- the word after one bundle more: by `word_after` that of all of them
 abbrev pub after_race_free : Word → Word

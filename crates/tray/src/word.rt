@@ -1,20 +1,21 @@
 // The outcome of each bundle of a build, and the word of the build.
 ghost use Rattle.std.specs.Prelude.{◌≡◌};
-ghost use Rattle.verdict.specs.Judge.{judging_of};
-ghost use Rattle.tray.specs.Words.{outcome_of, verdict_outcome, after_outcome, after_race_free, after_refused, Onward};
+ghost use Rattle.bundle.specs.Answer.{answer_of};
+ghost use Rattle.tray.specs.Words.{outcome_of, word_for, after_outcome, Onward};
 
-use verdict::race::{Judging, Verdict};
+use bundle::refusal::Refusal;
+use verdict::race::Judgement;
 
 // Of one bundle. One that is turned away or could not be read is refused.
-#[derive(Clone, Copy)]
+#[derive(Clone, Copy, PartialEq, Eq)]
 pub enum Outcome {
     Race,
     RaceFree,
     Refused,
 }
 
-// Of a build: of the bundles that were judged so far.
-#[derive(Clone, Copy)]
+// Of a build: of the bundles that were judged so far. One bundle more can only lead further down.
+#[derive(Clone, Copy, PartialEq, Eq, PartialOrd, Ord)]
 pub enum Word {
     Missing,
     RaceFree,
@@ -22,58 +23,35 @@ pub enum Word {
     Race,
 }
 
-fn verdict_outcome(verdict: Verdict) -> Outcome
-    ensures { result ≡ verdict_outcome verdict }
-{
-    match verdict {
-        Verdict::RaceFree => Outcome::RaceFree,
-        Verdict::Least(_) => Outcome::Race,
-    }
-}
-
 // The outcome of a bundle that was read.
-pub fn outcome_of(judging: Judging) -> Outcome
-    ensures { result ≡ outcome_of (judging_of judging) }
+pub fn outcome_of(judged: Result<Judgement, Refusal>) -> Outcome
+    ensures { result ≡ outcome_of (answer_of judged) }
 {
-    match judging {
-        Judging::Judged(judgement) => {
-            let verdict = judgement.verdict;
-            verdict_outcome(verdict)
-        }
-        Judging::Refused { place: _, cause: _ } => Outcome::Refused,
+    match judged {
+        Ok(judgement) => match judgement.least {
+            None => Outcome::RaceFree,
+            Some(_) => Outcome::Race,
+        },
+        Err(_) => Outcome::Refused,
     }
 }
 
-// The word of a build after one bundle more.
+impl From<Outcome> for Word {
+    ghost from_gives = { λ outcome word. word ≡ word_for outcome };
+
+    fn from(outcome: Outcome) -> Word {
+        match outcome {
+            Outcome::Race => Word::Race,
+            Outcome::RaceFree => Word::RaceFree,
+            Outcome::Refused => Word::Refused,
+        }
+    }
+}
+
+// The word of a build after one bundle more: the later of the two in the order of `Word`.
 pub fn after(word: Word, outcome: Outcome) -> Word
     ensures value { result ≡ after_outcome word outcome }
     ensures build { Onward word outcome result }
 {
-    match outcome {
-        Outcome::Race => Word::Race,
-        Outcome::RaceFree => after_race_free(word),
-        Outcome::Refused => after_refused(word),
-    }
-}
-
-fn after_race_free(word: Word) -> Word
-    ensures { result ≡ after_race_free word }
-{
-    match word {
-        Word::Missing => Word::RaceFree,
-        Word::RaceFree => Word::RaceFree,
-        Word::Refused => Word::Refused, // it stays refused
-        Word::Race => Word::Race,
-    }
-}
-
-fn after_refused(word: Word) -> Word
-    ensures { result ≡ after_refused word }
-{
-    match word {
-        Word::Missing => Word::Refused,
-        Word::RaceFree => Word::Refused,
-        Word::Refused => Word::Refused,
-        Word::Race => Word::Race,
-    }
+    word.max(Word::from(outcome))
 }
