@@ -3,17 +3,18 @@
 #![tactic(auto)]
 
 use bundle::limits::MOST_BYTES;
-use rewrite::rewrite::{Rewriting, rewrite};
+use rewrite::rewrite::rewrite;
 use telling::input::read_full;
 use telling::refusals::print_refused;
 
+// Stays beside that of convert: one for both would have to ask of a closure that what it writes lies in the buffer.
 fn print_rewritten<O: Print, E: Print>(output: &O, errors: &E, bytes: &[u8]) {
     let mut buffer = [0u8; MOST_BYTES];
     match rewrite(bytes, &mut buffer) {
-        Rewriting::Written { size } => {
+        Ok(size) => {
             let _ = output.write_all(&buffer[..size]);
         }
-        Rewriting::Refused { place, cause } => print_refused(errors, place, cause),
+        Err(refusal) => print_refused(errors, refusal),
     }
 }
 

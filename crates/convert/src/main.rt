@@ -2,33 +2,20 @@
 // that is refused leaves standard output empty; the refusal is a line on standard error.
 #![tactic(auto)]
 
-ghost use Rattle.std.specs.Prelude.{◌≡◌};
-ghost use Rattle.rewrite.specs.Rewriting.{rewriting_of};
-ghost use Rattle.rewrite.specs.Converting.{convert_of};
-
 use bundle::limits::MOST_BYTES;
-use rewrite::convert::{to_narrow, to_wide};
-use rewrite::rewrite::Rewriting;
+use rewrite::convert::convert;
 use telling::arguments::{argument, has_argument, same_word};
 use telling::input::read_full;
 use telling::refusals::print_refused;
 
-fn convert(bytes: &[u8], wide: bool, buffer: &mut [u8]) -> Rewriting
-    ensures { record { answer = rewriting_of result; buffer = buffer.new } ≡ convert_of wide bytes.now buffer.old }
-{
-    if wide {
-        return to_wide(bytes, buffer);
-    }
-    to_narrow(bytes, buffer)
-}
-
+// Stays beside that of canon: one for both would have to ask of a closure that what it writes lies in the buffer.
 fn print_converted<O: Print, E: Print>(output: &O, errors: &E, bytes: &[u8], wide: bool) {
     let mut buffer = [0u8; MOST_BYTES];
     match convert(bytes, wide, &mut buffer) {
-        Rewriting::Written { size } => {
+        Ok(size) => {
             let _ = output.write_all(&buffer[..size]);
         }
-        Rewriting::Refused { place, cause } => print_refused(errors, place, cause),
+        Err(refusal) => print_refused(errors, refusal),
     }
 }
 

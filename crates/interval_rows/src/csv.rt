@@ -1,44 +1,53 @@
 // The rows of a bundle as text.
-ghost use Rattle.std.specs.Prelude.{◌≡◌, ◌+◌, ◌*◌, ◌≤◌, length};
+ghost use Rattle.std.specs.Prelude.{[], ◌≡◌, ◌++◌, ◌+◌, ◌*◌, ◌≤◌, length};
 ghost use Rattle.bundle.specs.Index.{table};
-ghost use Rattle.text.specs.Inner.{Extended};
 ghost use Rattle.rows.specs.Slots.{row_in};
-ghost use Rattle.interval_rows.specs.Lines.{csv_text};
+ghost use Rattle.interval_rows.specs.Lines.{row_line, csv_text};
 ghost use Rattle.interval_rows.specs.Printing.{Printed};
 
-use crate::line::{add_heading, add_row};
-use bundle::answer::Checking;
-use rows::export::Exporting;
+use bundle::refusal::Refusal;
 use rows::plan::lay_out;
-use rows::row::{ROW_WORDS, row_at};
+use rows::row::{ROW_WORDS, Row, row_at};
+use text::line::Line;
 
 // The bytes of the longest text: the line that names the columns, and 512 lines of at most 88 bytes.
 pub const CSV_BYTES: usize = 45103;
 
-fn put_csv(words: &[u64], count: usize, buffer: &mut [u8]) -> usize
-    requires { (count ≤ 512) × (length buffer.old ≡ 45103) }
-    ensures { Extended buffer.old buffer.new 0 result (47 + 88 * count) (csv_text (table (row_in words.now) count)) }
+// As `1,0,0,1,2,1,31,17`.
+fn push_row(text: &mut Line<CSV_BYTES>, row: Row)
+    requires { length text.old + 88 ≤ 45103 }
+    ensures line { text.new ≡ text.old ++ row_line row }
+    ensures long { length text.new ≤ length text.old + 88 }
 {
-    let mut at = add_heading(buffer);
-    let mut i = 0;
-    while i < count {
-        at = add_row(row_at(words, i), buffer, at);
-        i += 1;
-    }
-    at
+    text.push_number(row.pid);
+    text.push_count(b",", row.ppid);
+    text.push_count(b",", row.bid);
+    text.push_count(b",", row.offset);
+    text.push_count(b",", row.span);
+    text.push_count(b",", row.level);
+    text.push_count(b",", row.begin);
+    text.push_count(b",", row.size);
+    text.push_end();
 }
 
-// Puts the text over the front of the buffer; the answer is its length, or the bundle's refusal.
-pub fn fill_csv(bytes: &[u8], buffer: &mut [u8; CSV_BYTES]) -> Exporting
-    ensures { Printed bytes.now result buffer.new }
+// The names of the columns, and the rows.
+fn push_rows(text: &mut Line<CSV_BYTES>, words: &[u64], count: usize)
+    requires { (text.old ≡ []) × (count ≤ 512) }
+    ensures { text.new ≡ csv_text (table (row_in words.now) count) }
+{
+    text.push_word(b"pid,ppid,bid,offset,span,level,data begin,size\n");
+    for i in 0..count {
+        push_row(text, row_at(words, i));
+    }
+}
+
+// Puts the text of a bundle into an empty one.
+pub fn push_csv(text: &mut Line<CSV_BYTES>, bytes: &[u8]) -> Result<(), Refusal>
+    requires { text.old ≡ [] }
+    ensures { Printed bytes.now result text.new }
 {
     let mut words = [0u64; ROW_WORDS];
-    let layout = lay_out(bytes, &mut words);
-    let checking = layout.checking;
-    match checking {
-        Checking::Accepted => Exporting::Written {
-            count: put_csv(&words, layout.count, &mut buffer[..]),
-        },
-        Checking::Refused { place, cause } => Exporting::Refused { place, cause },
-    }
+    let count = lay_out(bytes, &mut words)?;
+    push_rows(text, &words, count);
+    Ok(())
 }

@@ -4,28 +4,25 @@
 #![tactic(auto)]
 
 mod csv;
-mod line;
 
-use bundle::command::four_bytes;
 use bundle::limits::MOST_BYTES;
-use csv::{CSV_BYTES, fill_csv};
-use rows::checker::RowChecking;
-use rows::export::Exporting;
+use csv::push_csv;
 use rows::records::{RECORD_BYTES, check_records};
 use telling::arguments::{argument, has_argument, same_word};
 use telling::input::read_full;
 use telling::refusals::print_refused;
+use text::line::Line;
 
 // The most that is looked at of the input of a check: a bundle that is too long, and one record more than a bundle can have.
 const CHECK_BYTES: usize = 81957;
 
 fn print_rows<O: Print, E: Print>(output: &O, errors: &E, bytes: &[u8]) {
-    let mut buffer = [0u8; CSV_BYTES];
-    match fill_csv(bytes, &mut buffer) {
-        Exporting::Written { count: size } => {
-            let _ = output.write_all(&buffer[..size]);
+    let mut text = Line::new();
+    match push_csv(&mut text, bytes) {
+        Ok(()) => {
+            let _ = output.write_all(text.text());
         }
-        Exporting::Refused { place, cause } => print_refused(errors, place, cause),
+        Err(refusal) => print_refused(errors, refusal),
     }
 }
 
@@ -38,34 +35,30 @@ fn print_input(rt: &HostRuntime) {
 
 fn print_checked<O: Print, E: Print>(output: &O, errors: &E, bytes: &[u8], given: &[u8]) {
     match check_records(bytes, given) {
-        RowChecking::TheRows => {
+        Ok(()) => {
             let _ = output.write_all(b"the rows\n");
         }
-        RowChecking::Refused { place, cause } => print_refused(errors, place, cause),
+        Err(refusal) => print_refused(errors, refusal),
     }
 }
 
-fn print_unlike<E: Print>(errors: &E) {
-    let _ = errors.write_all(b"interval_rows: not a bundle and records\n");
+// The bundle and the records of an input that has the length of a bundle, that bundle, and whole records.
+fn parts_of(input: &[u8]) -> Option<(&[u8], &[u8])> {
+    let (length, rest) = input.split_first_chunk::<4>()?;
+    let (bytes, given) = rest.split_at_checked(u32::from_le_bytes(*length) as usize)?;
+    if MOST_BYTES + 1 < bytes.len() || given.len() % RECORD_BYTES != 0 {
+        return None;
+    }
+    Some((bytes, given))
 }
 
-// The length of a bundle, that bundle, and whole records; or something else.
 fn check_bytes<O: Print, E: Print>(output: &O, errors: &E, input: &[u8]) {
-    if input.len() < 4 {
-        print_unlike(errors);
-        return;
+    match parts_of(input) {
+        Some((bytes, given)) => print_checked(output, errors, bytes, given),
+        None => {
+            let _ = errors.write_all(b"interval_rows: not a bundle and records\n");
+        }
     }
-    let length = four_bytes(input, 0) as usize;
-    let rest = input.len() - 4;
-    if rest < length {
-        print_unlike(errors);
-        return;
-    }
-    if (MOST_BYTES + 1 < length) | ((rest - length) % RECORD_BYTES != 0) {
-        print_unlike(errors);
-        return;
-    }
-    print_checked(output, errors, &input[4..4 + length], &input[4 + length..]);
 }
 
 fn check_input(rt: &HostRuntime) {

@@ -9,7 +9,8 @@ use native.Mathlib.Omega.{arith}
 use lib.ListN.{length, get_or}
 use Rattle.bundle.specs.Answer.{Answer, gives, refuses}
 use Rattle.bundle.specs.Lists.{back_to_back, concat_map}
-use Rattle.bundle.specs.Commands.{Bytes, Taken, bytes_of, in_range, decode_at}
+use Rattle.bundle.specs.Commands.{Bytes, bytes_of, in_range, decode_at}
+use Rattle.bundle.specs.declared.command.Taken.{Taken}
 use Rattle.bundle.specs.Cases.{on_delimiter}
 use Rattle.bundle.specs.Chunks.{Chunk, chunks_of, commands_of, part_of}
 use Rattle.bundle.specs.Scan.{start}

@@ -75,7 +75,7 @@ over_none ps h = go (first (λ (p : Placed). site_over p.command) ps) refl
         not-both x.1 (h p.command (Memᴰ.map (λ (q : Placed). q.command) x.0))
 
 module _ (b : List ℕ) (ok : Accepted b) where
-  group-elim : (w : Bool) (c : List ℕ) → to_group w b ≡ gives c → (c ≡ converted w b) × Feasible w b
+  pub group-elim : (w : Bool) (c : List ℕ) → to_group w b ≡ gives c → (c ≡ converted w b) × Feasible w b
   unfolding to_wide to_narrow
   group-elim true c e = wide-gives (length (converted true b)) (converted true b) c (rw ok at e)
   group-elim false c e =

@@ -8,26 +8,31 @@ use native.Mathlib.Omega.{arith}
 use native.Mathlib.Nat.{zero-add, add_assoc}
 use lib.ListN.{length, length-append}
 use borrow.Author.Tests.{lt-ltb, le-ltb, le-leb}
-use Rattle.bundle.specs.Answer.{gives, refuses, number_of}
+use Rattle.bundle.specs.Answer.{Answer, gives, refuses, when_given}
 use Rattle.bundle.specs.Lists.{first, concat_map, from_option}
-use Rattle.bundle.specs.Commands.{Bytes, Lent, bytes_of, in_range, read_at, written, put_at, putting_of}
+use Rattle.bundle.specs.Commands.{Bytes, Lent, bytes_of, in_range, read_at, written, put_at}
 use Rattle.bundle.specs.Chunks.{Placed, front_of}
 use Rattle.bundle.specs.Check.{check_of, Accepted}
 use Rattle.bundle.specs.declared.command.Command.{Command}
-use Rattle.bundle.specs.declared.refusal.Cause.{Cause}
-use Rattle.bundle.specs.declared.command.Putting.{Putting}
-use Rattle.bundle.specs.declared.command.Putting.TheVariants as Put
-use Rattle.bundle.proofs.Tests.{or-one}
+use Rattle.std.specs.declared.option.Option as Code
+use Rattle.std.specs.declared.option.Option.TheVariants.{Some, None}
+use Rattle.std.specs.declared.result.Result.{Result}
+use Rattle.std.specs.declared.result.Result.TheVariants.{Ok, Err}
+use Rattle.std.specs.Bool.{then_some}
+use Rattle.std.specs.Option.{option_or}
+use Rattle.bundle.specs.Answer.{answer_of}
+use Rattle.bundle.specs.declared.refusal.Refusal.{Refusal}
 use Rattle.bundle.proofs.Decoding.{read_next}
 use Rattle.bundle.proofs.Fitting.{written-length}
-use Rattle.bundle.proofs.Onward.{Onward, Next, onward-next, onward-read, onward-end, legible}
+use Rattle.bundle.proofs.Onward.{Onward, Next, onward-next, legible}
 use Rattle.rewrite.specs.Rewriting.{filling_of}
-use Rattle.rewrite.specs.Converting.{regrouped, commands_in, converted, site_over, first_over, to_wide, to_narrow, handed_to, convert_of}
-use Rattle.rewrite.specs.Measuring.{measured_after, measured_from, unmeasured, measured_of, Puttable, Convertible}
+use Rattle.rewrite.specs.Converting.{regrouped, commands_in, converted, site_over, first_over, to_wide, to_narrow, to_group, handed_to, convert_of}
+use Rattle.rewrite.specs.Measuring.{measured_after, measured_from, unmeasured, measured_of, size_to, Puttable, Convertible}
 use Rattle.rewrite.specs.declared.convert.Measured.{Measured}
+use Rattle.rewrite.proofs.ReadOn.{onward-stops}
 use Rattle.rewrite.proofs.Pieces.{written-front, written_on}
 use Rattle.rewrite.proofs.Regrouping.{bytes_most}
-use Rattle.rewrite.proofs.Conversions.{ranged, none_over}
+use Rattle.rewrite.proofs.Conversions.{group-elim, ranged}
 
 abbrev bare : List Placed → List Command
 bare ps = map (λ (p : Placed). p.command) ps
@@ -40,7 +45,7 @@ pub record MeasuredTo (w : Bool) (s : List ℕ) (at : ℕ) (m : Measured) : Type
   pub few : m.size ≤ 14 * at
   pub short : length s ≤ 65536
 
-pub measured-start : (w : Bool) (s : List ℕ) → Accepted s → MeasuredTo w s 0 (record { size = 0; over = false; place = 0 })
+pub measured-start : (w : Bool) (s : List ℕ) → Accepted s → MeasuredTo w s 0 (record { size = 0; over = None })
 measured-start w s ok =
     let l = legible s ok in
     record {
@@ -52,11 +57,10 @@ measured-start w s ok =
     }
 
 module _ {w : Bool} {s : List ℕ} {at : ℕ} {m : Measured} (x : MeasuredTo w s at m) where
-  pub few-so-far : at < length s → m.size ≤ 1000000
-  few-so-far h = omega (arith, x.few, x.short)
-
-  pub measured-on : {next : ℕ} {c : Command} → read_at s at ≡ gives (record { command = c; next = next }) → at < next
-  measured-on {next} {c} e = (read_next s at (record { command = c; next = next }) e).0
+  pub few-so-far : {next : ℕ} {c : Command} → read_at s at ≡ gives (record { command = c; next = next }) → m.size ≤ 1000000
+  few-so-far {next} {c} e =
+      let n = read_next s at (record { command = c; next = next }) e in
+      omega (arith, n.0, n.1, x.few, x.short)
 
   pub measured-turn :
       {next : ℕ} {c : Command} {r : Measured}
@@ -81,26 +85,22 @@ module _ {w : Bool} {s : List ℕ} {at : ℕ} {m : Measured} (x : MeasuredTo w s
       further : (ps : List Placed) → x.rest ≡ record { at = at; command = c } ∷ ps → measured_from w (measured_after w m (record { at = at; command = c })) ps ≡ measured_of w s
       further ps p = subst (λ (qs : List Placed). measured_from w m qs ≡ measured_of w s) p x.whole
 
-  pub measured-end : length s ≤ at → m ≡ measured_of w s
+  -- in an accepted bundle nothing is refused but to read on at its end
+  pub measured-end : {n p : ℕ} → read_at s at ≡ refuses n p → m ≡ measured_of w s
   unfolding measured_from
-  measured-end h = subst (λ (ps : List Placed). measured_from w m ps ≡ measured_of w s) (onward-end s at x.onwards h) x.whole
-
-  pub measured-read : {A : Type 0} {n p : ℕ} → at < length s → read_at s at ≡ refuses n p → A
-  measured-read {n = n} {p = p} h e = absurd (onward-read s at n p x.onwards h e)
+  measured-end e = subst (λ (ps : List Placed). measured_from w m ps ≡ measured_of w s) (onward-stops s at x.onwards e) x.whole
 
 -- one more command
 pub small_size : (w : Bool) (c : Command) {size : ℕ} → size ≡ length (bytes_of (regrouped w c)) → size ≤ 14
 small_size w c q = rw q (bytes_most (regrouped w c))
 
-module _ (w : Bool) (m : Measured) (c : Command) (at : ℕ) {size : ℕ} (q : size ≡ length (bytes_of (regrouped w c))) where
-  pub after-over : m.over ≡ true → record { size = m.size + size; over = true; place = m.place } ≡ measured_after w m (record { at = at; command = c })
-  unfolding measured_after
-  after-over e = rw (e, q)
-
-  pub after_first :
-      {over : Bool} → m.over ≡ false → over ≡ site_over c → record { size = m.size + size; over = over; place = at } ≡ measured_after w m (record { at = at; command = c })
-  unfolding measured_after
-  after_first e r = rw (e, q, r)
+pub one-more :
+    (w : Bool) (m : Measured) (c : Command) (at : ℕ) {size : ℕ} {over : Code.Option ℕ}
+    → size ≡ length (bytes_of (regrouped w c))
+    → over ≡ option_or m.over (then_some (site_over c) at)
+    → record { size = m.size + size; over = over } ≡ measured_after w m (record { at = at; command = c })
+unfolding measured_after
+one-more w m c at q r = rw (q, r)
 
 -- what was measured
 size-from : (w : Bool) (m : Measured) (ps : List Placed) → (measured_from w m ps).size ≡ m.size + length (concat_map bytes_of (map (regrouped w) (bare ps)))
@@ -114,42 +114,72 @@ size-from w m (p ∷ ps) =
 pub measured-size : (w : Bool) (s : List ℕ) → (measured_of w s).size ≡ length (converted w s)
 unfolding measured_of unmeasured converted commands_in
 measured-size w s =
-    size-from w (record { size = 0; over = false; place = 0 }) (front_of s).placed
+    size-from w (record { size = 0; over = None }) (front_of s).placed
     ∙ zero-add (length (concat_map bytes_of (map (regrouped w) (bare (front_of s).placed))))
 
--- where one is over, the first one's offset
-abbrev place_of : Measured → Option ℕ
-place_of m = cond m.over (some m.place) none
+-- the first one that is over
+abbrev place_of : Option Placed → Code.Option ℕ
+place_of none = None
+place_of (some p) = Some p.at
 
-abbrev at_of : Option Placed → Option ℕ
-at_of none = none
-at_of (some p) = some p.at
-
-over-stays : (w : Bool) (m : Measured) (ps : List Placed) → m.over ≡ true → place_of (measured_from w m ps) ≡ some m.place
+over-stays : (w : Bool) (m : Measured) (ps : List Placed) {at : ℕ} → m.over ≡ Some at → (measured_from w m ps).over ≡ Some at
 unfolding measured_from
-over-stays w m [] e = rw e
-over-stays w m (p ∷ ps) e =
-    over-stays w (measured_after w m p) ps (unfold measured_after in (or-one (site_over p.command) e))
-    ∙ unfold measured_after in (rw e)
+over-stays w m [] e = e
+over-stays w m (p ∷ ps) e = over-stays w (measured_after w m p) ps (unfold measured_after in (rw e))
 
-over-from : (w : Bool) (m : Measured) (ps : List Placed) → m.over ≡ false → place_of (measured_from w m ps) ≡ at_of (first_over ps)
+over-from : (w : Bool) (m : Measured) (ps : List Placed) → m.over ≡ None → (measured_from w m ps).over ≡ place_of (first_over ps)
 unfolding measured_from first_over
-over-from w m [] e = rw e
+over-from w m [] e = e
 over-from w m (p ∷ ps) e = go (site_over p.command) refl (over-from w (measured_after w m p) ps)
   where
     go :
         (t : Bool)
         → site_over p.command ≡ t
-        → ((measured_after w m p).over ≡ false → place_of (measured_from w (measured_after w m p) ps) ≡ at_of (first (λ q. site_over q.command) ps))
-        → place_of (measured_from w (measured_after w m p) ps) ≡ at_of (cond (site_over p.command) (some p) (first (λ q. site_over q.command) ps))
-    go true q ih =
-        over-stays w (measured_after w m p) ps (unfold measured_after in (rw (e, q)))
-        ∙ rw q (unfold measured_after in (rw e))
+        → ((measured_after w m p).over ≡ None → (measured_from w (measured_after w m p) ps).over ≡ place_of (first (λ q. site_over q.command) ps))
+        → (measured_from w (measured_after w m p) ps).over ≡ place_of (cond (site_over p.command) (some p) (first (λ q. site_over q.command) ps))
+    go true q ih = over-stays w (measured_after w m p) ps {at = p.at} (unfold measured_after in (rw (e, q))) ∙ rw q
     go false q ih = rw q (ih (unfold measured_after in (rw (e, q))))
 
-measured-over : (w : Bool) (s : List ℕ) → place_of (measured_of w s) ≡ at_of (first_over (front_of s).placed)
+measured-over : (w : Bool) (s : List ℕ) → (measured_of w s).over ≡ place_of (first_over (front_of s).placed)
 unfolding measured_of unmeasured
-measured-over w s = over-from w (record { size = 0; over = false; place = 0 }) (front_of s).placed refl
+measured-over w s = over-from w (record { size = 0; over = None }) (front_of s).placed refl
+
+-- the size of the result, by what was measured
+module _ (s : List ℕ) (ok : Accepted s) where
+  module _ {m : Measured} (e : m ≡ measured_of true s) where
+    long : m.size ≡ length (converted true s)
+    long = ap (λ (n : Measured). n.size) e ∙ measured-size true s
+
+    pub too_long : 65536 < m.size → refuses 1 0 ≡ size_to true s
+    unfolding size_to to_wide
+    too_long h = rw (ok, lt-ltb 65536 (length (converted true s)) (omega (arith, h, long)))
+
+    pub wide_size : m.size ≤ 65536 → gives m.size ≡ size_to true s
+    unfolding size_to to_wide
+    wide_size h = rw (ok, le-ltb 65536 (length (converted true s)) (omega (arith, h, long)), long)
+
+  module _ {m : Measured} (e : m ≡ measured_of false s) where
+    short : m.size ≡ length (converted false s)
+    short = ap (λ (n : Measured). n.size) e ∙ measured-size false s
+
+    over : m.over ≡ place_of (first_over (front_of s).placed)
+    over = ap (λ (n : Measured). n.over) e ∙ measured-over false s
+
+    pub too_large : {at : ℕ} → m.over ≡ Some at → refuses 21 at ≡ size_to false s
+    unfolding size_to to_narrow
+    too_large {at} h = rw ok (go (first_over (front_of s).placed) (sym h ∙ over))
+      where
+        go : (o : Option Placed) → Some at ≡ place_of o → refuses 21 at ≡ when_given (from_option (gives (converted false s)) (λ (p : Placed). refuses 21 p.at) o) (λ c. gives (length c))
+        go none q = let z : ◌≡◌ {A = Code.Option ℕ} (Some at) None = q in cc
+        go (some p) q = let n : at ≡ p.at = cc in rw n
+
+    pub narrow_size : m.over ≡ None → gives m.size ≡ size_to false s
+    unfolding size_to to_narrow
+    narrow_size h = rw ok (go (first_over (front_of s).placed) (sym h ∙ over))
+      where
+        go : (o : Option Placed) → None ≡ place_of o → gives m.size ≡ when_given (from_option (gives (converted false s)) (λ (p : Placed). refuses 21 p.at) o) (λ c. gives (length c))
+        go none q = ap gives short
+        go (some p) q = let z : ◌≡◌ {A = Code.Option ℕ} None (Some p.at) = q in cc
 
 -- one command put
 module _ (w : Bool) (c : Command) (buffer : List ℕ) (position : ℕ) (x : Puttable w c (length buffer) position) where
@@ -158,22 +188,21 @@ module _ (w : Bool) (c : Command) (buffer : List ℕ) (position : ℕ) (x : Putt
   put-fits = rw (x.in-range, le-leb (length (bytes_of (regrouped w c))) (length buffer - position) (omega (arith, x.fits)))
 
   -- what putting the command gave, once it was regrouped
-  module _ {d : Command} (same : d ≡ regrouped w c) (r : Putting) {after : List ℕ} (e : put_at d buffer position ≡ record { answer = putting_of r; buffer = after }) where
+  module _ {d : Command} (same : d ≡ regrouped w c) (r : Result ℕ Refusal) {after : List ℕ} (e : put_at d buffer position ≡ record { answer = answer_of r; buffer = after }) where
     given :
-        ◌≡◌ {A = Lent ℕ} (record { answer = putting_of r; buffer = after })
+        ◌≡◌ {A = Lent ℕ} (record { answer = answer_of r; buffer = after })
         (record { answer = gives (position + length (bytes_of (regrouped w c))); buffer = written buffer position (bytes_of (regrouped w c)) })
     given = sym e ∙ ap (λ (f : Command). put_at f buffer position) same ∙ put-fits
 
-    pub put_next : {next : ℕ} → r ≡ Put.Written next → (next ≡ position + length (bytes_of (regrouped w c))) × (after ≡ written buffer position (bytes_of (regrouped w c)))
-    put_next {next} q =
-        let l : gives next ≡ gives (position + length (bytes_of (regrouped w c))) = ap putting_of (sym q) ∙ ap (λ (y : Lent ℕ). y.answer) given in
-        (cc, ap (λ (y : Lent ℕ). y.buffer) given)
+    pub put_next : r ≡ Ok (position + length (bytes_of (regrouped w c)))
+    put_next = go r (ap (λ (y : Lent ℕ). y.answer) given)
+      where
+        go : (q : Result ℕ Refusal) → answer_of q ≡ gives (position + length (bytes_of (regrouped w c))) → q ≡ Ok (position + length (bytes_of (regrouped w c)))
+        go (Ok n) h = let same : n ≡ position + length (bytes_of (regrouped w c)) = cc in ap Ok same
+        go (Err f) h = let z : ◌≡◌ {A = ℕ} 0 1 = cc in absurd (omega arith)
 
-    pub put-taken : {A : Type 0} {place : ℕ} {cause : Cause} → r ≡ Put.Refused place cause → A
-    put-taken {place = place} {cause = cause} q =
-        let l : refuses (number_of cause) place ≡ gives (position + length (bytes_of (regrouped w c))) = ap putting_of (sym q) ∙ ap (λ (y : Lent ℕ). y.answer) given in
-        let z : ◌≡◌ {A = ℕ} 0 1 = cc in
-        absurd (omega arith)
+    pub put_after : after ≡ written buffer position (bytes_of (regrouped w c))
+    put_after = ap (λ (y : Lent ℕ). y.buffer) given
 
 -- the pass that writes is at a position: what is done, with the rest of the commands, is the whole
 pub record PutTo (w : Bool) (s old : List ℕ) (at position : ℕ) (new : List ℕ) : Type 0 where
@@ -242,73 +271,50 @@ module _ {w : Bool} {s old : List ℕ} {at position : ℕ} {new : List ℕ} (x :
           bytes = q ∙ (λ i. written (x.bytes i) (x.behind i) (bytes_of (regrouped w c))) ∙ written_on old x.done (bytes_of (regrouped w c));
         }
 
-    pub put_on : at < next
-    put_on = (read_next s at (record { command = c; next = next }) e).0
-
-  pub put-end : length s ≤ at → new ≡ written old 0 (converted w s)
-  put-end h =
+  pub put-end : {n p : ℕ} → read_at s at ≡ refuses n p → new ≡ written old 0 (converted w s)
+  put-end e =
       x.bytes
       ∙ ap (written old 0)
       (sym (append-nil x.done)
-      ∙ subst (λ (ps : List Placed). x.done ++ concat_map bytes_of (map (regrouped w) (bare ps)) ≡ converted w s) (onward-end s at x.onwards h) x.whole)
-
-  pub put-read : {A : Type 0} {n p : ℕ} → at < length s → read_at s at ≡ refuses n p → A
-  put-read {n = n} {p = p} h e = absurd (onward-read s at n p x.onwards h e)
+      ∙ subst (λ (ps : List Placed). x.done ++ concat_map bytes_of (map (regrouped w) (bare ps)) ≡ converted w s) (onward-stops s at x.onwards e) x.whole)
 
 -- what the answer is
-pub measured-long : (w : Bool) (s : List ℕ) {m : Measured} → m ≡ measured_of w s → m.size ≡ length (converted w s)
-measured-long w s e = ap (λ (m : Measured). m.size) e ∙ measured-size w s
+pub record Sized (w : Bool) (s : List ℕ) (size : ℕ) : Type 0 where
+  pub convertible : Convertible w s
+  pub is : to_group w s ≡ gives (converted w s)
+  pub long : size ≡ length (converted w s)
 
-module _ (buffer bytes : List ℕ) {size : ℕ} (e : size ≡ length bytes) where
-  pub handed-short : length buffer < size → record { answer = refuses 17 0; buffer = buffer } ≡ filling_of buffer bytes
-  unfolding filling_of
-  handed-short h = rw (lt-ltb (length buffer) (length bytes) (rw (← e) h))
+pub sized : (w : Bool) (s : List ℕ) → Bytes s → Accepted s → {size : ℕ} → gives size ≡ size_to w s → Sized w s size
+unfolding size_to
+sized w s bytes ok {size} e = go (to_group w s) refl e
+  where
+    go : (a : Answer (List ℕ)) → to_group w s ≡ a → gives size ≡ when_given a (λ c. gives (length c)) → Sized w s size
+    go (gives c) q h =
+        let r = group-elim s ok w c q in
+        let n : size ≡ length c = cc in
+        record {
+          convertible = record { accepted = ok; in-range = ranged s bytes ok w r.1 };
+          is = q ∙ ap gives r.0;
+          long = n ∙ ap length r.0;
+        }
+    go (refuses n p) q h = let z : ◌≡◌ {A = ℕ} 0 1 = cc in absurd (omega arith)
 
-  pub handed-over : size ≤ length buffer → {after : List ℕ} → after ≡ written buffer 0 bytes → record { answer = gives size; buffer = after } ≡ filling_of buffer bytes
-  unfolding filling_of
-  handed-over h q = rw (le-ltb (length buffer) (length bytes) (rw (← e) h), e, q)
+module _ {w : Bool} {s : List ℕ} {size : ℕ} (x : Sized w s size) (buffer : List ℕ) where
+  pub too_short : length buffer < size → record { answer = refuses 17 0; buffer = buffer } ≡ convert_of w s buffer
+  unfolding convert_of handed_to filling_of
+  too_short h = rw (x.is, lt-ltb (length buffer) (length (converted w s)) (omega (arith, h, x.long)))
 
-module _ (s : List ℕ) (ok : Accepted s) where
-  -- by the length of the result in the wide group
-  module _ (buffer : List ℕ) {size : ℕ} (e : size ≡ length (converted true s)) where
-    pub wide-too-long : 65536 < size → record { answer = refuses 1 0; buffer = buffer } ≡ convert_of true s buffer
-    unfolding convert_of to_wide handed_to
-    wide-too-long h = rw (ok, lt-ltb 65536 (length (converted true s)) (rw (← e) h))
+  pub all_put : size ≤ length buffer → {after : List ℕ} → after ≡ written buffer 0 (converted w s) → record { answer = gives size; buffer = after } ≡ convert_of w s buffer
+  unfolding convert_of handed_to filling_of
+  all_put h q = rw (x.is, le-ltb (length buffer) (length (converted w s)) (omega (arith, h, x.long)), x.long, q)
 
-    pub wide-filled : size ≤ 65536 → filling_of buffer (converted true s) ≡ convert_of true s buffer
-    unfolding convert_of to_wide handed_to
-    wide-filled h = rw (ok, le-ltb 65536 (length (converted true s)) (rw (← e) h))
-
-  pub wide-convertible : {size : ℕ} → size ≡ length (converted true s) → Bytes s → size ≤ 65536 → Convertible true s
-  wide-convertible e bytes h = record { accepted = ok; in-range = ranged s bytes ok true (rw (← e) h) }
-
-  -- by what was measured for the narrow group
-  first-place : {m : Measured} → m ≡ measured_of false s → place_of m ≡ at_of (first_over (front_of s).placed)
-  first-place e = ap place_of e ∙ measured-over false s
-
-  none_first : {m : Measured} → m ≡ measured_of false s → m.over ≡ false → first_over (front_of s).placed ≡ none
-  none_first {m} e h = go (first_over (front_of s).placed) (sym (ap (λ (t : Bool). cond t (some m.place) none) h) ∙ first-place e)
-    where
-      go : (o : Option Placed) → ◌≡◌ {A = Option ℕ} none (at_of o) → o ≡ none
-      go none q = refl
-      go (some p) q = let z : ◌≡◌ {A = ℕ} 0 1 = cc in absurd (omega arith)
-
-  pub narrow-convertible : {m : Measured} → m ≡ measured_of false s → Bytes s → m.over ≡ false → Convertible false s
-  narrow-convertible e bytes h =
-      record { accepted = ok; in-range = ranged s bytes ok false (unfold commands_in in (none_over (front_of s).placed (none_first e h))) }
-
-  module _ (buffer : List ℕ) {m : Measured} (e : m ≡ measured_of false s) where
-    pub narrow-over : m.over ≡ true → record { answer = refuses 21 m.place; buffer = buffer } ≡ convert_of false s buffer
-    unfolding convert_of to_narrow handed_to
-    narrow-over h = rw ok (go (first_over (front_of s).placed) (sym (ap (λ (t : Bool). cond t (some m.place) none) h) ∙ first-place e))
-      where
-        go : (o : Option Placed) → some m.place ≡ at_of o → record { answer = refuses 21 m.place; buffer = buffer } ≡ handed_to buffer (from_option (gives (converted false s)) (λ (p : Placed). refuses 21 p.at) o)
-        go none q = let z : ◌≡◌ {A = ℕ} 0 1 = cc in absurd (omega arith)
-        go (some p) q = let n : m.place ≡ p.at = cc in rw n
-
-    pub narrow-filled : m.over ≡ false → filling_of buffer (converted false s) ≡ convert_of false s buffer
-    unfolding convert_of to_narrow handed_to
-    narrow-filled h = rw (ok, none_first e h)
+pub size-refused : (w : Bool) (s buffer : List ℕ) {n p : ℕ} → refuses n p ≡ size_to w s → record { answer = refuses n p; buffer = buffer } ≡ convert_of w s buffer
+unfolding size_to convert_of handed_to
+size-refused w s buffer {n} {p} e = go (to_group w s) e
+  where
+    go : (a : Answer (List ℕ)) → refuses n p ≡ when_given a (λ c. gives (length c)) → record { answer = refuses n p; buffer = buffer } ≡ handed_to buffer a
+    go (gives c) h = let z : ◌≡◌ {A = ℕ} 0 1 = cc in absurd (omega arith)
+    go (refuses k q) h = let a : n ≡ k = cc in let b : p ≡ q = cc in rw (a, b)
 
 pub convert-refused : (w : Bool) (s buffer : List ℕ) {n p : ℕ} → check_of s ≡ refuses n p → record { answer = refuses n p; buffer = buffer } ≡ convert_of w s buffer
 unfolding convert_of to_wide to_narrow handed_to

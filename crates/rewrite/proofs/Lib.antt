@@ -6,9 +6,9 @@ pub mod ChunkBytes
 pub mod FixedChunks
 pub mod Pieces
 pub mod WordOrder
-pub mod Fitting
 pub mod Regrouping
 pub mod RegroupedChunks
 pub mod RegroupedRaces
 pub mod Conversions
+pub mod ReadOn
 pub mod ConvertPass

@@ -1,13 +1,11 @@
 -- The rewriter: "puts an accepted bundle into a second lent buffer by team, then member".
 use Rattle.std.specs.Prelude.{ℕ, cond, List, [], ◌∷◌, map, length, ltb}
-use Rattle.bundle.specs.Answer.{Answer, gives, refuses, number_of}
+use Rattle.bundle.specs.Answer.{Answer, gives, refuses}
 use Rattle.bundle.specs.Lists.{back_to_back}
 use Rattle.bundle.specs.Commands.{Lent, written}
 use Rattle.bundle.specs.Chunks.{Chunk, chunks_of, part_of}
 use Rattle.bundle.specs.Check.{check_of}
 use Rattle.verdict.specs.Accesses.{lex_less}
-use Rattle.rewrite.specs.declared.rewrite.Rewriting.{Rewriting}
-use Rattle.rewrite.specs.declared.rewrite.Rewriting.TheVariants as Rewritings
 
 -- a list put into the order of its elements' keys
 unfoldable pub insert_by : {A : Type 0} → (A → List ℕ) → A → List A → List A
@@ -41,8 +39,3 @@ rewrite_as s buffer (refuses n p) = record { answer = refuses n p; buffer = buff
 
 unfoldable pub rewrite_of : List ℕ → List ℕ → Lent ℕ
 rewrite_of s buffer = rewrite_as s buffer (check_of s)
-
--- what the answer of the code says
-abbrev pub rewriting_of : Rewriting → Answer ℕ
-rewriting_of (Rewritings.Written size) = gives size
-rewriting_of (Rewritings.Refused place cause) = refuses (number_of cause) place

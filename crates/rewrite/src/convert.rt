@@ -1,50 +1,32 @@
 // The accesses of a bundle put into one group, wide or narrow, in a lent buffer; the other commands as they are.
-ghost use Rattle.std.specs.Prelude.{◌≡◌, true, false, ◌+◌, ◌≤◌, length};
+ghost use Rattle.std.specs.Prelude.{IfOk, ◌≡◌, true, false, ◌+◌, ◌≤◌, length};
+ghost use Rattle.bundle.specs.Answer.{answer_of};
 ghost use Rattle.bundle.specs.Commands.{bytes_of, written};
 ghost use Rattle.bundle.specs.Check.{Accepted};
-ghost use Rattle.rewrite.specs.Rewriting.{rewriting_of, filling_of};
 ghost use Rattle.rewrite.specs.Converting.{regrouped, site_over, converted, convert_of};
 ghost use Rattle.rewrite.specs.Conversion.{Converts};
-ghost use Rattle.rewrite.specs.Measuring.{measured_after, measured_of, Puttable, Convertible};
+ghost use Rattle.rewrite.specs.Measuring.{measured_after, measured_of, size_to, Puttable, Convertible};
 
-use crate::rewrite::Rewriting;
-use bundle::answer::Checking;
 use bundle::check::check;
-use bundle::command::{Access, Command, Putting, Reading, put_command, read_command};
+use bundle::command::{Access, Command, Taken, put_command, read_command};
 use bundle::limits::MOST_BYTES;
-use bundle::refusal::Cause;
+use bundle::refusal::{Cause, Refusal};
 
-// What is known of the result after some commands: its bytes so far, and the offset of the first command with a site over 65,535, if there
-// was one.
+// What is known of the result after some commands: its bytes so far, and the offset of the first command with a site over 65,535.
 #[derive(Clone, Copy)]
 pub struct Measured {
     pub size: usize,
-    pub over: bool,
-    pub place: usize,
+    pub over: Option<usize>,
 }
 
 // The command in the wanted group, with the same operands.
+#[tactic(auto, unfolding(crate::specs::Converting::regrouped, crate::specs::Converting::in_group))]
 fn regroup(command: Command, wide: bool) -> Command
     ensures { result ≡ regrouped wide command }
 {
     match command {
-        Command::Member { team: _, member: _ } => command,
-        Command::End => command,
-        Command::Region { team: _, size: _ } => command,
-        Command::Barrier => command,
-        Command::Acquire(_) => command,
-        Command::Release(_) => command,
-        Command::Access(access) => {
-            let kind = access.kind;
-            let range = access.range;
-            Command::Access(Access {
-                kind,
-                wide,
-                site: access.site,
-                range,
-            })
-        }
-        Command::Cut => command,
+        Command::Access(access) => Command::Access(Access { wide, ..access }),
+        _ => command,
     }
 }
 
@@ -53,54 +35,38 @@ fn size_in(command: Command, wide: bool) -> usize
     ensures { result ≡ length (bytes_of (regrouped wide command)) }
 {
     match command {
-        Command::Member { team: _, member: _ } => 4,
-        Command::End => 1,
-        Command::Region { team: _, size: _ } => 4,
-        Command::Barrier => 1,
-        Command::Acquire(_) => 2,
-        Command::Release(_) => 2,
-        Command::Access(_) => { if wide { 14 } else { 12 } }
-        Command::Cut => 1,
+        Command::Member { .. } | Command::Region { .. } => 4,
+        Command::Acquire(_) | Command::Release(_) => 2,
+        Command::Access(_) => if wide { 14 } else { 12 },
+        Command::End | Command::Barrier | Command::Cut => 1,
     }
 }
 
 // Whether the command has a site over 65,535.
+#[tactic(auto, unfolding(crate::specs::Converting::site_over))]
 fn site_over(command: Command) -> bool
     ensures { result ≡ site_over command }
 {
     match command {
-        Command::Member { team: _, member: _ } => false,
-        Command::End => false,
-        Command::Region { team: _, size: _ } => false,
-        Command::Barrier => false,
-        Command::Acquire(_) => false,
-        Command::Release(_) => false,
         Command::Access(access) => 65535 < access.site,
-        Command::Cut => false,
+        _ => false,
     }
 }
 
-// One more command, at an offset.
-fn measure_one(before: Measured, command: Command, at: usize, wide: bool) -> Measured
-    requires { before.size ≤ 1000000 }
-    ensures { result ≡ measured_after wide before (record { at = at; command = command }) }
-{
-    let size = before.size + size_in(command, wide);
-    if before.over {
-        return Measured {
-            size,
-            over: true,
-            place: before.place,
-        };
-    }
-    Measured {
-        size,
-        over: site_over(command),
-        place: at,
+impl Measured {
+    // One more command, at an offset.
+    fn with(self, command: Command, at: usize, wide: bool) -> Measured
+        requires { self.size ≤ 1000000 }
+        ensures { result ≡ measured_after wide self (record { at = at; command = command }) }
+    {
+        Measured {
+            size: self.size + size_in(command, wide),
+            over: self.over.or(site_over(command).then_some(at)),
+        }
     }
 }
 
-// All commands of an accepted bundle, none of which is refused.
+// All commands of an accepted bundle, none of which is refused before its end.
 fn measure(bytes: &[u8], wide: bool) -> Measured
     requires { Accepted bytes.now }
     ensures { result ≡ measured_of wide bytes.now }
@@ -108,17 +74,37 @@ fn measure(bytes: &[u8], wide: bool) -> Measured
     let mut at = 0;
     let mut measured = Measured {
         size: 0,
-        over: false,
-        place: 0,
+        over: None,
     };
-    while at < bytes.len() {
-        let Reading::Taken { next, command } = read_command(bytes, at) else {
-            return measured;
-        };
-        measured = measure_one(measured, command, at, wide);
+    while let Ok(Taken { next, command }) = read_command(bytes, at) {
+        measured = measured.with(command, at, wide);
         at = next;
     }
     measured
+}
+
+// How many bytes an accepted bundle has in the wanted group; or why it can't be put into it.
+fn size_to(bytes: &[u8], wide: bool) -> Result<usize, Refusal>
+    requires { Accepted bytes.now }
+    ensures { answer_of result ≡ size_to wide bytes.now }
+{
+    let measured = measure(bytes, wide);
+    if !wide {
+        return match measured.over {
+            Some(place) => Err(Refusal {
+                place,
+                cause: Cause::SiteTooLarge,
+            }),
+            None => Ok(measured.size),
+        };
+    }
+    if MOST_BYTES < measured.size {
+        return Err(Refusal {
+            place: 0,
+            cause: Cause::BundleTooLong,
+        });
+    }
+    Ok(measured.size)
 }
 
 // Puts the command into the buffer in the wanted group; the answer is the position after it.
@@ -126,10 +112,7 @@ fn put_regrouped(command: Command, wide: bool, buffer: &mut [u8], position: usiz
     requires { Puttable wide command (length buffer.old) position }
     ensures { (result ≡ position + length (bytes_of (regrouped wide command))) × (buffer.new ≡ written buffer.old position (bytes_of (regrouped wide command))) }
 {
-    match put_command(regroup(command, wide), buffer, position) {
-        Putting::Written(next) => next,
-        Putting::Refused { place: _, cause: _ } => position,
-    }
+    put_command(regroup(command, wide), buffer, position).unwrap()
 }
 
 // Puts all commands over the front of the buffer.
@@ -139,76 +122,45 @@ fn put_all(bytes: &[u8], wide: bool, buffer: &mut [u8])
 {
     let mut at = 0;
     let mut position = 0;
-    while at < bytes.len() {
-        let Reading::Taken { next, command } = read_command(bytes, at) else {
-            return;
-        };
+    while let Ok(Taken { next, command }) = read_command(bytes, at) {
         position = put_regrouped(command, wide, buffer, position);
         at = next;
     }
 }
 
-// 17, or the result of that size in the buffer.
-fn hand_over(bytes: &[u8], wide: bool, size: usize, buffer: &mut [u8]) -> Rewriting
-    requires { Convertible wide bytes.now × (size ≡ length (converted wide bytes.now)) }
-    ensures { record { answer = rewriting_of result; buffer = buffer.new } ≡ filling_of buffer.old (converted wide bytes.now) }
+// Puts an accepted bundle into the buffer with its accesses in the wide group or in the narrow one; the answer is how many bytes were
+// written. Refused, the buffer is untouched.
+pub fn convert(bytes: &[u8], wide: bool, buffer: &mut [u8]) -> Result<usize, Refusal>
+    ensures buffer_after { record { answer = answer_of result; buffer = buffer.new } ≡ convert_of wide bytes.now buffer.old }
+    ensures fits { IfOk result (λ size. size ≤ length buffer.new) }
+    ensures conversion { Accepted bytes.now → Converts bytes.now }
 {
+    check(bytes)?;
+    let size = size_to(bytes, wide)?;
     if buffer.len() < size {
-        return Rewriting::Refused {
+        return Err(Refusal {
             place: 0,
             cause: Cause::DoesNotFit,
-        };
+        });
     }
     put_all(bytes, wide, buffer);
-    Rewriting::Written { size }
+    Ok(size)
 }
 
-fn widen_accepted(bytes: &[u8], buffer: &mut [u8]) -> Rewriting
-    requires { Accepted bytes.now }
-    ensures { record { answer = rewriting_of result; buffer = buffer.new } ≡ convert_of true bytes.now buffer.old }
-{
-    let measured = measure(bytes, true);
-    if MOST_BYTES < measured.size {
-        return Rewriting::Refused {
-            place: 0,
-            cause: Cause::BundleTooLong,
-        };
-    }
-    hand_over(bytes, true, measured.size, buffer)
-}
-
-fn narrow_accepted(bytes: &[u8], buffer: &mut [u8]) -> Rewriting
-    requires { Accepted bytes.now }
-    ensures { record { answer = rewriting_of result; buffer = buffer.new } ≡ convert_of false bytes.now buffer.old }
-{
-    let measured = measure(bytes, false);
-    if measured.over {
-        return Rewriting::Refused {
-            place: measured.place,
-            cause: Cause::SiteTooLarge,
-        };
-    }
-    hand_over(bytes, false, measured.size, buffer)
-}
-
-// Puts an accepted bundle into the buffer with its accesses in the wide group. Refused, the buffer is untouched.
-pub fn to_wide(bytes: &[u8], buffer: &mut [u8]) -> Rewriting
-    ensures buffer_after { record { answer = rewriting_of result; buffer = buffer.new } ≡ convert_of true bytes.now buffer.old }
+// To the wide group. Stays beside `to_narrow`: the documents name both operations.
+pub fn to_wide(bytes: &[u8], buffer: &mut [u8]) -> Result<usize, Refusal>
+    ensures buffer_after { record { answer = answer_of result; buffer = buffer.new } ≡ convert_of true bytes.now buffer.old }
+    ensures fits { IfOk result (λ size. size ≤ length buffer.new) }
     ensures conversion { Accepted bytes.now → Converts bytes.now }
 {
-    match check(bytes) {
-        Checking::Accepted => widen_accepted(bytes, buffer),
-        Checking::Refused { place, cause } => Rewriting::Refused { place, cause },
-    }
+    convert(bytes, true, buffer)
 }
 
-// The same with its accesses in the narrow group.
-pub fn to_narrow(bytes: &[u8], buffer: &mut [u8]) -> Rewriting
-    ensures buffer_after { record { answer = rewriting_of result; buffer = buffer.new } ≡ convert_of false bytes.now buffer.old }
+// To the narrow group.
+pub fn to_narrow(bytes: &[u8], buffer: &mut [u8]) -> Result<usize, Refusal>
+    ensures buffer_after { record { answer = answer_of result; buffer = buffer.new } ≡ convert_of false bytes.now buffer.old }
+    ensures fits { IfOk result (λ size. size ≤ length buffer.new) }
     ensures conversion { Accepted bytes.now → Converts bytes.now }
 {
-    match check(bytes) {
-        Checking::Accepted => narrow_accepted(bytes, buffer),
-        Checking::Refused { place, cause } => Rewriting::Refused { place, cause },
-    }
+    convert(bytes, false, buffer)
 }

@@ -1,14 +1,15 @@
 -- Given records against those of the bundle: they agree in full exactly when they are equal, and else up to the first that differs.
 use Prim.Native.Nat.{ℕ, suc}
 use mathlib.Core.Path.{◌≡◌, refl, sym, ◌∙◌, ap, ap₂}
-use mathlib.Core.Bool.{Bool, true, false, cond, ◌&&◌}
+use mathlib.Core.Bool.{Bool, true, false, cond, not, ◌&&◌}
 use mathlib.Core.List.{List, [], ◌∷◌}
 use native.Mathlib.Omega.{arith}
+use Rattle.std.proofs.Math.Bool.{and_assoc}
 use lib.ListN.{length}
 use lib.Dec.{eqb}
 use borrow.Author.Tests.{eqb-true, eq-eqb}
 use Rattle.bundle.specs.Answer.{Answer, gives, refuses}
-use Rattle.bundle.proofs.Tests.{both, and_left, and_right, is_false, not-both}
+use Rattle.bundle.proofs.Tests.{both, and_left, and_right, is_false, false_of_not, not-both}
 use Rattle.rows.specs.Rows.{same_row, agreeing, compared_with}
 use Rattle.rows.specs.RowLaws.{FirstOther}
 use Rattle.rows.specs.declared.row.Row.{Row}
@@ -19,7 +20,7 @@ three p q r e =
     let more = and_right p (q && r) e in
     (and_left p (q && r) e, and_left q r more, and_right q r more)
 
-same_rows : (a b : Row) → same_row a b ≡ true → a ≡ b
+pub same_rows : (a b : Row) → same_row a b ≡ true → a ≡ b
 unfolding same_row
 same_rows a b e =
     let first = eqb a.pid b.pid && (eqb a.ppid b.ppid && eqb a.bid b.bid) in
@@ -41,7 +42,7 @@ same_rows a b e =
       size = eqb-true a.size b.size (and_right (eqb a.begin b.begin) (eqb a.size b.size) place) i;
     }
 
-row-itself : (a : Row) → same_row a a ≡ true
+pub row-itself : (a : Row) → same_row a a ≡ true
 unfolding same_row
 row-itself a =
     both
@@ -50,6 +51,23 @@ row-itself a =
   where
     own : (n : ℕ) → eqb n n ≡ true
     own n = eq-eqb n n refl
+
+-- `==` as it is derived: it is the same test, column by column
+abbrev pub same_columns : Row → Row → Bool
+same_columns a b =
+    eqb a.pid b.pid
+    && (eqb a.ppid b.ppid
+    && (eqb a.bid b.bid
+    && (eqb a.offset b.offset && (eqb a.span b.span && (eqb a.level b.level && (eqb a.begin b.begin && eqb a.size b.size))))))
+
+pub columns-same : (a b : Row) → same_columns a b ≡ same_row a b
+unfolding same_row
+columns-same a b = simp and_assoc
+
+pub unlike-rows : (a b : Row) {t : Bool} → t ≡ not (same_columns a b) → t ≡ true → a ≡ b → ⊥
+unlike-rows a b {t} e q s =
+    not-both (columns-same b b ∙ row-itself b)
+    (false_of_not (same_columns b b) (sym (ap (λ (x : Row). not (same_columns x b)) s) ∙ sym e ∙ q))
 
 -- lists that agree in full
 agreeing-itself : (rs : List Row) → agreeing rs rs ≡ length rs

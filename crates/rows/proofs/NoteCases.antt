@@ -1,6 +1,7 @@
 -- What the pass notes for each command.
 use Prim.Native.Nat.{ℕ}
 use mathlib.Core.Path.{◌≡◌, ◌∙◌, ap}
+use mathlib.Core.Logic.{◌⊎◌, inl, inr}
 use mathlib.Core.Bool.{true}
 use mathlib.Core.List.{List, [], ◌∷◌}
 use Rattle.bundle.specs.declared.command.Access.{Access}
@@ -15,17 +16,18 @@ use Rattle.rows.specs.declared.pass.Course.{Course}
 use Rattle.rows.proofs.SlotLaws.{grown-none}
 
 -- BARRIER, END and CUT end an interval
-pub end-ends : {d : Command} → d ≡ Com.End → ends_interval d ≡ true
-unfolding ends_interval
-end-ends e = rw e
+abbrev Ending : Command → Type 0
+Ending d = (d ≡ Com.Barrier) ⊎ ((d ≡ Com.End) ⊎ (d ≡ Com.Cut))
 
-pub barrier-ends : {d : Command} → d ≡ Com.Barrier → ends_interval d ≡ true
+pub ends : {d : Command} → Ending d → ends_interval d ≡ true
 unfolding ends_interval
-barrier-ends e = rw e
+ends (inl e) = rw e
+ends (inr (inl e)) = rw e
+ends (inr (inr e)) = rw e
 
-pub cut-ends : {d : Command} → d ≡ Com.Cut → ends_interval d ≡ true
-unfolding ends_interval
-cut-ends e = rw e
+-- and these add nothing to it but their bytes
+abbrev Passing : Command → Type 0
+Passing d = ((l : ℕ) × (d ≡ Com.Acquire l)) ⊎ (((l : ℕ) × (d ≡ Com.Release l)) ⊎ ((a : Access) × (d ≡ Com.Access a)))
 
 module _ (fs : List Fork) (c : Course) (d : Command) (next : ℕ) (after : Course) (words : List ℕ) where
   -- a command that adds no record
@@ -37,28 +39,20 @@ module _ (fs : List Fork) (c : Course) (d : Command) (next : ℕ) (after : Cours
   unfolding course_after slots_here ends_interval
   noted-region w e = rw w (record { course = e; grown = grown-none words c.count })
 
-  pub noted-acquire : {l : ℕ} → d ≡ Com.Acquire l → after ≡ moved_on c next → Noted fs c d next after words words
+  pub noted-moved : Passing d → after ≡ moved_on c next → Noted fs c d next after words words
   unfolding course_after slots_here ends_interval
-  noted-acquire w e = rw w (record { course = e; grown = grown-none words c.count })
-
-  pub noted-release : {l : ℕ} → d ≡ Com.Release l → after ≡ moved_on c next → Noted fs c d next after words words
-  unfolding course_after slots_here ends_interval
-  noted-release w e = rw w (record { course = e; grown = grown-none words c.count })
-
-  pub noted-access : {a : Access} → d ≡ Com.Access a → after ≡ moved_on c next → Noted fs c d next after words words
-  unfolding course_after slots_here ends_interval
-  noted-access w e = rw w (record { course = e; grown = grown-none words c.count })
+  noted-moved (inl w) e = rw w.1 (record { course = e; grown = grown-none words c.count })
+  noted-moved (inr (inl w)) e = rw w.1 (record { course = e; grown = grown-none words c.count })
+  noted-moved (inr (inr w)) e = rw w.1 (record { course = e; grown = grown-none words c.count })
 
   -- a command that adds one
-  module _ {words' : List ℕ} (e : after ≡ closed_at c next) (g : Grown words words' c.count (slot_made c.team (span_here c next) c.count ∷ [])) where
-    pub noted-end : d ≡ Com.End → Noted fs c d next after words words'
-    unfolding course_after slots_here ends_interval
-    noted-end w = rw w (record { course = e; grown = g })
-
-    pub noted-barrier : d ≡ Com.Barrier → Noted fs c d next after words words'
-    unfolding course_after slots_here ends_interval
-    noted-barrier w = rw w (record { course = e; grown = g })
-
-    pub noted-cut : d ≡ Com.Cut → Noted fs c d next after words words'
-    unfolding course_after slots_here ends_interval
-    noted-cut w = rw w (record { course = e; grown = g })
+  pub noted-closed :
+      {words' : List ℕ}
+      → Ending d
+      → after ≡ closed_at c next
+      → Grown words words' c.count (slot_made c.team (span_here c next) c.count ∷ [])
+      → Noted fs c d next after words words'
+  unfolding course_after slots_here ends_interval
+  noted-closed (inl w) e g = rw w (record { course = e; grown = g })
+  noted-closed (inr (inl w)) e g = rw w (record { course = e; grown = g })
+  noted-closed (inr (inr w)) e g = rw w (record { course = e; grown = g })

@@ -17,7 +17,8 @@ use Rattle.bundle.specs.declared.index.Fork.{Fork}
 use Rattle.bundle.proofs.Tables.{table_none, table-length}
 use Rattle.bundle.proofs.Decoding.{read_next}
 use Rattle.bundle.proofs.RoundTrip.{read-puts-back}
-use Rattle.bundle.proofs.Onward.{Onward, Next, onward-next, onward-read, onward-end, legible}
+use Rattle.bundle.proofs.Onward.{Onward, Next, onward-next, legible}
+use Rattle.rewrite.proofs.ReadOn.{fewer-bytes, onward-stops}
 use Rattle.rows.specs.Rows.{Interval, ends_interval}
 use Rattle.rows.specs.Slots.{Slot, slot_at}
 use Rattle.rows.specs.Passing.{beginning, entered, joined_on, moved_on, closed_at, course_after, slots_here, Notable, Noted, Listable, slots_from, listed, Listed}
@@ -131,13 +132,11 @@ running-start s fs words x =
     }
 
 module _ {s : List ℕ} {fs : List Fork} {c : Course} {words : List ℕ} (x : Running s fs c words) where
-  pub running-read : {A : Type 0} {n p : ℕ} → c.at < length s → read_at s c.at ≡ refuses n p → A
-  running-read {n = n} {p = p} h e = absurd (onward-read s c.at n p x.onwards h e)
-
-  pub running-end : length s ≤ c.at → Listed s c.count words
+  -- in an accepted bundle nothing is refused but to read on at its end
+  pub running-end : {n p : ℕ} → read_at s c.at ≡ refuses n p → Listed s c.count words
   unfolding slots_along
   running-end h =
-      let none = onward-end s c.at x.onwards h in
+      let none = onward-stops s c.at x.onwards h in
       let rows = sym (append-nil (table (slot_at words) c.count)) ∙ subst (λ (ps : List Placed). table (slot_at words) c.count ++ slots_along fs c ps ≡ slots_from fs 0 (listed s)) none x.whole in
       let count : c.count ≡ length (listed s) = sym (table-length (slot_at words) c.count) ∙ ap (λ (l : List Slot). length l) rows ∙ slots_length fs 0 (listed s) in
       record {
@@ -197,10 +196,10 @@ module _ {s : List ℕ} {fs : List Fork} {c : Course} {words : List ℕ} (x : Ru
               };
         }
 
-    pub running-less : {after : Course} {words' : List ℕ} → c.at < length s → Noted fs c d next after words words' → length s - after.at < length s - c.at
-    running-less {after} h n =
+    pub running-less : {after : Course} {words' : List ℕ} → Noted fs c d next after words words' → length s - after.at < length s - c.at
+    running-less {after} n =
         let here : after.at ≡ next = ap (λ (a : Course). a.at) n.course ∙ (near-after fs c d c.at next x.near running-on).here in
-        omega (arith, h, here, running-on)
+        rw here (fewer-bytes s c.at e)
 
     pub running-turn : {after : Course} {words' : List ℕ} → Noted fs c d next after words words' → Running s fs after words'
     running-turn {after} {words'} n =

@@ -1,6 +1,6 @@
 -- SWORD's interval rows (A.7): one record for each barrier interval, put into a lent list; and given records checked.
 use Rattle.std.specs.Prelude.{ℕ, suc, ◌+◌, ◌-◌, Bool, false, true, cond, ◌&&◌, ◌||◌, List, [], ◌∷◌, ◌++◌, map, length, drop, eqb, ltb}
-use Rattle.bundle.specs.Answer.{Answer, gives, refuses, when_given, number_of}
+use Rattle.bundle.specs.Answer.{Answer, gives, refuses, when_given}
 use Rattle.bundle.specs.Lists.{concat_map, from_option}
 use Rattle.bundle.specs.Commands.{bytes_of}
 use Rattle.bundle.specs.Cases.{on_delimiter, on_opening}
@@ -14,10 +14,6 @@ use Rattle.bundle.specs.declared.index.Fork.{Fork}
 use Rattle.order.specs.Labels.{last_triple}
 use Rattle.rewrite.specs.Rewriting.{sorted_by}
 use Rattle.rows.specs.declared.row.Row.{Row}
-use Rattle.rows.specs.declared.export.Exporting.{Exporting}
-use Rattle.rows.specs.declared.export.Exporting.TheVariants as Exportings
-use Rattle.rows.specs.declared.checker.RowChecking.{RowChecking}
-use Rattle.rows.specs.declared.checker.RowChecking.TheVariants as Checkings
 
 -- a barrier interval of a member's chunk: the chunk's state at its start, where its data begins and the offset after its data
 pub record Interval : Type 0 where
@@ -97,11 +93,6 @@ export_as s lent (refuses n p) = record { answer = refuses n p; rows = lent }
 unfoldable pub export_of : List ℕ → List Row → LentRows
 export_of s lent = export_as s lent (check_of s)
 
--- what the answer of the code says
-abbrev pub exporting_of : Exporting → Answer ℕ
-exporting_of (Exportings.Written count) = gives count
-exporting_of (Exportings.Refused place cause) = refuses (number_of cause) place
-
 -- the same in every column
 unfoldable pub same_row : Row → Row → Bool
 same_row a b =
@@ -124,7 +115,3 @@ compared_with given rows =
 -- "takes given records and tells whether they are those of the bundle", "after check's refusals"
 unfoldable pub check_rows_of : List ℕ → List Row → Answer (Unit {0})
 check_rows_of s given = when_given (check_of s) (λ u. compared_with given (rows_of s))
-
-abbrev pub row_checking_of : RowChecking → Answer (Unit {0})
-row_checking_of Checkings.TheRows = gives tt
-row_checking_of (Checkings.Refused place cause) = refuses (number_of cause) place

@@ -1,84 +1,52 @@
 // Given records, held against those of a bundle.
-ghost use Rattle.std.specs.Prelude.{◌≡◌, ◌+◌, ◌^◌, ◌≤◌, ◌<◌, length};
+ghost use Rattle.std.specs.Prelude.{ℕ, List, ◌≡◌, ◌≤◌, ◌<◌, length, get_or};
 ghost use Rattle.bundle.specs.Index.{table};
-ghost use Rattle.rows.specs.Rows.{agreeing, check_rows_of, row_checking_of};
+ghost use Rattle.bundle.specs.Answer.{answer_of};
+ghost use Rattle.rows.specs.Rows.{agreeing, check_rows_of};
 ghost use Rattle.rows.specs.Slots.{row_in};
-ghost use Rattle.rows.specs.Planning.{comparable, same_after, told_of};
+ghost use Rattle.rows.specs.declared.row.Row.{Row};
 
-use crate::plan::{Layout, lay_out};
-use crate::row::{ROW_WORDS, Row, row_at, same_row};
-use bundle::answer::Checking;
-use bundle::refusal::Cause;
+use crate::plan::lay_out;
+use crate::row::{ROW_WORDS, Row, row_at};
+use bundle::refusal::{Cause, Refusal};
 
-// What is answered for given records: that they are those of the bundle, or a refusal.
-#[derive(Clone, Copy)]
-pub enum RowChecking {
-    TheRows,
-    Refused { place: usize, cause: Cause },
-}
-
-// How many records can be compared with so many given ones.
-pub(crate) fn least_of(layout: Layout, given: usize) -> usize
-    ensures { result ≡ comparable layout given }
+// How many of the first `count` records are the same as those given, from the front. `at` gives the record of an index.
+fn count_same<F: Fn(usize) -> Row>(words: &[u64], count: usize, at: F) -> usize
+    requires { (i : ℕ) → i < count → F.pre at i }
+    ensures { (given : List Row) → count ≤ length given → ((i : ℕ) → i < count → (row d : Row) → F.post at i row → row ≡ get_or given i d) → result ≡ agreeing (table (row_in words.now) count) given }
 {
-    let all = layout.count;
-    if given < all {
-        return given;
-    }
-    all
-}
-
-// How many records are the same from the front, after one more at index i.
-pub(crate) fn same_after(same: usize, i: usize, mine: Row, given: Row) -> usize
-    requires { i + 1 < 2 ^ 64 }
-    ensures { result ≡ same_after same i mine given }
-{
-    if (same == i) & same_row(mine, given) {
-        return i + 1;
-    }
-    same
-}
-
-pub(crate) fn told_of(layout: Layout, same: usize, given: usize) -> RowChecking
-    ensures { result ≡ told_of layout.checking layout.count same given }
-{
-    let count = layout.count;
-    let checking = layout.checking;
-    match checking {
-        Checking::Accepted => {
-            if (same == count) & (same == given) {
-                return RowChecking::TheRows;
-            }
-            RowChecking::Refused {
-                place: same,
-                cause: Cause::WrongRecord,
-            }
+    for i in 0..count {
+        if row_at(words, i) != at(i) {
+            return i;
         }
-        Checking::Refused { place, cause } => RowChecking::Refused { place, cause },
     }
+    count
 }
 
-// How many of the first `count` records are the same as those given, from the front.
-fn count_same(words: &[u64], count: usize, rows: &[Row]) -> usize
-    requires { count ≤ length rows.now }
-    ensures { result ≡ agreeing (table (row_in words.now) count) rows.now }
+// Tells whether so many given records are those of the bundle.
+pub(crate) fn check_given<F: Fn(usize) -> Row>(
+    bytes: &[u8],
+    given: usize,
+    at: F,
+) -> Result<(), Refusal>
+    requires { (i : ℕ) → i < given → F.pre at i }
+    ensures { (rows : List Row) → given ≡ length rows → ((i : ℕ) → i < given → (row d : Row) → F.post at i row → row ≡ get_or rows i d) → answer_of result ≡ check_rows_of bytes.now rows }
 {
-    let mut same = 0;
-    let mut i = 0;
-    while i < count {
-        same = same_after(same, i, row_at(words, i), rows[i]);
-        i += 1;
+    let mut words = [0u64; ROW_WORDS];
+    let count = lay_out(bytes, &mut words)?;
+    let same = count_same(&words, count.min(given), at);
+    if same == count && same == given {
+        return Ok(());
     }
-    same
+    Err(Refusal {
+        place: same,
+        cause: Cause::WrongRecord,
+    })
 }
 
 // Tells whether the given records are those of the bundle.
-pub fn check_rows(bytes: &[u8], rows: &[Row]) -> RowChecking
-    ensures { row_checking_of result ≡ check_rows_of bytes.now rows.now }
+pub fn check_rows(bytes: &[u8], rows: &[Row]) -> Result<(), Refusal>
+    ensures { answer_of result ≡ check_rows_of bytes.now rows.now }
 {
-    let mut words = [0u64; ROW_WORDS];
-    let layout = lay_out(bytes, &mut words);
-    let given = rows.len();
-    let same = count_same(&words, least_of(layout, given), rows);
-    told_of(layout, same, given)
+    check_given(bytes, rows.len(), |i| rows[i])
 }

@@ -1,14 +1,13 @@
 // A record of a barrier interval, and the words that hold records.
 ghost use Rattle.std.specs.Prelude.{◌≡◌, ◌≤◌, ◌<◌, length};
 ghost use Rattle.bundle.specs.Index.{parts_of, Added};
-ghost use Rattle.rows.specs.Rows.{same_row};
 ghost use Rattle.rows.specs.Slots.{name_word, first_parts, second_parts, slot_made, slot_at, held_in, row_in};
 
 use bundle::index::{Parts, pack, unpack, word_at};
 
 // The columns of Table 4.1: the team, the team that forked it (0 for the root), the interval, offset and span of the last triple of the
 // label at the interval's start, the level (0 for the root), where the data begins in the bundle, and its size.
-#[derive(Clone, Copy)]
+#[derive(Clone, Copy, PartialEq, Eq)]
 pub struct Row {
     pub pid: u32,
     pub ppid: u32,
@@ -21,7 +20,7 @@ pub struct Row {
 }
 
 // What the records of a team's intervals have in common: the team, the team that forked it, its size and its level.
-#[derive(Clone, Copy)]
+#[derive(Clone, Copy, Default)]
 pub struct TeamRow {
     pub team: u16,
     pub parent: u16,
@@ -41,17 +40,6 @@ pub struct Span {
 
 // The words of the records: for each the number by which it is ordered, and two words that hold it.
 pub const ROW_WORDS: usize = 1536;
-
-// Whether two records are the same in every column.
-pub fn same_row(one: Row, other: Row) -> bool
-    ensures { result ≡ same_row one other }
-{
-    let names = (one.pid == other.pid) & ((one.ppid == other.ppid) & (one.bid == other.bid));
-    let label = (one.offset == other.offset)
-        & ((one.span == other.span) & (one.level == other.level));
-    let data = (one.begin == other.begin) & (one.size == other.size);
-    names & (label & data)
-}
 
 // Team, member, interval and the record's place among all as one number: in the order of these numbers the records are by team, member,
 // interval.

@@ -8,17 +8,7 @@ use std::rt::Env;
 pub fn same_word(one: &[u8], other: &[u8]) -> bool
     ensures { result ≡ same one.now other.now }
 {
-    if one.len() != other.len() {
-        return false;
-    }
-    let mut i = 0;
-    while i < one.len() {
-        if one[i] != other[i] {
-            return false;
-        }
-        i += 1;
-    }
-    true
+    one == other
 }
 
 // Whether there is an argument of this number.
@@ -28,11 +18,9 @@ pub fn has_argument<E: Env>(rt: &E, number: usize) -> bool {
 }
 
 // Puts an argument at the start of the buffer; the answer is its length, and 0 where there is none or it is longer than the buffer.
+// Stays 0: its callers take such an argument for an empty one.
 pub fn argument<E: Env>(rt: &E, number: usize, buffer: &mut [u8]) -> usize
     ensures { result ≤ length buffer.new }
 {
-    match rt.arg(number, buffer) {
-        Ok(size) => size,
-        Err(_) => 0,
-    }
+    rt.arg(number, buffer).unwrap_or(0)
 }

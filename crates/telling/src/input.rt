@@ -7,13 +7,11 @@ use std::io::Read;
 fn read_some<R: Read>(input: &mut R, buffer: &mut [u8]) -> usize
     ensures { result ≤ length buffer.new }
 {
-    match input.read(buffer) {
-        Ok(count) => count,
-        Err(_) => 0,
-    }
+    input.read(buffer).unwrap_or(0)
 }
 
 // Reads until the buffer is full, the input ends or a read fails; the answer is how many bytes were put at the buffer's start.
+// Stays a while: a turn goes on by as many bytes as were read.
 pub fn read_full<R: Read>(input: &mut R, buffer: &mut [u8]) -> usize
     ensures { result ≤ length buffer.new }
 {

@@ -1,12 +1,10 @@
 // A refusal as a line, on standard error or wherever the caller says.
-use bundle::command::Putting;
-use bundle::refusal::{Cause, number};
-use text::lines::put_refused;
+use bundle::refusal::Refusal;
+use text::line::Line;
 
 // A write that fails changes nothing else.
-pub fn print_refused<P: Print>(to: &P, place: usize, cause: Cause) {
-    let mut line = [0u8; 96];
-    if let Putting::Written(size) = put_refused(number(cause), place, &mut line, 0) {
-        let _ = to.write_all(&line[..size]);
-    }
+pub fn print_refused<P: Print>(to: &P, refusal: Refusal) {
+    let mut line = Line::<96>::new();
+    line.push_refused(u8::from(refusal.cause), refusal.place);
+    let _ = to.write_all(line.text());
 }

@@ -1,25 +1,21 @@
 -- `rewrite::convert::measure` meets its contract. The invariant: what is measured, with the rest of the commands, is the whole. The measure: the
 -- bytes left. Assumes nothing.
-use mathlib.Core.Path.{sym, ◌∙◌, ap}
-use Rattle.bundle.specs.Commands.{reading_of}
-use Rattle.bundle.proofs.Passing.{fewer-left}
-use Rattle.rewrite.proofs.ConvertPass.{measured-start, few-so-far, measured-on, measured-turn, measured-end, measured-read}
+use mathlib.Core.Path.{sym}
+use Rattle.rewrite.proofs.ReadOn.{fewer-bytes}
+use Rattle.rewrite.proofs.ConvertPass.{measured-start, few-so-far, measured-turn, measured-end}
 use Rattle.rewrite.proofs.convert.measure.Goals as goal
 
-pub loop-at-init : goal.loop-at-init
-loop-at-init c = measured-start _ _ c.requires
+pub loop-next-init : goal.loop-next-init
+loop-next-init c = measured-start _ _ c.requires
 
-pub returns-in_default : goal.returns-in_default
-returns-in_default c = measured-read c.loop-at.invariant c.loop-at-test.true (sym c.read_command.ensures ∙ ap reading_of c.in_default.is)
+pub with-measured-requires : goal.with-measured-requires
+with-measured-requires c = few-so-far c.loop-next.invariant (sym c.in-Ok.ensures)
 
-pub measure_one-measured-requires : goal.measure_one-measured-requires
-measure_one-measured-requires c = few-so-far c.loop-at.invariant c.loop-at-test.true
+pub loop-next-smaller : goal.loop-next-smaller
+loop-next-smaller c = fewer-bytes _ _ (sym c.in-Ok.ensures)
 
-pub loop-at-smaller : goal.loop-at-smaller
-loop-at-smaller c = fewer-left _ _ _ c.loop-at-test.true (measured-on c.loop-at.invariant (sym c.read_command.ensures ∙ ap reading_of c.in-Taken.is))
-
-pub loop-at-preserved : goal.loop-at-preserved
-loop-at-preserved c = measured-turn c.loop-at.invariant (sym c.read_command.ensures ∙ ap reading_of c.in-Taken.is) c.measure_one-measured.ensures
+pub loop-next-preserved : goal.loop-next-preserved
+loop-next-preserved c = measured-turn c.loop-next.invariant (sym c.in-Ok.ensures) c.with-measured.ensures
 
 pub returns : goal.returns
-returns c = measured-end c.loop-at.invariant c.loop-at-test.false
+returns c = measured-end c.loop-next.invariant (sym c.in_default.ensures)

@@ -5,8 +5,8 @@ use lib.ListN.{length}
 use Rattle.rewrite.proofs.ConvertPass.{MeasuredTo}
 use Rattle.rewrite.proofs.convert.measure.Given as goal
 
-abbrev pub invariant-loop-at : goal.invariant-loop-at
-invariant-loop-at l = MeasuredTo l.wide l.bytes l.at l.measured
+abbrev pub invariant-loop-next : goal.invariant-loop-next
+invariant-loop-next l = MeasuredTo l.wide l.bytes l.at l.measured
 
-abbrev pub decreases-loop-at : goal.decreases-loop-at
-decreases-loop-at l = length l.bytes - l.at
+abbrev pub decreases-loop-next : goal.decreases-loop-next
+decreases-loop-next l = length l.bytes - l.at

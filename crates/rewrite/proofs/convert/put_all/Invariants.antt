@@ -5,8 +5,8 @@ use lib.ListN.{length}
 use Rattle.rewrite.proofs.ConvertPass.{PutTo}
 use Rattle.rewrite.proofs.convert.put_all.Given as goal
 
-abbrev pub invariant-loop-at : goal.invariant-loop-at
-invariant-loop-at l = PutTo l.wide l.bytes l.initial.buffer l.at l.position l.buffer
+abbrev pub invariant-loop-next : goal.invariant-loop-next
+invariant-loop-next l = PutTo l.wide l.bytes l.initial.buffer l.at l.position l.buffer
 
-abbrev pub decreases-loop-at : goal.decreases-loop-at
-decreases-loop-at l = length l.bytes - l.at
+abbrev pub decreases-loop-next : goal.decreases-loop-next
+decreases-loop-next l = length l.bytes - l.at

@@ -1,11 +1,6 @@
--- `rewrite::rewrite::copy_chunks` meets its contract. The invariant: the chunks of the words passed are copied. The measure: the words left. Assumes nothing.
-use Prim.Native.Nat.{◌-◌}
-use lib.ListN.{length}
+-- `rewrite::rewrite::copy_chunks` meets its contract. The invariant: the chunks of the words passed are copied. Assumes nothing.
 use Rattle.rewrite.proofs.Pieces.{CopiedTo}
 use Rattle.rewrite.proofs.rewrite.copy_chunks.Given as goal
 
-abbrev pub invariant-loop-i : goal.invariant-loop-i
-invariant-loop-i l = CopiedTo l.bytes l.chunks l.order l.initial.buffer l.i l.position l.buffer
-
-abbrev pub decreases-loop-i : goal.decreases-loop-i
-decreases-loop-i l = length l.order - l.i
+abbrev pub invariant-loop-word : goal.invariant-loop-word
+invariant-loop-word l = CopiedTo l.bytes l.chunks.words.now l.order l.initial.buffer l.word-index l.position l.buffer

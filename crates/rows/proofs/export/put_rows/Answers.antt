@@ -1,15 +1,15 @@
 -- `rows::export::put_rows` meets its contract. Assumes nothing.
+use mathlib.Core.Path.{sym}
 use native.Mathlib.Omega.{arith}
-use native.Mathlib.Numerals.{add-one}
-use Rattle.rows.proofs.Filling.{put-none, put-more}
+use Rattle.bundle.proofs.Tables.{table_none}
+use Rattle.rows.proofs.Filling.{put-more, put-all}
 use Rattle.rows.proofs.export.put_rows.Goals as goal
 
 pub loop-i-init : goal.loop-i-init
-loop-i-init c = (omega arith, put-none _ _)
+loop-i-init c = sym (table_none _)
 
 pub loop-i-preserved : goal.loop-i-preserved
-loop-i-preserved c = (
-  omega arith,
-  rw (c.row_at.ensures, c.loop-i.invariant.1, add-one)
-      (put-more c.args.words.now c.loop-i.i c.args.rows.now (omega (arith, c.requires, c.loop-i-test.true))),
-)
+loop-i-preserved c = put-more _ _ _ c.loop-i.invariant _ (omega (arith, c.loop-i-test.true, c.loop-i.auto.rows)) c.row_at.ensures
+
+pub returns : goal.returns
+returns c = put-all _ _ _ c.loop-i.invariant _ c.loop-i.auto.rows c.loop-i.auto.i-end c.loop-i-test.false

@@ -2,12 +2,12 @@
 -- The measure: the bytes left. Assumes nothing.
 use Prim.Native.Nat.{◌-◌}
 use lib.ListN.{length}
-use Rattle.bundle.specs.Index.{table, fork_row_at}
+use Rattle.bundle.specs.Index.{fork_rows_in}
 use Rattle.rows.proofs.Running.{Running}
 use Rattle.rows.proofs.pass.list_intervals.Given as goal
 
-abbrev pub invariant-loop-course : goal.invariant-loop-course
-invariant-loop-course l = Running l.bytes (table (fork_row_at l.forks) l.regions) l.course l.words
+abbrev pub invariant-loop-next : goal.invariant-loop-next
+invariant-loop-next l = Running l.bytes (fork_rows_in l.teams.forks) l.course l.words
 
-abbrev pub decreases-loop-course : goal.decreases-loop-course
-decreases-loop-course l = length l.bytes - l.course.at
+abbrev pub decreases-loop-next : goal.decreases-loop-next
+decreases-loop-next l = length l.bytes - l.course.at

@@ -1,5 +1,0 @@
--- `rows::pass::level_of` meets its contract. The measure: the climbs that are left. Assumes nothing.
-use Rattle.rows.proofs.pass.+level_of.Given as goal
-
-abbrev pub decreases-level_of : goal.decreases-level_of
-decreases-level_of l = l.most
