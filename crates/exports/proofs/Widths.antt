@@ -1,26 +1,30 @@
--- An operand over its width is outside its range, and put refuses it so; and the command that words stand for, by their first word.
+-- An operand over its width is outside its range, and put refuses it so.
 -- Assumes nothing.
-use Prim.Native.Nat.{ℕ, ◌-◌, ◌^◌, ◌≤◌, ◌<◌}
-use mathlib.Core.Path.{◌≡◌, sym, ◌∙◌}
-use mathlib.Core.Bool.{true, false, cond, ◌&&◌}
+use Prim.Native.Nat.{ℕ, ◌^◌, ◌<◌}
+use mathlib.Core.Path.{◌≡◌, sym}
+use mathlib.Core.Bool.{true, false}
 use mathlib.Core.List.{List, ◌∷◌}
 use mathlib.Core.Option.{Option, none, some}
-use lib.ListN.{get_or}
-use lib.Dec.{ltb, leb}
-use native.Mathlib.Omega.{arith}
-use borrow.Author.Tests.{ltb-true, le-leb, lt-ltb, ne_eqb}
-use Rattle.bundle.specs.Answer.{refuses}
+use lib.Dec.{ltb}
+use borrow.Author.Tests.{ltb-true}
+use Rattle.bundle.specs.Answer.{refuses, number_of}
 use Rattle.bundle.specs.Lists.{from_option}
-use Rattle.bundle.specs.Commands.{kind_of, fit_widths, form_of, code_of, widths_of, in_range, access_widths}
+use Rattle.bundle.specs.Commands.{fit_widths, form_of, code_of, widths_of, in_range, access_widths}
 use Rattle.bundle.specs.declared.command.Access.{Access}
 use Rattle.bundle.specs.declared.command.Command.{Command}
 use Rattle.bundle.specs.declared.command.Command.TheVariants as Com
 use Rattle.bundle.proofs.Tests.{false-is-true, is_false, and_left, and_right}
 use Rattle.bundle.proofs.Operands.{Fits}
-use Rattle.bundle.proofs.Forms.{access-widths, not-between}
+use Rattle.bundle.proofs.Forms.{access-widths}
 use Rattle.bundle.proofs.Ranges.{in-range-fits}
 use Rattle.bundle.proofs.Copying.{put-out-of-range}
-use Rattle.exports.specs.CommandWords.{command_by, access_from, put_from}
+use Rattle.std.specs.Result.{IsErrAnd}
+use Rattle.std.specs.declared.result.Result.{Result}
+use Rattle.std.specs.declared.result.Result.TheVariants.{Ok, Err}
+use Rattle.exports.specs.declared.commands.BadWords.{BadWords}
+use Rattle.exports.specs.declared.commands.BadWords.TheVariants as Bad
+use Rattle.exports.specs.Inner.{Makes, cause_of}
+use Rattle.exports.specs.CommandWords.{put_from}
 
 -- the first of operands that fit is below its width, and the rest fit
 first_fits : {w x : ℕ} {ws xs : List ℕ} → Fits (w ∷ ws) (x ∷ xs) → x < 256 ^ w
@@ -71,65 +75,15 @@ pub put-wide :
 put-wide none buffer at e = false-is-true (sym e)
 put-wide (some c) buffer at e = put-out-of-range c buffer at e
 
--- the command by its byte
-module _ (words : List ℕ) (byte : ℕ) where
-  pub by-member : byte ≡ 0x01 → command_by byte words ≡ some (Com.Member (get_or words 1 0) (get_or words 2 0))
-  unfolding command_by
-  by-member e = rw e
+-- words that the code refuses are refused by their definition, with the same number
+pub put-refused :
+    (o : Option Command) (bad : BadWords) (buffer : List ℕ) (at : ℕ)
+    → Makes o (Err bad)
+    → put_from o buffer at ≡ record { answer = refuses (number_of (cause_of bad)) at; buffer = buffer }
+put-refused o Bad.UnknownByte buffer at e = rw e
+put-refused o Bad.TooWide buffer at e = put-wide o buffer at e
 
-  pub by_end : byte ≡ 0x02 → command_by byte words ≡ some Com.End
-  unfolding command_by
-  by_end e = rw e
-
-  pub by-cut : byte ≡ 0x03 → command_by byte words ≡ some Com.Cut
-  unfolding command_by
-  by-cut e = rw e
-
-  pub by-region : byte ≡ 0x10 → command_by byte words ≡ some (Com.Region (get_or words 1 0) (get_or words 8 0))
-  unfolding command_by
-  by-region e = rw e
-
-  pub by-barrier : byte ≡ 0x11 → command_by byte words ≡ some Com.Barrier
-  unfolding command_by
-  by-barrier e = rw e
-
-  pub by-acquire : byte ≡ 0x20 → command_by byte words ≡ some (Com.Acquire (get_or words 3 0))
-  unfolding command_by
-  by-acquire e = rw e
-
-  pub by-release : byte ≡ 0x21 → command_by byte words ≡ some (Com.Release (get_or words 3 0))
-  unfolding command_by
-  by-release e = rw e
-
-  by-other :
-      (byte ≡ 0x01 → ⊥) → (byte ≡ 0x02 → ⊥) → (byte ≡ 0x03 → ⊥) → (byte ≡ 0x10 → ⊥) → (byte ≡ 0x11 → ⊥) → (byte ≡ 0x20 → ⊥) → (byte ≡ 0x21 → ⊥)
-      → command_by byte words
-      ≡ cond (leb 0x30 byte && ltb byte 0x34) (some (access_from false (kind_of byte) words))
-      (cond (leb 0x38 byte && ltb byte 0x3c) (some (access_from true (kind_of (byte - 8)) words)) none)
-  unfolding command_by
-  by-other n₁ n₂ n₃ n₄ n₅ n₆ n₇ =
-      rw (ne_eqb byte 0x01 n₁, ne_eqb byte 0x02 n₂, ne_eqb byte 0x03 n₃, ne_eqb byte 0x10 n₄, ne_eqb byte 0x11 n₅, ne_eqb byte 0x20 n₆, ne_eqb byte 0x21 n₇)
-
-  by-group :
-      0x30 ≤ byte
-      → command_by byte words
-      ≡ cond (leb 0x30 byte && ltb byte 0x34) (some (access_from false (kind_of byte) words))
-      (cond (leb 0x38 byte && ltb byte 0x3c) (some (access_from true (kind_of (byte - 8)) words)) none)
-  by-group low =
-      by-other (λ e. omega arith) (λ e. omega arith) (λ e. omega arith) (λ e. omega arith) (λ e. omega arith) (λ e. omega arith) (λ e. omega arith)
-
-  pub by-access : 0x30 ≤ byte → byte < 0x34 → command_by byte words ≡ some (access_from false (kind_of byte) words)
-  by-access low high = by-group low ∙ rw (le-leb 0x30 byte low, lt-ltb byte 0x34 high)
-
-  pub by-wide-access : 0x38 ≤ byte → byte < 0x3c → command_by byte words ≡ some (access_from true (kind_of (byte - 8)) words)
-  by-wide-access low high =
-      by-group (omega arith)
-      ∙ rw (not-between byte 0x30 0x34 (λ l h. omega arith), le-leb 0x38 byte low, lt-ltb byte 0x3c high)
-
-  pub by-none :
-      (byte ≡ 0x01 → ⊥) → (byte ≡ 0x02 → ⊥) → (byte ≡ 0x03 → ⊥) → (byte ≡ 0x10 → ⊥) → (byte ≡ 0x11 → ⊥) → (byte ≡ 0x20 → ⊥) → (byte ≡ 0x21 → ⊥)
-      → (0x30 ≤ byte → byte < 0x34 → ⊥)
-      → (0x38 ≤ byte → byte < 0x3c → ⊥)
-      → command_by byte words ≡ none
-  by-none n₁ n₂ n₃ n₄ n₅ n₆ n₇ narrow wide =
-      by-other n₁ n₂ n₃ n₄ n₅ n₆ n₇ ∙ rw (not-between byte 0x30 0x34 narrow, not-between byte 0x38 0x3c wide)
+-- what the code tells of an operand over its width
+pub is-too-wide : (o : Option Command) (r : Result Command BadWords) → IsErrAnd r (λ bad. bad ≡ Bad.TooWide) → from_option true in_range o ≡ false → Makes o r
+is-too-wide o (Ok c) h e = absurd h
+is-too-wide o (Err bad) h e = rw h e

@@ -9,10 +9,11 @@ use mathlib.Core.Option.{some}
 use lib.ListN.{length}
 use native.Mathlib.Omega.{arith}
 use Rattle.bundle.specs.Answer.{gives}
-use Rattle.bundle.specs.Commands.{Bytes, Taken, kind_byte, access_byte, in_range, read_at}
+use Rattle.bundle.specs.Commands.{Bytes, kind_byte, access_byte, in_range, read_at}
 use Rattle.bundle.specs.declared.command.AccessKind.{AccessKind}
 use Rattle.bundle.specs.declared.command.AccessKind.TheVariants as Kind
 use Rattle.bundle.specs.declared.command.Command.{Command}
+use Rattle.bundle.specs.declared.command.Taken.{Taken}
 use Rattle.bundle.specs.declared.command.Command.TheVariants as Com
 use Rattle.bundle.proofs.Forms.{kind_in, kind-in}
 use Rattle.bundle.proofs.RoundTrip.{read-puts-back, put-reads-back}

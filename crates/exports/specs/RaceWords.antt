@@ -1,13 +1,13 @@
 -- Races, judgements and the counts of a listing as words.
 use Rattle.std.specs.Prelude.{ℕ, ◌≡◌, Bool, true, false, List, [], ◌∷◌, map, get_or, take}
 use Rattle.std.proofs.Math.Option.{Option}
+use Rattle.std.specs.declared.option.Option as Code
+use Rattle.std.specs.declared.option.Option.TheVariants.{Some, None}
 use Rattle.bundle.specs.Commands.{Lent}
 use Rattle.bundle.specs.Chunks.{chunks_of}
 use Rattle.verdict.specs.Races.{races_of}
 use Rattle.verdict.specs.declared.race.Name.{Name}
 use Rattle.verdict.specs.declared.race.Race.{Race}
-use Rattle.verdict.specs.declared.race.Verdict.{Verdict}
-use Rattle.verdict.specs.declared.race.Verdict.TheVariants as Ver
 use Rattle.verdict.specs.declared.race.Judgement.{Judgement}
 use Rattle.listing.specs.declared.list.Totals.{Totals}
 use Rattle.listing.specs.Listing.{Outcome, race_in}
@@ -28,12 +28,12 @@ race_words r =
     (access_words r.second r.second_site r.second_element [])
 
 -- judge: the four counts, 1 for a race or 0 for race-free, and the least race: 16 words
-abbrev pub least_words : Verdict → List ℕ
-least_words Ver.RaceFree = zero_words 12
-least_words (Ver.Least r) = 1 ∷ race_words r
+abbrev pub least_words : Code.Option Race → List ℕ
+least_words None = zero_words 12
+least_words (Some r) = 1 ∷ race_words r
 
 abbrev pub judgement_words : Judgement → List ℕ
-judgement_words j = j.chunks ∷ j.segments ∷ j.accesses ∷ j.races ∷ least_words j.verdict
+judgement_words j = j.chunks ∷ j.segments ∷ j.accesses ∷ j.races ∷ least_words j.least
 
 abbrev pub judge_told : Lent Judgement → Left (List ℕ)
 judge_told = left (zero_words 16) judgement_words

@@ -2,8 +2,9 @@
 use Rattle.std.specs.Prelude.{ℕ, List, replicate}
 use Rattle.std.proofs.Math.Option.{Option, none, some}
 use Rattle.bundle.specs.Answer.{Answer, gives, refuses}
-use Rattle.bundle.specs.Commands.{Taken, Lent}
-use Rattle.bundle.specs.Find.{Ends}
+use Rattle.bundle.specs.Commands.{Lent}
+use Rattle.bundle.specs.declared.check.Ends.{Ends}
+use Rattle.bundle.specs.declared.command.Taken.{Taken}
 use Rattle.bundle.specs.declared.command.Range.{Range}
 use Rattle.order.specs.declared.range.Overlap.{Overlap}
 use Rattle.exports.specs.CommandWords.{command_words}

@@ -4,23 +4,16 @@ ghost use Rattle.bundle.specs.Check.{check_of};
 ghost use Rattle.bundle.specs.Find.{ends_of};
 ghost use Rattle.exports.specs.Told.{check_told, ends_told};
 
-use bundle::answer::Checking;
-use bundle::check::{Found, check, find_ends};
-use bundle::refusal::number;
+use crate::told::{accepted, refused};
+use bundle::check::{check, find_ends};
 
 // Whether the bytes are a bundle.
 pub fn dezhakom_check(bytes: &[u8], place: &mut usize) -> u32
     ensures { check_told (check_of bytes.now) ≡ record { number = result; place = place.new; answer = tt } }
 {
     match check(bytes) {
-        Checking::Accepted => {
-            *place = 0;
-            0
-        }
-        Checking::Refused { place: at, cause } => {
-            *place = at;
-            number(cause) as u32
-        }
+        Ok(()) => accepted(place),
+        Err(refusal) => refused(refusal, place),
     }
 }
 
@@ -36,20 +29,15 @@ pub fn dezhakom_find_chunk(
     ensures { ends_told (ends_of bytes.now team member) ≡ record { number = result; place = place.new; answer = record { start = start.new; end = end.new } } }
 {
     match find_ends(bytes, team, member) {
-        Found::At {
-            start: first,
-            end: past,
-        } => {
-            *start = first;
-            *end = past;
-            *place = 0;
-            0
+        Ok(ends) => {
+            *start = ends.start;
+            *end = ends.end;
+            accepted(place)
         }
-        Found::Refused { place: at, cause } => {
+        Err(refusal) => {
             *start = 0;
             *end = 0;
-            *place = at;
-            number(cause) as u32
+            refused(refusal, place)
         }
     }
 }

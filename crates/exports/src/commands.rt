@@ -2,55 +2,98 @@
 // is 0 when it is read, and is not looked at when it is put.
 ghost use Rattle.std.specs.Prelude.{◌≡◌};
 ghost use Rattle.std.proofs.Math.Option.{some};
-ghost use Rattle.bundle.specs.Commands.{read_at, putting_of};
+ghost use Rattle.bundle.specs.Answer.{answer_of};
+ghost use Rattle.bundle.specs.Commands.{read_at};
 ghost use Rattle.exports.specs.CommandWords.{command_words, command_from, access_from, put_from};
-ghost use Rattle.exports.specs.Inner.{Makes};
+ghost use Rattle.exports.specs.declared.commands.BadWords.TheVariants.{TooWide};
+ghost use Rattle.exports.specs.Inner.{Makes, cause_of};
 ghost use Rattle.exports.specs.Told.{read_told, put_told};
 
+use crate::told::{accepted, refused};
 use bundle::command::{
-    Access, AccessKind, Command, Putting, Range, Reading, access_byte, kind_of, put_command,
-    read_command,
+    Access, AccessKind, Command, Range, access_byte, kind_of, put_command, read_command,
 };
-use bundle::refusal::{Cause, number};
+use bundle::refusal::{Cause, Refusal};
+use std::num::TryFromIntError;
 
-// What the words of a command stand for.
-#[derive(Clone, Copy)]
-pub enum Made {
-    Command(Command),
+// Why words stand for no command that can be put.
+#[derive(Clone, Copy, PartialEq, Eq)]
+pub enum BadWords {
     // The first word is no command byte.
-    NoCommand,
+    UnknownByte,
     // An operand is over its width.
     TooWide,
 }
 
+impl From<TryFromIntError> for BadWords {
+    ghost from_gives = { λ _ bad. bad ≡ TooWide };
+
+    fn from(_error: TryFromIntError) -> BadWords {
+        BadWords::TooWide
+    }
+}
+
+// An operand over its width is told as any that is outside its range.
+impl From<BadWords> for Cause {
+    ghost from_gives = { λ bad cause. cause ≡ cause_of bad };
+
+    fn from(bad: BadWords) -> Cause {
+        match bad {
+            BadWords::UnknownByte => Cause::UnknownCommand,
+            BadWords::TooWide => Cause::OutOfRange,
+        }
+    }
+}
+
+#[tactic(auto, unfolding(crate::specs::CommandWords::command_words))]
 fn access_words(access: Access) -> [u32; 9]
     ensures { result ≡ command_words (Command.Access access) }
 {
-    let kind = access.kind;
     let range = access.range;
     [
-        access_byte(access.wide, kind) as u32,
+        u32::from(access_byte(access.wide, access.kind)),
         0,
         0,
         0,
         access.site,
         range.base,
-        range.stride as u32,
-        range.count as u32,
-        range.size as u32,
+        u32::from(range.stride),
+        u32::from(range.count),
+        u32::from(range.size),
     ]
 }
 
+#[tactic(auto, unfolding(crate::specs::CommandWords::command_words))]
 fn command_words(command: Command) -> [u32; 9]
     ensures { result ≡ command_words command }
 {
     match command {
-        Command::Member { team, member } => { [0x01, team as u32, member as u32, 0, 0, 0, 0, 0, 0] }
+        Command::Member { team, member } => [
+            0x01,
+            u32::from(team),
+            u32::from(member),
+            0,
+            0,
+            0,
+            0,
+            0,
+            0,
+        ],
         Command::End => [0x02, 0, 0, 0, 0, 0, 0, 0, 0],
-        Command::Region { team, size } => [0x10, team as u32, 0, 0, 0, 0, 0, 0, size as u32],
+        Command::Region { team, size } => [
+            0x10,
+            u32::from(team),
+            0,
+            0,
+            0,
+            0,
+            0,
+            0,
+            u32::from(size),
+        ],
         Command::Barrier => [0x11, 0, 0, 0, 0, 0, 0, 0, 0],
-        Command::Acquire(lock) => [0x20, 0, 0, lock as u32, 0, 0, 0, 0, 0],
-        Command::Release(lock) => [0x21, 0, 0, lock as u32, 0, 0, 0, 0, 0],
+        Command::Acquire(lock) => [0x20, 0, 0, u32::from(lock), 0, 0, 0, 0, 0],
+        Command::Release(lock) => [0x21, 0, 0, u32::from(lock), 0, 0, 0, 0, 0],
         Command::Access(access) => access_words(access),
         Command::Cut => [0x03, 0, 0, 0, 0, 0, 0, 0, 0],
     }
@@ -67,135 +110,71 @@ pub fn dezhakom_read_command(
     ensures { read_told (read_at bytes.now position) ≡ record { number = result; place = place.new; answer = record { command = command.new; next = next.new } } }
 {
     match read_command(bytes, position) {
-        Reading::Taken {
-            next: after,
-            command: taken,
-        } => {
-            *command = command_words(taken);
-            *next = after;
-            *place = 0;
-            0
+        Ok(taken) => {
+            *command = command_words(taken.command);
+            *next = taken.next;
+            accepted(place)
         }
-        Reading::Refused { place: at, cause } => {
+        Err(refusal) => {
             *command = [0; 9];
             *next = 0;
-            *place = at;
-            number(cause) as u32
+            refused(refusal, place)
         }
     }
 }
 
-fn member_from(team: u32, member: u32) -> Made
-    ensures { Makes (some (Command.Member team member)) result }
-{
-    if 65535 < team {
-        return Made::TooWide;
-    }
-    if 255 < member {
-        return Made::TooWide;
-    }
-    Made::Command(Command::Member {
-        team: team as u16,
-        member: member as u8,
-    })
-}
-
-fn region_from(team: u32, size: u32) -> Made
-    ensures { Makes (some (Command.Region team size)) result }
-{
-    if 65535 < team {
-        return Made::TooWide;
-    }
-    if 255 < size {
-        return Made::TooWide;
-    }
-    Made::Command(Command::Region {
-        team: team as u16,
-        size: size as u8,
-    })
-}
-
-fn acquire_from(lock: u32) -> Made
-    ensures { Makes (some (Command.Acquire lock)) result }
-{
-    if 255 < lock {
-        return Made::TooWide;
-    }
-    Made::Command(Command::Acquire(lock as u8))
-}
-
-fn release_from(lock: u32) -> Made
-    ensures { Makes (some (Command.Release lock)) result }
-{
-    if 255 < lock {
-        return Made::TooWide;
-    }
-    Made::Command(Command::Release(lock as u8))
-}
-
-fn access_from(words: &[u32; 9], wide: bool, kind: AccessKind) -> Made
+fn access_from(words: &[u32; 9], wide: bool, kind: AccessKind) -> Result<Command, BadWords>
     ensures { Makes (some (access_from wide kind words.now)) result }
 {
-    let site = words[4];
-    let base = words[5];
-    let stride = words[6];
-    let count = words[7];
-    let size = words[8];
-    if 65535 < stride {
-        return Made::TooWide;
-    }
-    if 65535 < count {
-        return Made::TooWide;
-    }
-    if 255 < size {
-        return Made::TooWide;
-    }
     let range = Range {
-        base,
-        stride: stride as u16,
-        count: count as u16,
-        size: size as u8,
+        base: words[5],
+        stride: u16::try_from(words[6])?,
+        count: u16::try_from(words[7])?,
+        size: u8::try_from(words[8])?,
     };
-    Made::Command(Command::Access(Access {
+    Ok(Command::Access(Access {
         kind,
         wide,
-        site,
+        site: words[4],
         range,
     }))
 }
 
 // The command that words stand for.
-fn command_from(words: &[u32; 9]) -> Made
+#[tactic(auto, unfolding(crate::specs::CommandWords::command_by))]
+fn command_from(words: &[u32; 9]) -> Result<Command, BadWords>
     ensures { Makes (command_from words.now) result }
 {
     match words[0] {
-        0x01 => member_from(words[1], words[2]),
-        0x02 => Made::Command(Command::End),
-        0x03 => Made::Command(Command::Cut),
-        0x10 => region_from(words[1], words[8]),
-        0x11 => Made::Command(Command::Barrier),
-        0x20 => acquire_from(words[3]),
-        0x21 => release_from(words[3]),
+        0x01 => Ok(Command::Member {
+            team: u16::try_from(words[1])?,
+            member: u8::try_from(words[2])?,
+        }),
+        0x02 => Ok(Command::End),
+        0x03 => Ok(Command::Cut),
+        0x10 => Ok(Command::Region {
+            team: u16::try_from(words[1])?,
+            size: u8::try_from(words[8])?,
+        }),
+        0x11 => Ok(Command::Barrier),
+        0x20 => Ok(Command::Acquire(u8::try_from(words[3])?)),
+        0x21 => Ok(Command::Release(u8::try_from(words[3])?)),
         0x30..=0x33 => access_from(words, false, kind_of(words[0] as u8)),
         0x38..=0x3b => access_from(words, true, kind_of(words[0] as u8 - 8)),
-        _ => Made::NoCommand,
+        _ => Err(BadWords::UnknownByte),
     }
 }
 
-// Puts the command that words stand for: 2 for none, and 5 for an operand over its width, as for any that is outside its range.
-fn put_words(words: &[u32; 9], buffer: &mut [u8], position: usize) -> Putting
-    ensures { put_from (command_from words.now) buffer.old position ≡ record { answer = putting_of result; buffer = buffer.new } }
+// Puts the command that words stand for.
+fn put_words(words: &[u32; 9], buffer: &mut [u8], position: usize) -> Result<usize, Refusal>
+    ensures { put_from (command_from words.now) buffer.old position ≡ record { answer = answer_of result; buffer = buffer.new } }
 {
     match command_from(words) {
-        Made::Command(command) => put_command(command, buffer, position),
-        Made::NoCommand => Putting::Refused {
+        Ok(command) => put_command(command, buffer, position),
+        Err(bad) => Err(Refusal {
             place: position,
-            cause: Cause::UnknownCommand,
-        },
-        Made::TooWide => Putting::Refused {
-            place: position,
-            cause: Cause::OutOfRange,
-        },
+            cause: Cause::from(bad),
+        }),
     }
 }
 
@@ -210,15 +189,13 @@ pub fn dezhakom_put_command(
     ensures { put_told (put_from (command_from command.now) buffer.old position) ≡ record { told = record { number = result; place = place.new; answer = next.new }; memory = buffer.new } }
 {
     match put_words(command, buffer, position) {
-        Putting::Written(after) => {
+        Ok(after) => {
             *next = after;
-            *place = 0;
-            0
+            accepted(place)
         }
-        Putting::Refused { place: at, cause } => {
+        Err(refusal) => {
             *next = 0;
-            *place = at;
-            number(cause) as u32
+            refused(refusal, place)
         }
     }
 }

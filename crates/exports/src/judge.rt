@@ -4,9 +4,9 @@ ghost use Rattle.std.specs.Prelude.{◌≡◌};
 ghost use Rattle.verdict.specs.Judge.{judge_of, next_of};
 ghost use Rattle.exports.specs.RaceWords.{name_of, race_words, judgement_words, judge_told, next_told};
 
-use bundle::refusal::number;
+use crate::told::{accepted, refused};
 use verdict::judge::{judge, next_race};
-use verdict::race::{Judgement, Judging, Name, Next, Race, Verdict};
+use verdict::race::{Judgement, Name, Race};
 
 pub fn race_words(race: Race) -> [u32; 11]
     ensures { result ≡ race_words race }
@@ -15,15 +15,15 @@ pub fn race_words(race: Race) -> [u32; 11]
     let second = race.second;
     [
         race.witness,
-        first.team as u32,
-        first.member as u32,
-        first.number as u32,
-        race.first_site as u32,
+        u32::from(first.team),
+        u32::from(first.member),
+        u32::from(first.number),
+        u32::from(race.first_site),
         race.first_element,
-        second.team as u32,
-        second.member as u32,
-        second.number as u32,
-        race.second_site as u32,
+        u32::from(second.team),
+        u32::from(second.member),
+        u32::from(second.number),
+        u32::from(race.second_site),
         race.second_element,
     ]
 }
@@ -31,23 +31,16 @@ pub fn race_words(race: Race) -> [u32; 11]
 fn judgement_words(judgement: Judgement) -> [u32; 16]
     ensures { result ≡ judgement_words judgement }
 {
-    let chunks = judgement.chunks;
-    let segments = judgement.segments;
-    let accesses = judgement.accesses;
-    let races = judgement.races;
-    let verdict = judgement.verdict;
-    match verdict {
-        Verdict::RaceFree => [
-            chunks, segments, accesses, races, 0, 0, 0, 0, 0, 0, 0, 0, 0, 0, 0, 0,
-        ],
-        Verdict::Least(race) => {
-            let words = race_words(race);
-            [
-                chunks, segments, accesses, races, 1, words[0], words[1], words[2], words[3],
-                words[4], words[5], words[6], words[7], words[8], words[9], words[10],
-            ]
-        }
+    let mut words = [0; 16];
+    words[0] = judgement.chunks;
+    words[1] = judgement.segments;
+    words[2] = judgement.accesses;
+    words[3] = judgement.races;
+    if let Some(race) = judgement.least {
+        words[4] = 1;
+        words[5..].copy_from_slice(&race_words(race));
     }
+    words
 }
 
 // Judges a bundle.
@@ -60,15 +53,13 @@ pub fn dezhakom_judge(
     ensures { judge_told (judge_of bytes.now work.old) ≡ record { told = record { number = result; place = place.new; answer = judgement.new }; memory = work.new } }
 {
     match judge(bytes, work) {
-        Judging::Judged(judged) => {
+        Ok(judged) => {
             *judgement = judgement_words(judged);
-            *place = 0;
-            0
+            accepted(place)
         }
-        Judging::Refused { place: at, cause } => {
+        Err(refusal) => {
             *judgement = [0; 16];
-            *place = at;
-            number(cause) as u32
+            refused(refusal, place)
         }
     }
 }
@@ -90,34 +81,25 @@ pub fn dezhakom_next_race(
 ) -> u32
     ensures { next_told (next_of bytes.now witness (name_of first_team first_member first_number) (name_of second_team second_member second_number) work.old) ≡ record { told = record { number = result; place = place.new; answer = record { found = found.new; value = race.new } }; memory = work.new } }
 {
-    let one = Name {
+    let first = Name {
         team: first_team,
         member: first_member,
         number: first_number,
     };
-    let other = Name {
+    let second = Name {
         team: second_team,
         member: second_member,
         number: second_number,
     };
-    match next_race(bytes, witness, one, other, work) {
-        Next::Found(above) => {
+    *found = 0;
+    *race = [0; 11];
+    match next_race(bytes, witness, first, second, work) {
+        Ok(Some(above)) => {
             *found = 1;
             *race = race_words(above);
-            *place = 0;
-            0
+            accepted(place)
         }
-        Next::Nothing => {
-            *found = 0;
-            *race = [0; 11];
-            *place = 0;
-            0
-        }
-        Next::Refused { place: at, cause } => {
-            *found = 0;
-            *race = [0; 11];
-            *place = at;
-            number(cause) as u32
-        }
+        Ok(None) => accepted(place),
+        Err(refusal) => refused(refusal, place),
     }
 }

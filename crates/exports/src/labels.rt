@@ -1,21 +1,16 @@
 // The label of a segment, and the comparison of two labels. A label is sixteen words: how many triples it has, and offset, span and interval of each of five.
-ghost use Rattle.std.specs.Prelude.{◌≡◌};
+ghost use Rattle.std.specs.Prelude.{◌≡◌, ◌≤◌};
 ghost use Rattle.order.specs.Labels.{label_of, compare_of};
-ghost use Rattle.exports.specs.LabelWords.{label_words, label_from, order_number, label_told, order_told};
+ghost use Rattle.exports.specs.LabelWords.{label_words, triple_at, label_from, order_number, label_told, order_told};
 
-use bundle::refusal::number;
-use order::climb::{LabelAnswer, label_of_segment};
-use order::label::{Comparison, Label, Order, Triple, compare};
+use crate::told::{accepted, refused};
+use order::climb::label_of_segment;
+use order::label::{Label, Order, Triple, compare};
 
 fn label_words(label: Label) -> [u32; 16]
     ensures { result ≡ label_words label }
 {
-    let triples = label.triples;
-    let a = triples[0];
-    let b = triples[1];
-    let c = triples[2];
-    let d = triples[3];
-    let e = triples[4];
+    let [a, b, c, d, e] = label.triples;
     [
         label.count,
         a.offset,
@@ -47,52 +42,42 @@ pub fn dezhakom_label_of_segment(
 ) -> u32
     ensures { label_told (label_of bytes.now team member segment) ≡ record { number = result; place = place.new; answer = label.new } }
 {
-    let labelling = label_of_segment(bytes, team, member, segment);
-    let answer = labelling.answer;
-    *label = label_words(labelling.label);
-    match answer {
-        LabelAnswer::Found => {
-            *place = 0;
-            0
+    match label_of_segment(bytes, team, member, segment) {
+        Ok(found) => {
+            *label = label_words(found);
+            accepted(place)
         }
-        LabelAnswer::Refused { place: at, cause } => {
-            *place = at;
-            number(cause) as u32
+        Err(refusal) => {
+            *label = [0; 16];
+            refused(refusal, place)
         }
+    }
+}
+
+// The triple in the three words from an index.
+fn triple_at(words: &[u32; 16], i: usize) -> Triple
+    requires { i ≤ 13 }
+    ensures { result ≡ triple_at words.now i }
+{
+    Triple {
+        offset: words[i],
+        span: words[i + 1],
+        interval: words[i + 2],
     }
 }
 
 fn label_from(words: &[u32; 16]) -> Label
     ensures { result ≡ label_from words.now }
 {
-    let a = Triple {
-        offset: words[1],
-        span: words[2],
-        interval: words[3],
-    };
-    let b = Triple {
-        offset: words[4],
-        span: words[5],
-        interval: words[6],
-    };
-    let c = Triple {
-        offset: words[7],
-        span: words[8],
-        interval: words[9],
-    };
-    let d = Triple {
-        offset: words[10],
-        span: words[11],
-        interval: words[12],
-    };
-    let e = Triple {
-        offset: words[13],
-        span: words[14],
-        interval: words[15],
-    };
     Label {
         count: words[0],
-        triples: [a, b, c, d, e],
+        triples: [
+            triple_at(words, 1),
+            triple_at(words, 4),
+            triple_at(words, 7),
+            triple_at(words, 10),
+            triple_at(words, 13),
+        ],
     }
 }
 
@@ -117,15 +102,13 @@ pub fn dezhakom_compare_labels(
     ensures { order_told (compare_of (label_from first.now) (label_from second.now)) ≡ record { number = result; place = place.new; answer = order.new } }
 {
     match compare(label_from(first), label_from(second)) {
-        Comparison::Compared(found) => {
+        Ok(found) => {
             *order = order_number(found);
-            *place = 0;
-            0
+            accepted(place)
         }
-        Comparison::Refused { place: at, cause } => {
+        Err(refusal) => {
             *order = 0;
-            *place = at;
-            number(cause) as u32
+            refused(refusal, place)
         }
     }
 }

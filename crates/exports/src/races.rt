@@ -5,7 +5,7 @@ ghost use Rattle.listing.specs.Listing.{listing_of, race_in};
 ghost use Rattle.exports.specs.RaceWords.{race_words, totals_words, list_told, ReadsAsRaces};
 
 use crate::judge::race_words;
-use bundle::refusal::number;
+use crate::told::{accepted, refused};
 use listing::list::{Listed, Totals, list_races};
 use listing::numbers::race_in;
 
@@ -35,20 +35,17 @@ pub fn dezhakom_list_races(
     ensures readable { ReadsAsRaces bytes.now totals.new names.new numbers.new }
 {
     match list_races(bytes, work, names, numbers, spare) {
-        Listed::Whole(counts) => {
+        Ok(Listed::Whole(counts)) => {
             *totals = totals_words(counts, 1);
-            *place = 0;
-            0
+            accepted(place)
         }
-        Listed::TooMany(counts) => {
+        Ok(Listed::TooMany(counts)) => {
             *totals = totals_words(counts, 0);
-            *place = 0;
-            0
+            accepted(place)
         }
-        Listed::Refused { place: at, cause } => {
+        Err(refusal) => {
             *totals = [0; 5];
-            *place = at;
-            number(cause) as u32
+            refused(refusal, place)
         }
     }
 }

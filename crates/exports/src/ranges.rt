@@ -3,9 +3,9 @@ ghost use Rattle.std.specs.Prelude.{◌≡◌};
 ghost use Rattle.order.specs.Ranges.{shared_of};
 ghost use Rattle.exports.specs.Told.{range_of, shared_told};
 
+use crate::told::{accepted, refused};
 use bundle::command::Range;
-use bundle::refusal::number;
-use order::range::{Shared, lowest_shared_byte};
+use order::range::lowest_shared_byte;
 
 // Whether two ranges share a byte, the lowest one, and the lowest element of each that covers it.
 pub fn dezhakom_lowest_shared_byte(
@@ -37,30 +37,19 @@ pub fn dezhakom_lowest_shared_byte(
         count: other_count,
         size: other_size,
     };
+    *found = 0;
+    *byte = 0;
+    *element = 0;
+    *other_element = 0;
     match lowest_shared_byte(first, second) {
-        Shared::Byte(lowest) => {
+        Ok(Some(lowest)) => {
             *found = 1;
             *byte = lowest.byte;
             *element = lowest.first_element;
             *other_element = lowest.second_element;
-            *place = 0;
-            0
+            accepted(place)
         }
-        Shared::Nothing => {
-            *found = 0;
-            *byte = 0;
-            *element = 0;
-            *other_element = 0;
-            *place = 0;
-            0
-        }
-        Shared::Refused { place: at, cause } => {
-            *found = 0;
-            *byte = 0;
-            *element = 0;
-            *other_element = 0;
-            *place = at;
-            number(cause) as u32
-        }
+        Ok(None) => accepted(place),
+        Err(refusal) => refused(refusal, place),
     }
 }

@@ -1,4 +1,6 @@
 // The functions of `exports` for C, by the same names and with the same clauses (include/dezhakom.h).
+//
+// Stays a function for each of theirs, with numbers and lent places: the C interface.
 #![tactic(auto)]
 
 pub mod bundles;

@@ -1,13 +1,15 @@
 -- `exports::commands::access_from` meets its contract: an operand over its width is out of range. Assumes nothing.
-use native.Mathlib.Omega.{arith}
-use Rattle.exports.proofs.Widths.{access-wide}
+use Rattle.exports.proofs.Widths.{access-wide, is-too-wide}
 use Rattle.exports.proofs.commands.access_from.Goals as goal
 
-pub returns-then-stride-gt65535 : goal.returns-then-stride-gt65535
-returns-then-stride-gt65535 c = let h = c.if-stride-gt65535.true in access-wide _ (λ p q r. omega arith)
+pub returns-in_err-try_from : goal.returns-in_err-try_from
+returns-in_err-try_from c =
+    is-too-wide _ _ c.from_residual.ensures.1 (access-wide _ (λ stride count size. c.in_err-try_from.ensures stride))
 
-pub returns-then-count-gt65535 : goal.returns-then-count-gt65535
-returns-then-count-gt65535 c = let h = c.if-count-gt65535.true in access-wide _ (λ p q r. omega arith)
+pub returns-in_err-try_from-2 : goal.returns-in_err-try_from-2
+returns-in_err-try_from-2 c =
+    is-too-wide _ _ c.from_residual-in_err-try_from-2.ensures.1 (access-wide _ (λ stride count size. c.in_err-try_from-2.ensures count))
 
-pub returns-then-size-gt255 : goal.returns-then-size-gt255
-returns-then-size-gt255 c = let h = c.if-size-gt255.true in access-wide _ (λ p q r. omega arith)
+pub returns-in_err-try_from-3 : goal.returns-in_err-try_from-3
+returns-in_err-try_from-3 c =
+    is-too-wide _ _ c.from_residual-in_err-try_from-3.ensures.1 (access-wide _ (λ stride count size. c.in_err-try_from-3.ensures size))

@@ -1,9 +1,10 @@
--- `exports::labels::dezhakom_label_of_segment` meets its contract: the number and place of the answer, and the words of the label beside it. Assumes nothing.
-use Rattle.exports.proofs.LabelAnswers.{label-found, label-refused}
+-- `exports::labels::dezhakom_label_of_segment` meets its contract: the number and place of the answer, and the words of the label. Assumes nothing.
+use mathlib.Core.Path.{refl, ◌∙◌}
+use Rattle.exports.proofs.LabelAnswers.{labelled-told}
 use Rattle.exports.proofs.labels.dezhakom_label_of_segment.Goals as goal
 
-pub returns-in-Found : goal.returns-in-Found
-returns-in-Found c = rw c.label_words.ensures (label-found _ c.label_of_segment-labelling.ensures c.in-Found.is)
+pub returns-in-Ok : goal.returns-in-Ok
+returns-in-Ok c = labelled-told _ _ c.label_of_segment.ensures ∙ rw (c.in-Ok.is, c.accepted.ensures.number, c.accepted.ensures.at, c.label_words.ensures) refl
 
-pub returns-in-Refused : goal.returns-in-Refused
-returns-in-Refused c = rw (c.number.ensures, c.label_words.ensures) (label-refused _ c.label_of_segment-labelling.ensures _ _ c.in-Refused.is)
+pub returns-in-Err : goal.returns-in-Err
+returns-in-Err c = labelled-told _ _ c.label_of_segment.ensures ∙ rw (c.in-Err.is, c.refused.ensures.number, c.refused.ensures.at) refl
