@@ -1,97 +1,70 @@
 // Comparing labels, and the lowest shared byte of two ranges.
-ghost use Rattle.std.specs.Prelude.{◌≤◌};
+use crate::answer::{Show, put};
+use crate::frame::Frame;
+use order::label::{Label, Order, Triple};
+use order::range::{Overlap, lowest_shared_byte};
+use std::fmt;
 
-use crate::numbers::{byte_at, four_bytes, two_bytes};
-use crate::output;
-use bundle::command::Range;
-use order::label::{Comparison, Label, Order, Triple};
-use order::range::Shared;
-
-// Three numbers of 4 bytes.
-fn triple_at(body: &[u8], at: usize) -> Triple
-    requires { at ≤ 1000 }
-{
-    Triple {
-        offset: four_bytes(body, at),
-        span: four_bytes(body, at + 4),
-        interval: four_bytes(body, at + 8),
+impl Show for Order {
+    fn show<W: fmt::Write>(&self, f: &mut fmt::Formatter<W>) -> fmt::Result {
+        f.write_str(match self {
+            Order::Same => "same",
+            Order::Before => "before",
+            Order::After => "after",
+            Order::Concurrent => "concurrent",
+        })
     }
 }
 
-// A count of 4 bytes, and five triples.
-fn label_at(body: &[u8], at: usize) -> Label
-    requires { at ≤ 100 }
-{
-    Label {
-        count: four_bytes(body, at),
-        triples: [
-            triple_at(body, at + 4),
-            triple_at(body, at + 16),
-            triple_at(body, at + 28),
-            triple_at(body, at + 40),
-            triple_at(body, at + 52),
-        ],
+impl Show for Overlap {
+    fn show<W: fmt::Write>(&self, f: &mut fmt::Formatter<W>) -> fmt::Result {
+        let first = self.first_element;
+        let second = self.second_element;
+        write!(f, "byte {} elements {first} {second}", self.byte)
     }
 }
 
-fn put_order<P: Print>(to: &P, order: Order) {
-    match order {
-        Order::Same => output::put_text(to, b"same"),
-        Order::Before => output::put_text(to, b"before"),
-        Order::After => output::put_text(to, b"after"),
-        Order::Concurrent => output::put_text(to, b"concurrent"),
+impl<'a> Frame<'a> {
+    // Three numbers of 4 bytes.
+    fn triple(&mut self) -> Option<Triple> {
+        Some(Triple {
+            offset: self.u32()?,
+            span: self.u32()?,
+            interval: self.u32()?,
+        })
     }
-}
 
-fn put_comparison<P: Print>(to: &P, comparison: Comparison) {
-    match comparison {
-        Comparison::Compared(order) => put_order(to, order),
-        Comparison::Refused { place, cause } => output::put_refusal(to, cause, place),
+    // A count of 4 bytes, and five triples.
+    fn label(&mut self) -> Option<Label> {
+        Some(Label {
+            count: self.u32()?,
+            triples: [
+                self.triple()?,
+                self.triple()?,
+                self.triple()?,
+                self.triple()?,
+                self.triple()?,
+            ],
+        })
     }
 }
 
 // COMPARE: two labels of 64 bytes.
-pub fn compare<P: Print>(to: &P, body: &[u8]) -> bool {
-    if body.len() != 128 {
-        return false;
-    }
-    let first = label_at(body, 0);
-    let second = label_at(body, 64);
-    put_comparison(to, order::label::compare(first, second));
-    true
-}
-
-// Base (4 bytes), stride (2), count (2) and size (1).
-fn range_at(body: &[u8], at: usize) -> Range
-    requires { at ≤ 100 }
-{
-    Range {
-        base: four_bytes(body, at),
-        stride: two_bytes(body, at + 4),
-        count: two_bytes(body, at + 6),
-        size: byte_at(body, at + 8),
-    }
-}
-
-fn put_shared<P: Print>(to: &P, shared: Shared) {
-    match shared {
-        Shared::Byte(overlap) => {
-            output::put_text(to, b"byte");
-            output::put_field(to, overlap.byte as u64);
-            output::put_elements(to, overlap.first_element, overlap.second_element);
-        }
-        Shared::Nothing => output::put_text(to, b"none"),
-        Shared::Refused { place, cause } => output::put_refusal(to, cause, place),
-    }
+pub(crate) fn compare<P: Print>(to: &P, body: &[u8]) -> Option<()> {
+    let mut frame = Frame::new(body);
+    let first = frame.label()?;
+    let second = frame.label()?;
+    frame.end()?;
+    put(to, &order::label::compare(first, second));
+    Some(())
 }
 
 // SHARED: two ranges of 9 bytes.
-pub fn share<P: Print>(to: &P, body: &[u8]) -> bool {
-    if body.len() != 18 {
-        return false;
-    }
-    let first = range_at(body, 0);
-    let second = range_at(body, 9);
-    put_shared(to, order::range::lowest_shared_byte(first, second));
-    true
+pub(crate) fn share<P: Print>(to: &P, body: &[u8]) -> Option<()> {
+    let mut frame = Frame::new(body);
+    let first = frame.range()?;
+    let second = frame.range()?;
+    frame.end()?;
+    put(to, &lowest_shared_byte(first, second));
+    Some(())
 }
