@@ -15,10 +15,12 @@ use mathlib.Core.List.{List, [], ◌∷◌, map}
 use mathlib.Core.Option.{Option, none, some}
 use lib.ListN.{replicate}
 use Rattle.bundle.specs.Answer.{Answer, gives, refuses, when_given}
-use Rattle.bundle.specs.Commands.{Lent, Taken, read_at}
+use Rattle.std.specs.declared.option.Option.TheVariants.{Some}
+use Rattle.bundle.specs.Commands.{Lent, read_at}
 use Rattle.bundle.specs.Check.{check_of}
 use Rattle.bundle.specs.declared.command.AccessKind.TheVariants as Kind
 use Rattle.bundle.specs.declared.command.Command.TheVariants as Com
+use Rattle.bundle.specs.declared.command.Taken.{Taken}
 use Rattle.order.specs.Labels.{label_of, compare_of}
 use Rattle.order.specs.Ranges.{shared_of}
 use Rattle.order.specs.declared.label.Triple.{Triple}
@@ -33,7 +35,6 @@ use Rattle.verdict.specs.Judge.{judge_of, race_above, next_of}
 use Rattle.verdict.specs.Table.{triple, range}
 use Rattle.verdict.specs.declared.race.Name.{Name}
 use Rattle.verdict.specs.declared.race.Race.{Race}
-use Rattle.verdict.specs.declared.race.Verdict.TheVariants as Ver
 use Rattle.verdict.specs.declared.race.Judgement.{Judgement}
 use Rattle.verdict.proofs.Computing.{verdict-computes}
 use Rattle.verdict.proofs.SmallBundles.{bytes, race}

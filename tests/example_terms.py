@@ -58,8 +58,8 @@ def found_term(race):
 def judgement_term(judgement):
     counts = ("chunks", "segments", "accesses", "races")
     fields = "".join(f"{name} = {getattr(judgement, name)}; " for name in counts)
-    verdict = f"Ver.Least ({race_term(judgement.least)})" if judgement.least else "Ver.RaceFree"
-    return f"(record {{ {fields}verdict = {verdict} }})"
+    least = f"Some ({race_term(judgement.least)})" if judgement.least else "None"
+    return f"(record {{ {fields}least = {least} }})"
 
 
 def answer_term(term, operation, *arguments):

@@ -146,7 +146,7 @@ def check_constants():
 def refusals():
     """Those of the source, in capitals."""
     source = (ROOT / "crates" / "bundle" / "src" / "refusal.rt").read_text()
-    causes = re.findall(r"Cause::(\w+) => (\d+)", source)
+    causes = re.findall(r"^    (\w+) = (\d+),$", source, re.MULTILINE)
     return {re.sub(r"(?<!^)([A-Z])", r"_\1", cause).upper(): int(value) for cause, value in causes}
 
 

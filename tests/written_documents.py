@@ -106,7 +106,6 @@ APART = {
     ("verdict", "RaceLists"): "computing",
     ("verdict", "Table"): "examples",
     ("text", "Sides"): "inner",
-    ("judge_build", "Reading"): "inner",
 }
 KINDS = ("between crates", "computing", "examples", "inner")
 
