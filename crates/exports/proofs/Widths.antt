@@ -76,9 +76,10 @@ put-wide none buffer at e = false-is-true (sym e)
 put-wide (some c) buffer at e = put-out-of-range c buffer at e
 
 -- the command by its byte: END has no operand
-pub by_end : (words : List ℕ) (byte : ℕ) → byte ≡ 0x02 → command_by byte words ≡ some Com.End
-unfolding command_by
-by_end words byte e = rw e
+module _ (words : List ℕ) (byte : ℕ) where
+  pub by_end : byte ≡ 0x02 → command_by byte words ≡ some Com.End
+  unfolding command_by
+  by_end e = rw e
 
 -- words that the code refuses are refused by their definition, with the same number
 pub put-refused :
