@@ -24,7 +24,7 @@ use Rattle.std.specs.declared.result.Result.TheVariants.{Ok, Err}
 use Rattle.exports.specs.declared.commands.BadWords.{BadWords}
 use Rattle.exports.specs.declared.commands.BadWords.TheVariants as Bad
 use Rattle.exports.specs.Inner.{Makes, cause_of}
-use Rattle.exports.specs.CommandWords.{put_from}
+use Rattle.exports.specs.CommandWords.{command_by, put_from}
 
 -- the first of operands that fit is below its width, and the rest fit
 first_fits : {w x : ℕ} {ws xs : List ℕ} → Fits (w ∷ ws) (x ∷ xs) → x < 256 ^ w
@@ -74,6 +74,12 @@ pub put-wide :
     → put_from o buffer at ≡ record { answer = refuses 5 at; buffer = buffer }
 put-wide none buffer at e = false-is-true (sym e)
 put-wide (some c) buffer at e = put-out-of-range c buffer at e
+
+-- the command by its byte: END has no operand
+module _ (words : List ℕ) (byte : ℕ) where
+  pub by_end : byte ≡ 0x02 → command_by byte words ≡ some Com.End
+  unfolding command_by
+  by_end e = rw e
 
 -- words that the code refuses are refused by their definition, with the same number
 pub put-refused :

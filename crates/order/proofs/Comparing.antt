@@ -12,6 +12,9 @@ use native.Mathlib.Nat.{zero-add}
 use lib.ListN.{length, take, drop, get_or, drop_of_length-le}
 use lib.Seq.{drop-cons}
 use lib.Dec.{leb, eqb}
+use mir.Val.{Val}
+use denote.Laws.{Is}
+use denote.Struct.Declared.{row}
 use borrow.Author.Tests.{leb-true}
 use Rattle.bundle.specs.Answer.{Answer}
 use Rattle.bundle.specs.Lists.{all}
@@ -19,6 +22,7 @@ use Rattle.bundle.proofs.Tests.{and_left, and_right}
 use Rattle.order.specs.declared.label.Triple.{Triple}
 use Rattle.order.specs.declared.label.Label.{Label}
 use Rattle.order.specs.declared.label.Order.{Order}
+use Rattle.order.specs.contracts.label.Label.{the_type}
 use Rattle.order.specs.Labels.{differs, counted, span_ok, root_span, label_ok, same_triple, compare_triples, compare_from}
 
 -- std's test of every element is this one
@@ -30,11 +34,18 @@ every-all p (x ∷ xs) = ap (λ (b : Bool). p x && b) (every-all p xs)
 abbrev pub past_end : Triple
 past_end = record { offset = 0; span = 0; interval = 0 }
 
+-- what owning a label tells: there is room for five triples
+pub five : (l : Label) (vs : List Val) → Is (row the_type) l vs → length l.triples ≡ 5
+five l vs owned = owned.1.1.1.0.1.0.1
+
 -- a label that is not refused
 module _ (l : Label) (ok : label_ok l ≡ true) where
   pub few : l.count ≤ 5
   unfolding label_ok
   few = leb-true l.count 5 (and_right (leb 1 l.count) _ (and_left _ _ (and_left _ _ ok)))
+
+  pub room : (vs : List Val) → Is (row the_type) l vs → l.count ≤ length l.triples
+  room vs owned = omega (arith, few, five l vs owned)
 
   spans : all span_ok (counted l) ≡ true
   unfolding label_ok

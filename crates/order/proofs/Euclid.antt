@@ -105,10 +105,19 @@ module _ (stride spacing low high quotient rest element : ℕ)
 
 -- at the numbers of the code
 module _ {stride spacing low high count limit : ℕ} (g : PairGiven stride spacing low high count limit) where
-  pub low-reached : low ≤ (count - 1) * stride → low ≤ 65535 * stride
-  low-reached long =
-      let last : count - 1 ≤ 65535 = omega (arith, g.count_fits) in
-      omega (arith, mul-le-mul_right stride last)
+  module _ (long : low ≤ (count - 1) * stride) where
+    pub low-reached : low ≤ 65535 * stride
+    low-reached =
+        let last : count - 1 ≤ 65535 = omega (arith, g.count_fits) in
+        omega (arith, mul-le-mul_right stride last)
+
+    -- the first element at or past low is below the count, and where it starts is a number of 64 bits
+    module _ {element : ℕ} (f : FirstFrom stride low element) where
+      pub element_below : element < count
+      element_below = omega (arith, first-least stride low element (count - 1) f long)
+
+      pub start_fits : element * stride < 8590000128
+      start_fits = omega (arith, f.closest)
 
   module _ {element : ℕ} (f : FirstFrom stride low element) (past : high < element * stride) where
     -- the inner step's pair makes one below the count, or one past it

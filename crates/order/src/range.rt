@@ -3,7 +3,18 @@ ghost use Rattle.std.specs.Prelude.{◌≡◌, true, ◌||◌, eqb, ◌+◌, ◌
 ghost use Rattle.bundle.specs.Commands.{range_ok};
 ghost use Rattle.bundle.specs.Lists.{option_of};
 ghost use Rattle.order.specs.Ranges.{shared_byte, overlap_of, shared_of, sharing_of};
-ghost use Rattle.order.specs.Pairs.{touches_some, FirstFrom, FirstPair, PairGiven, InOrder, element_from, element_by, MeetingOf, turned_over};
+ghost use Rattle.order.specs.Pairs.{
+  touches_some,
+  FirstFrom,
+  FirstPair,
+  PairGiven,
+  InOrder,
+  element_from,
+  element_by,
+  pair_meeting,
+  MeetingOf,
+  turned_over,
+};
 
 use bundle::command::{Range, range_ok};
 use bundle::refusal::{Cause, Refusal};
@@ -89,10 +100,24 @@ fn first_pair(
 
 // Where an element of a range starts.
 fn start_of(range: Range, element: u32) -> u64
-    requires { element < 65536 }
     ensures { result ≡ range.base + element * range.stride }
 {
     range.base as u64 + element as u64 * (range.stride as u64)
+}
+
+// The lowest byte that both elements of a pair touch, and the pair.
+#[tactic(auto, unfolding(crate::specs::Pairs::pair_meeting))]
+fn meeting_of_pair(pair: Option<ElementPair>, lower: Range, upper: Range) -> Option<Meeting>
+    ensures { result ≡ pair_meeting pair lower upper }
+{
+    let Some(ElementPair { one, other }) = pair else {
+        return None;
+    };
+    Some(Meeting {
+        byte: start_of(lower, one).max(start_of(upper, other)),
+        one,
+        other,
+    })
 }
 
 // The lowest byte that both ranges touch, the one with the lower base first, with the lowest element of each that covers it: those of the first
@@ -111,7 +136,7 @@ fn meet_in_order(lower: Range, upper: Range) -> Option<Meeting>
     }
     let low = distance - (lower.size as u64 - 1);
     let high = distance + (upper.size as u64 - 1);
-    let first = first_pair(
+    let pair = first_pair(
         lower.stride as u64,
         upper.stride as u64,
         low,
@@ -119,14 +144,7 @@ fn meet_in_order(lower: Range, upper: Range) -> Option<Meeting>
         lower.count as u32,
         upper.count as u32,
     );
-    let Some(ElementPair { one, other }) = first else {
-        return None;
-    };
-    Some(Meeting {
-        byte: start_of(lower, one).max(start_of(upper, other)),
-        one,
-        other,
-    })
+    meeting_of_pair(pair, lower, upper)
 }
 
 // Whether a range touches any byte.

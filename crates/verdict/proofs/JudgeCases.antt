@@ -333,6 +333,16 @@ module _ {A : Type 0} (s work : List ℕ) (key : Rust.Option Key) (answer : Answ
           rw (number, place) (small-area c.1 h)
       go (no h) = let l : 16384 ≤ length work = omega arith in let c = t.large l in large-area l (turned c.0) c.1
 
+-- a work area that is too small stays as it is
+pub judge-small : (b v : List ℕ) → length v < 16384 → judge_of b v ≡ record { answer = refuses 13 0; buffer = v }
+unfolding judge_of
+judge-small b v h = small-area b v None (judged_of b) refl h
+
+pub next_small :
+    (b : List ℕ) (w : ℕ) (f s : Name) (v : List ℕ) → length v < 16384 → next_of b w f s v ≡ record { answer = refuses 13 0; buffer = v }
+unfolding next_of
+next_small b w f s v h = small-area b v None (next_above b (key_of w f s)) refl h
+
 module _ (s work : List ℕ) {after : List ℕ} where
   pub judge-given :
       {n : Census} {j : Judgement}
