@@ -53,7 +53,7 @@ impl Sides {
     pub fn count(&self) -> usize
         ensures { result ≡ length self.now }
     {
-        self.count
+        self.count // the first rows, those with a text
     }
 
     // Makes the text of one access more.
