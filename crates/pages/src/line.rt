@@ -52,7 +52,7 @@ impl<'a> Listing<'a> {
     }
 
     // Puts the line of an index at a position of the buffer; behind the last line, nothing.
-    pub fn put_line(
+    pub(crate) fn put_line(
         self,
         sides: &Sides,
         index: usize,

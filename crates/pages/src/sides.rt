@@ -18,7 +18,8 @@ pub fn worth(accesses: u32, races: u32) -> usize
 // Makes the texts of the first names. That of a rank is of the second access of the race whose number is the rank.
 pub fn fill_sides(names: &[u64], count: usize, sides: &mut Sides)
     requires { (count ≤ 1024) × (length sides.old ≡ 0) }
-    ensures { AreTexts names.now sides.new }
+    ensures made { length sides.new ≡ count }
+    ensures texts { AreTexts names.now sides.new }
 {
     for rank in 0..count {
         let race = race_in(names, rank as u64);

@@ -39,6 +39,10 @@ long n h = record { most = omega (arith, length_digits 10 (width_of 10 n) n, wid
 pub longest : (n : ℕ) → n < 18446744073709551616 → Within 20 (decimal n)
 longest n h = record { most = omega (arith, length_digits 10 (width_of 10 n) n, width-most 10 two 19 n (omega arith)) }
 
+-- and lies in a line with so much room
+pub longest-fits : (size room n : ℕ) → n < 18446744073709551616 → size + 20 ≤ room → size + length (decimal n) ≤ room
+longest-fits size room n h r = omega (arith, r, (longest n h).most)
+
 witness : (n : ℕ) → Within 8 (hexadecimal n)
 witness n = record { most = omega (arith, length_digits 16 8 n) }
 

@@ -1,17 +1,17 @@
 -- The text of an access in 32 bytes. Assumes nothing.
-use mathlib.Core.Path.{◌≡◌, sym, ap, ◌∙◌}
-use mathlib.Core.List.{List, [], ◌++◌, map, append_assoc}
-use Prim.Native.Nat.{ℕ, ◌%◌, ◌≤◌, ◌<◌, min}
-use native.Mathlib.Nat.{mod-eq_of_lt}
+use mathlib.Core.Path.{◌≡◌, refl, sym, ap, ◌∙◌}
+use mathlib.Core.List.{List, [], ◌∷◌, ◌++◌, map, append_assoc, append-nil}
+use Prim.Native.Nat.{ℕ, zero, suc, ◌+◌, ◌-◌, ◌%◌, ◌≤◌, ◌<◌}
+use native.Mathlib.Nat.{mod-eq_of_lt, sub_self}
 use native.Mathlib.Omega.{arith}
-use lib.ListN.{length, get_or, set, take, drop, length-append, length-drop, length-take, length-map}
-use lib.Seq.{take-append_seam, get_or-set_same, get_or-take, take-set-le}
-use Rattle.std.proofs.lemmas.List.{get_or-map}
+use lib.ListN.{length, get_or, set, take, drop, replicate, length-append, length-drop, length-take}
+use lib.Seq.{take-append_seam, get_or-set_same, get_or-take, take-set-le, take-set-lt}
+use Rattle.std.proofs.lemmas.List.{get_or-map, length-map, map-set, map-append, take_more_set, replicate_more}
 use Rattle.verdict.specs.declared.race.Race.{Race}
 use Rattle.text.specs.Digits.{ascii, decimal, hexadecimal}
 use Rattle.text.specs.Lines.{line_end, name_text, race_line}
 use Rattle.text.specs.Inner.{access_text}
-use Rattle.text.specs.Sides.{side_text, sides_line}
+use Rattle.text.specs.Sides.{side_text, with_side, sides_line}
 
 pub side-made : {front : List ℕ} (text zeros : List ℕ) → length zeros ≡ 32 → length text ≤ 31 → front ≡ text
     → side_text (set (front ++ drop (length text) zeros) 31 (length text)) ≡ text
@@ -32,6 +32,52 @@ side-there rows texts count rank e h l =
     (rw (← e)
     (get_or-map side_text (take count rows) rank [] [] (omega (arith, length-take count rows))
     ∙ ap side_text (get_or-take count rows rank [] h)))
+
+-- the text of a row of zeros is empty
+no-texts : (k : ℕ) → map side_text (replicate k (replicate 32 0)) ≡ replicate k []
+unfolding side_text
+no-texts zero = refl
+no-texts (suc k) = ap (λ (l : List (List ℕ)). [] ∷ l) (no-texts k)
+
+-- rows made zeros behind the first ones, one after another
+pub none-cleared : (rows : List (List ℕ)) (count : ℕ) → take count rows ≡ take count rows ++ replicate (count - count) (replicate 32 0)
+none-cleared rows count = rw (sub_self count) (sym (append-nil (take count rows)))
+
+pub cleared_more :
+    (rows cleared : List (List ℕ)) (count at : ℕ)
+    → count ≤ at
+    → at < length cleared
+    → take at cleared ≡ take count rows ++ replicate (at - count) (replicate 32 0)
+    → take (at + 1) (set cleared at (replicate 32 0)) ≡ take count rows ++ replicate (at + 1 - count) (replicate 32 0)
+cleared_more rows cleared count at h l e =
+    let more : at + 1 - count ≡ at - count + 1 = omega (arith, h) in
+    rw (more, ← replicate_more (at - count) (replicate {A = ℕ} 32 0), take_more_set cleared at (replicate 32 0) l, e)
+    (append_assoc (take count rows) (replicate (at - count) (replicate 32 0)) (replicate 32 0 ∷ []))
+
+-- a text put at a rank, once the rows up to it that have none are zeros
+pub side-put :
+    (rows cleared texts : List (List ℕ)) (side text : List ℕ) (count all rank : ℕ)
+    → map side_text (take count rows) ≡ texts
+    → count ≤ length rows
+    → take all cleared ≡ take count rows ++ replicate (all - count) (replicate 32 0)
+    → rank < all
+    → all - count ≡ rank + 1 - count
+    → side_text side ≡ text
+    → map side_text (take all (set cleared rank side)) ≡ with_side texts rank text
+unfolding with_side
+side-put rows cleared texts side text count all rank e whole front below lack made =
+    let long : length texts ≡ count = omega (arith, whole, ap length e, length-map (take count rows) side_text, length-take count rows) in
+    rw (
+      long,
+      ← lack,
+      take-set-lt all cleared rank side below,
+      front,
+      map-set side_text (take count rows ++ replicate (all - count) (replicate 32 0)) rank side,
+      map-append side_text (take count rows) (replicate (all - count) (replicate 32 0)),
+      e,
+      no-texts (all - count),
+      made,
+    )
 
 -- a race's line by the texts of its accesses
 regroup : (w h g a x b y e : List ℕ) → w ++ h ++ g ++ a ++ g ++ x ++ g ++ b ++ g ++ y ++ e ≡ w ++ h ++ (g ++ a ++ g ++ x) ++ (g ++ b ++ g ++ y) ++ e

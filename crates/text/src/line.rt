@@ -91,9 +91,11 @@ impl<const N: usize> Line<N> {
         self.push_digits(number as u64, 16, 8);
     }
 
+    // A number of 64 bits has at most 20 digits.
     pub fn push_decimal(&mut self, number: u64)
         requires { length self.old + length (decimal number) ≤ N }
-        ensures { self.new ≡ self.old ++ decimal number }
+        ensures text { self.new ≡ self.old ++ decimal number }
+        ensures long { length self.new ≤ length self.old + 20 }
     {
         self.push_digits(number, 10, width(number));
     }

@@ -66,8 +66,7 @@ impl<const N: usize> Line<N> {
         ensures long { length self.new ≤ length self.old + 43 }
     {
         self.push_count(b"refused ", number as u32);
-        self.push_word(b" at ");
-        self.push_decimal(place as u64);
+        self.push_long_count(b" at ", place as u64);
         self.push_end();
     }
 }

@@ -25,6 +25,16 @@ impl<const N: usize> Line<N> {
         self.push_number(number);
     }
 
+    // The same for a number of 64 bits, which has at most 20 digits.
+    pub fn push_long_count(&mut self, word: &[u8], number: u64)
+        requires { length self.old + length word.now + 20 ≤ N }
+        ensures text { self.new ≡ self.old ++ word.now ++ decimal number }
+        ensures long { length self.new ≤ length self.old + length word.now + 20 }
+    {
+        self.push_word(word);
+        self.push_decimal(number);
+    }
+
     // A byte, and a number in decimal.
     fn push_part(&mut self, byte: u8, number: u16)
         requires { length self.old + 6 ≤ N }

@@ -3,7 +3,7 @@ ghost use Rattle.std.specs.Prelude.{◌≡◌, List, ℕ, [], ◌∷◌, ◌++�
 ghost use Rattle.bundle.specs.Answer.{answer_of};
 ghost use Rattle.text.specs.Lines.{printed_at};
 ghost use Rattle.text.specs.Inner.{access_text};
-ghost use Rattle.text.specs.Sides.{side_text, sides_line};
+ghost use Rattle.text.specs.Sides.{side_text, with_side, sides_line};
 
 use crate::line::Line;
 use crate::lines::put_line;
@@ -53,7 +53,7 @@ impl Sides {
     pub fn count(&self) -> usize
         ensures { result ≡ length self.now }
     {
-        self.count
+        self.count // the first rows, those with a text
     }
 
     // Makes the text of one access more.
@@ -63,6 +63,18 @@ impl Sides {
     {
         self.sides[self.count] = side_of(name, site);
         self.count += 1;
+    }
+
+    // Makes the text of the access of a rank, also over one that is there. Ranks before it that have none get an empty one.
+    pub fn put_side(&mut self, name: Name, site: u32, rank: usize)
+        requires { rank < 1024 }
+        ensures { self.new ≡ with_side self.old rank (access_text name site) }
+    {
+        for lacking in self.count..rank + 1 {
+            self.sides[lacking] = [0; 32];
+        }
+        self.sides[rank] = side_of(name, site);
+        self.count = self.count.max(rank + 1);
     }
 
     // Puts the text of an access behind the first bytes of a line; nothing for one that was not made. In a call of its own the copy would test whether

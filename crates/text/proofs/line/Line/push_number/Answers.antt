@@ -12,4 +12,4 @@ push_decimal-requires g c = omega (arith, c.requires, (long c.args.number (searc
 
 pub returns-clause-long : goal.returns-clause-long
 returns-clause-long g c =
-    omega (arith, ap length c.push_decimal.ensures, length-append c.args.self.now (decimal c.args.number), (long c.args.number (search rules)).most)
+    omega (arith, ap length c.push_decimal.ensures.text, length-append c.args.self.now (decimal c.args.number), (long c.args.number (search rules)).most)
