@@ -1,12 +1,13 @@
--- The text of an access in 32 bytes. Assumes nothing.
+-- The text of an access in 32 bytes, and a text put at a rank of a table. Assumes nothing.
 use mathlib.Core.Path.{◌≡◌, refl, sym, ap, ◌∙◌}
 use mathlib.Core.List.{List, [], ◌∷◌, ◌++◌, map, append_assoc, append-nil}
-use Prim.Native.Nat.{ℕ, zero, suc, ◌+◌, ◌-◌, ◌%◌, ◌≤◌, ◌<◌}
+use Prim.Native.Nat.{ℕ, zero, suc, ◌+◌, ◌-◌, ◌%◌, ◌≤◌, ◌<◌, max}
+use native.Mathlib.Decide.{dec_lt}
 use native.Mathlib.Nat.{mod-eq_of_lt, sub_self}
 use native.Mathlib.Omega.{arith}
-use lib.ListN.{length, get_or, set, take, drop, replicate, length-append, length-drop, length-take}
+use lib.ListN.{length, get_or, set, take, drop, replicate, length-append, length-drop, length-take, length-set}
 use lib.Seq.{take-append_seam, get_or-set_same, get_or-take, take-set-le, take-set-lt}
-use Rattle.std.proofs.lemmas.List.{get_or-map, length-map, map-set, map-append, take_more_set, replicate_more}
+use Rattle.std.proofs.lemmas.List.{get_or-map, get_or-set_other, get_or-replicate, get_or_append_left, get_or-append_right, get_or_past, length-map, length-replicate, map-set, map-append, take_more_set, replicate_more}
 use Rattle.verdict.specs.declared.race.Race.{Race}
 use Rattle.text.specs.Digits.{ascii, decimal, hexadecimal}
 use Rattle.text.specs.Lines.{line_end, name_text, race_line}
@@ -78,6 +79,41 @@ side-put rows cleared texts side text count all rank e whole front below lack ma
       no-texts (all - count),
       made,
     )
+
+-- what a table with a text put at a rank holds: that text there, at any other rank what it held, and no more ranks than that takes
+module _ (texts : List (List ℕ)) (rank : ℕ) (text : List ℕ) where
+  abbrev lacking : List (List ℕ)
+  lacking = replicate (rank + 1 - length texts) []
+
+  reaches : length (texts ++ lacking) ≡ max (length texts) (rank + 1)
+  reaches = omega (arith, length-append texts lacking, length-replicate {A = List ℕ} (rank + 1 - length texts) [])
+
+  pub side-long : length (with_side texts rank text) ≡ max (length texts) (rank + 1)
+  unfolding with_side
+  side-long = length-set (texts ++ lacking) rank text ∙ reaches
+
+  pub side-at : get_or (with_side texts rank text) rank [] ≡ text
+  unfolding with_side
+  side-at = get_or-set_same (texts ++ lacking) rank text [] (omega (arith, reaches))
+
+  -- the empty text, at any rank of those that were lacking and behind them
+  none : (k i : ℕ) → get_or {A = List ℕ} (replicate k []) i [] ≡ []
+  none k i = go (dec_lt i k)
+    where
+      go : Dec (i < k) → get_or {A = List ℕ} (replicate k []) i [] ≡ []
+      go (yes h) = get_or-replicate k i [] [] h
+      go (no h) = get_or_past (replicate k []) i [] (omega (arith, length-replicate {A = List ℕ} k []))
+
+  pub side-kept : (i : ℕ) → (i ≡ rank → ⊥) → get_or (with_side texts rank text) i [] ≡ get_or texts i []
+  unfolding with_side
+  side-kept i other = get_or-set_other (texts ++ lacking) rank i text [] other ∙ go (dec_lt i (length texts))
+    where
+      go : Dec (i < length texts) → get_or (texts ++ lacking) i [] ≡ get_or texts i []
+      go (yes h) = get_or_append_left texts lacking [] i h
+      go (no h) =
+          get_or-append_right texts lacking (length texts) i [] refl (omega arith)
+          ∙ none (rank + 1 - length texts) (i - length texts)
+          ∙ sym (get_or_past texts i [] (omega arith))
 
 -- a race's line by the texts of its accesses
 regroup : (w h g a x b y e : List ℕ) → w ++ h ++ g ++ a ++ g ++ x ++ g ++ b ++ g ++ y ++ e ≡ w ++ h ++ (g ++ a ++ g ++ x) ++ (g ++ b ++ g ++ y) ++ e

@@ -1,7 +1,7 @@
 -- `text::sides::Sides::put_side` meets its contract. Assumes nothing.
-use mathlib.Core.Path.{◌≡◌, refl}
+use mathlib.Core.Path.{◌≡◌, refl, ◌∙◌}
 use native.Mathlib.Omega.{arith}
-use lib.ListN.{replicate, length-set}
+use lib.ListN.{length-set}
 use Rattle.text.proofs.SideTable.{none-cleared, cleared_more, side-put}
 use Rattle.text.proofs.sides.Sides.put_side.Goals as goal
 
@@ -13,7 +13,7 @@ loop-lacking-preserved c =
     let so_far = c.loop-lacking.invariant in (
       omega (arith, c.loop-lacking-test.true),
       so_far.1,
-      omega (arith, so_far.2, length-set c.loop-lacking.self-inside.sides c.loop-lacking.lacking (replicate 32 0)),
+      length-set _ _ _ ∙ so_far.2,
       cleared_more c.self.inside.sides c.loop-lacking.self-inside.sides c.self.inside.count c.loop-lacking.lacking c.loop-lacking.auto.lacking
           (omega (arith, so_far.2, c.loop-lacking-test.true, c.requires))
           so_far.3,
