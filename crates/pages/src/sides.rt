@@ -15,12 +15,13 @@ pub fn worth(accesses: u32, races: u32) -> usize
     accesses as usize
 }
 
-// Makes the texts of the first names. That of a rank is of the second access of the race whose number is the rank.
+// Makes the texts of the first names, in place of those that are there. That of a rank is of the second access of the race whose number is the rank.
 pub fn fill_sides(names: &[u64], count: usize, sides: &mut Sides)
-    requires { (count ≤ 1024) × (length sides.old ≡ 0) }
+    requires { count ≤ 1024 }
     ensures made { length sides.new ≡ count }
     ensures texts { AreTexts names.now sides.new }
 {
+    sides.clear();
     for rank in 0..count {
         let race = race_in(names, rank as u64);
         sides.push(race.second, race.second_site);

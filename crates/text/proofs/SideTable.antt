@@ -40,7 +40,7 @@ unfolding side_text
 no-texts zero = refl
 no-texts (suc k) = ap (λ (l : List (List ℕ)). [] ∷ l) (no-texts k)
 
--- rows made zeros behind the first ones, one after another
+-- rows made zeros after the first ones, one after another
 pub none-cleared : (rows : List (List ℕ)) (count : ℕ) → take count rows ≡ take count rows ++ replicate (count - count) (replicate 32 0)
 none-cleared rows count = rw (sub_self count) (sym (append-nil (take count rows)))
 
@@ -96,7 +96,7 @@ module _ (texts : List (List ℕ)) (rank : ℕ) (text : List ℕ) where
   unfolding with_side
   side-at = get_or-set_same (texts ++ lacking) rank text [] (omega (arith, reaches))
 
-  -- the empty text, at any rank of those that were lacking and behind them
+  -- the empty text, at any rank of those that were lacking and past them
   none : (k i : ℕ) → get_or {A = List ℕ} (replicate k []) i [] ≡ []
   none k i = go (dec_lt i k)
     where

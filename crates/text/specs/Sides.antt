@@ -7,7 +7,7 @@ use Rattle.text.specs.Lines.{line_end}
 unfoldable pub side_text : List ℕ → List ℕ
 side_text side = take (get_or side 31 0 % 32) side
 
--- the texts with one put at a rank: over the one that is there, or behind empty ones for the ranks before it that have none
+-- the texts with one put at a rank: over the one that is there, or after empty ones for the ranks before it that have none
 unfoldable pub with_side : List (List ℕ) → ℕ → List ℕ → List (List ℕ)
 with_side texts rank text = set (texts ++ replicate (rank + 1 - length texts) []) rank text
 

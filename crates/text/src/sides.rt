@@ -56,6 +56,13 @@ impl Sides {
         self.count // the first rows, those with a text
     }
 
+    // No text any more.
+    pub fn clear(&mut self)
+        ensures { self.new ≡ [] }
+    {
+        self.count = 0; // the rows keep what they hold
+    }
+
     // Makes the text of one access more.
     pub fn push(&mut self, name: Name, site: u32)
         requires { length self.old < 1024 }
