@@ -20,7 +20,7 @@ impl<'a> Listing<'a> {
         requires { AreTexts self.names.now sides.now }
         ensures { PutNext (get_or (lines_in self.entry.totals self.entry.names.now self.entry.numbers.now) index []) buffer.old position result buffer.new }
     {
-        match self.put_line(sides, index, buffer, position) {
+        match self.put_line_with(sides, index, buffer, position) {
             Ok(next) => next,
             Err(_) => position,
         }

@@ -4,3 +4,5 @@
 pub mod fill;
 pub mod line;
 mod sides;
+#[cfg(test)]
+mod tests;

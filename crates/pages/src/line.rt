@@ -51,8 +51,8 @@ impl<'a> Listing<'a> {
         put_race(race_in(self.names, number), buffer, position)
     }
 
-    // Puts the line of an index at a position of the buffer; behind the last line, nothing.
-    pub(crate) fn put_line(
+    // Puts the line of an index at a position of the buffer; behind the last line, nothing. The line of a race has the texts that are made.
+    pub(crate) fn put_line_with(
         self,
         sides: &Sides,
         index: usize,
@@ -80,6 +80,19 @@ impl<'a> Listing<'a> {
             return put_last(races, buffer, position);
         }
         Ok(position)
+    }
+
+    // The same for a caller of any texts, who need not know that they are those of the names: none of them is read.
+    pub fn put_line(
+        self,
+        _sides: &Sides,
+        index: usize,
+        buffer: &mut [u8],
+        position: usize,
+    ) -> Result<usize, Refusal>
+        ensures { printed_at (get_or (lines_in self.entry.totals self.entry.names.now self.entry.numbers.now) index []) buffer.old position ≡ record { answer = answer_of result; buffer = buffer.new } }
+    {
+        self.put_line_with(&Sides::new(), index, buffer, position)
     }
 }
 

@@ -1,7 +1,7 @@
--- `pages::line::Listing::put_line` meets its contract. Assumes nothing.
+-- `pages::line::Listing::put_line_with` meets its contract. Assumes nothing.
 use Rattle.pages.proofs.Indexing.{line_first, at-race, at_last, at_none, printed-none}
 use Rattle.text.proofs.Printing.{printed-as}
-use Rattle.pages.proofs.line.Listing.put_line.Goals as goal
+use Rattle.pages.proofs.line.Listing.put_line_with.Goals as goal
 
 pub returns-then-index-eq0 : goal.returns-then-index-eq0
 returns-then-index-eq0 c = printed-as _ _ (rw c.if-index-eq0.true (line_first _ _ _)) c.put_counts.ensures
