@@ -82,7 +82,8 @@ impl<'a> Listing<'a> {
         Ok(position)
     }
 
-    // The same for a caller of any texts, who need not know that they are those of the names: none of them is read.
+    // The same for any texts: a caller in another crate need not know that they are those of the names, and none of them is read. Stays with five
+    // parameters: callers in other crates write them.
     pub fn put_line(
         self,
         _sides: &Sides,

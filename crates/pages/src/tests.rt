@@ -12,7 +12,9 @@ const NAMES: [u64; 4] = [
     0x0001_0100_0004_0000,
     0x0000_100a_0000_0014,
 ];
+
 const LINES: &[u8] = b"chunks 3 segments 6 accesses 2\nrace 0000100a 1.0.0 10 1.1.0 20\npairs 1\n";
+
 const RACE_FREE: &[u8] = b"chunks 3 segments 6 accesses 2\nrace-free\n";
 
 // Puts the lines of the first four indexes one after another, and compares all that then stands before the last position.
