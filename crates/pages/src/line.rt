@@ -83,7 +83,7 @@ impl<'a> Listing<'a> {
     }
 
     // The same for any texts: a caller in another crate need not know that they are those of the names, and none of them is read. Stays with five
-    // parameters: callers in other crates write them.
+    // parameters: callers in other crates may write them.
     pub fn put_line(
         self,
         _sides: &Sides,
