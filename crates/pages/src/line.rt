@@ -86,7 +86,7 @@ impl<'a> Listing<'a> {
     // parameters: callers in other crates may write them.
     pub fn put_line(
         self,
-        _sides: &Sides,
+        sides: &Sides,
         index: usize,
         buffer: &mut [u8],
         position: usize,

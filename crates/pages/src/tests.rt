@@ -1,38 +1,41 @@
-// The line of an index, by the example of docs/FORMAT.md, "The listing".
+// The line of an index, by the example of docs/FORMAT.md, "The listing", with a third member that reads the first word that is written. The lines are
+// those of the second reader (tests/second_racelist).
 use crate::line::Listing;
 use listing::list::Totals;
 use listing::numbers::number_of;
 use text::sides::Sides;
 use verdict::race::Name;
 
-// Its accesses are 1.0.0, which writes 4 bytes at 0x1000 and at 0x1008, at site 10, and 1.1.0, which reads 4 at 0x100a, at site 20.
-const NAMES: [u64; 4] = [
+// The accesses: 1.0.0 writes 4 bytes at 0x1000 and at 0x1008, at site 10; 1.1.0 reads 4 at 0x100a, at site 20; 1.2.0 reads 4 at 0x1000, at site 30.
+const NAMES: [u64; 6] = [
     0x0001_0000_0004_0008,
     0x0000_1000_0000_000a,
     0x0001_0100_0004_0000,
     0x0000_100a_0000_0014,
+    0x0001_0200_0004_0000,
+    0x0000_1000_0000_001e,
 ];
 
-const LINES: &[u8] = b"chunks 3 segments 6 accesses 2\nrace 0000100a 1.0.0 10 1.1.0 20\npairs 1\n";
+const LINES: &[u8] =
+    b"chunks 4 segments 8 accesses 3\nrace 00001000 1.0.0 10 1.2.0 30\nrace 0000100a 1.0.0 10 1.1.0 20\npairs 2\n";
 
-const RACE_FREE: &[u8] = b"chunks 3 segments 6 accesses 2\nrace-free\n";
+const RACE_FREE: &[u8] = b"chunks 4 segments 8 accesses 3\nrace-free\n";
 
-// The lines of the first four indexes, put one after another, and the position after them.
-fn put_lines(races: u32, sides: &Sides) -> ([u8; 96], usize) {
-    let numbers = [number_of(0x100a, 0, 1)];
+// The lines from the first index to one past the last, put one after another, and the position after them.
+fn put_lines(numbers: &[u64], races: u32, sides: &Sides) -> ([u8; 128], usize) {
     let listing = Listing {
         totals: Totals {
-            chunks: 3,
-            segments: 6,
-            accesses: 2,
+            chunks: 4,
+            segments: 8,
+            accesses: 3,
             races,
         },
         names: &NAMES,
-        numbers: &numbers,
+        numbers,
     };
-    let mut buffer = [0u8; 96];
+    let mut buffer = [0u8; 128];
     let mut size = 0;
-    for index in 0..4 {
+    for index in 0..5 {
         match listing.put_line(sides, index, &mut buffer, size) {
             Ok(next) => size = next,
             Err(_) => break,
@@ -51,13 +54,15 @@ fn other_texts() -> Sides {
     };
     sides.push(other, 65535);
     sides.push(other, 65535);
+    sides.push(other, 65535);
     sides
 }
 
 #[test]
-fn lines_of_a_race(rt: HostRuntime) {
+fn lines_of_races(rt: HostRuntime) {
+    let numbers = [number_of(0x1000, 0, 2), number_of(0x100a, 0, 1)];
     for sides in [Sides::new(), other_texts()] {
-        let (lines, size) = put_lines(1, &sides);
+        let (lines, size) = put_lines(&numbers, 2, &sides);
         assert_eq!(rt; lines.get(..size), Some(LINES));
     }
 }
@@ -65,7 +70,7 @@ fn lines_of_a_race(rt: HostRuntime) {
 #[test]
 fn lines_without_races(rt: HostRuntime) {
     for sides in [Sides::new(), other_texts()] {
-        let (lines, size) = put_lines(0, &sides);
+        let (lines, size) = put_lines(&[], 0, &sides);
         assert_eq!(rt; lines.get(..size), Some(RACE_FREE));
     }
 }
