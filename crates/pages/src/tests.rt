@@ -19,6 +19,7 @@ const NAMES: [u64; 6] = [
 const LINES: &[u8] =
     b"chunks 4 segments 8 accesses 3\nrace 00001000 1.0.0 10 1.2.0 30\nrace 0000100a 1.0.0 10 1.1.0 20\npairs 2\n";
 
+// If both reads come after their members' barriers.
 const RACE_FREE: &[u8] = b"chunks 4 segments 8 accesses 3\nrace-free\n";
 
 // The lines from the first index to one past the last, put one after another, and the position after them.
