@@ -336,6 +336,7 @@ class Slurm(Scheduled):
         for number in self.runs_of(4):
             os.kill(number, signal.SIGKILL)
         self.wait_until("the second job is requeued", lambda: self.states(job)[2] == "PENDING")
+        time.sleep(2)  # a node refuses a job that starts again in the second in which it was ended: "Job credential revoked"
         self.order("scontrol", "update", f"JobId={job}_2", "StartTime=now")  # else in two minutes
         self.wait_until("the second job judges again", lambda: len(self.runs_of(2)) == 2)
         self.let_go()
