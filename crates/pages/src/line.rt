@@ -51,7 +51,7 @@ impl<'a> Listing<'a> {
         put_race(race_in(self.names, number), buffer, position)
     }
 
-    // Puts the line of an index at a position of the buffer; behind the last line, nothing. The line of a race has the texts that are made.
+    // Puts the line of an index at a position of the buffer; after the last line, nothing. A race's line is put together from the texts that are made.
     pub(crate) fn put_line_with(
         self,
         sides: &Sides,
@@ -82,8 +82,8 @@ impl<'a> Listing<'a> {
         Ok(position)
     }
 
-    // The same for any texts: a caller in another crate need not know that they are those of the names, and none of them is read. Stays with five
-    // parameters: callers in other crates may write them.
+    // The same whatever the texts are, for callers in other crates: none of them is read. Stays with five parameters: such callers may write them (DECISIONS
+    // 145).
     pub fn put_line(
         self,
         sides: &Sides,
